@@ -1,0 +1,15 @@
+//! Containers that every crate shares: a list and a box that contracts see as plain data, so that a
+//! tree of them is plain data too and a copy equals what it copies.
+#![tactic(auto)]
+
+mod boxed;
+mod seq;
+
+pub use boxed::Boxed;
+pub use seq::Seq;
+
+/// Want of memory: the one answer whose cause nothing states.
+pub type NoMemory = std::alloc::AllocError;
+
+/// A list of bytes: a text of a book, a name, what is printed.
+pub type Bytes = Seq<u8>;

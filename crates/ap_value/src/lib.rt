@@ -1,0 +1,10 @@
+//! The values of the universe: integers, characters of code 0 to 255, strings, symbols and conses,
+//! with their equality, their counts and their copies. What they mean is ACL2's, on this fragment.
+#![tactic(auto)]
+
+mod symbol;
+mod value;
+
+pub use ap_list::{Boxed, Bytes, NoMemory, Seq};
+pub use symbol::{BookName, Symbol, copy_bytes, copy_symbol, same_bytes, same_symbol};
+pub use value::{Value, acl2_count, copy, nodes, same};

@@ -1,0 +1,57 @@
+ghost use Rattle.std.specs.Prelude.{◌≡◌, ◌<◌, ◌↔◌, ℕ, IsTrue, IfOk, slice_index};
+
+use ap_list::{Bytes, NoMemory};
+use std::alloc::Global;
+
+/// A symbol of the package `KEYWORD`, or else of `ACL2`, by its name as it is read: `car` has the name
+/// `CAR`. The two packages are those of the manual's topic `packages` that this fragment has.
+#[derive(Debug, Drop)]
+pub struct Symbol {
+    pub keyword: bool,
+    pub name: Bytes,
+}
+
+/// The name of a book as the command's words have it, without `.lisp`.
+#[derive(Debug, Drop)]
+pub struct BookName(pub Bytes);
+
+/// The bytes of a list, each below 256.
+fn slice_of(bytes: &Bytes) -> &[u8]
+    ensures value { result.now ≡ bytes.now }
+    ensures small { (i : ℕ) → slice_index bytes.now i < 256 }
+{
+    let slice = bytes.as_slice();
+    slice
+}
+
+/// Whether two texts have the same bytes. Takes no memory.
+pub fn same_bytes(a: &Bytes, b: &Bytes) -> bool
+    ensures { IsTrue result ↔ (a.now ≡ b.now) }
+{
+    a.as_slice() == b.as_slice()
+}
+
+/// A copy of a text.
+pub fn copy_bytes(alloc: Global, bytes: &Bytes) -> Result<Bytes, NoMemory>
+    ensures { IfOk result (λ copy. copy ≡ bytes.now) }
+{
+    Bytes::from_slice(alloc, bytes.as_slice())
+}
+
+/// Whether two symbols are one. Takes no memory.
+pub fn same_symbol(a: &Symbol, b: &Symbol) -> bool
+    ensures { IsTrue result ↔ (a.now ≡ b.now) }
+{
+    a.keyword == b.keyword && same_bytes(&a.name, &b.name)
+}
+
+/// A copy of a symbol.
+pub fn copy_symbol(alloc: Global, symbol: &Symbol) -> Result<Symbol, NoMemory>
+    ensures { IfOk result (λ copy. copy ≡ symbol.now) }
+{
+    let name = copy_bytes(alloc, &symbol.name)?;
+    Ok(Symbol {
+        keyword: symbol.keyword,
+        name,
+    })
+}
