@@ -62,3 +62,18 @@ int_eq _ _ = false
 -- the symbol of package ACL2 with this name
 abbrev pub acl2 : List ℕ → Symbol
 acl2 name = record { keyword = false; name = name }
+
+-- two bytes, and two strings of bytes, are one
+abbrev pub string_eq : List Byte → List Byte → Bool
+string_eq [] [] = true
+string_eq (x ∷ xs) (y ∷ ys) = nat_eq x.code y.code && string_eq xs ys
+string_eq _ _ = false
+
+-- two values are one: ACL2's `equal`
+unfoldable pub value_eq : V → V → Bool
+value_eq (int m) (int n) = int_eq m n
+value_eq (chr c) (chr d) = nat_eq c.code d.code
+value_eq (str s) (str t) = string_eq s t
+value_eq (sym s) (sym t) = symbol_eq s t
+value_eq (cons a b) (cons c d) = value_eq a c && value_eq b d
+value_eq _ _ = false

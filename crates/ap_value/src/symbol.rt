@@ -1,4 +1,5 @@
-ghost use Rattle.std.specs.Prelude.{◌≡◌, ◌<◌, ◌↔◌, ℕ, IsTrue, IfOk, slice_index};
+ghost use Rattle.std.specs.Prelude.{◌≡◌, ◌<◌, ◌↔◌, ℕ, IsTrue, IfOk, slice_index, map};
+ghost use Rattle.ap_value.specs.Values.{byte_of};
 
 use ap_list::{Bytes, NoMemory};
 use std::alloc::Global;
@@ -24,11 +25,20 @@ fn slice_of(bytes: &Bytes) -> &[u8]
     slice
 }
 
+/// Whether two characters have one code.
+pub(crate) fn same_code(a: u8, b: u8) -> bool
+    ensures same { IsTrue result ↔ (a ≡ b) }
+    ensures meant { IsTrue result ↔ (byte_of a ≡ byte_of b) }
+{
+    a == b
+}
+
 /// Whether two texts have the same bytes. Takes no memory.
 pub fn same_bytes(a: &Bytes, b: &Bytes) -> bool
-    ensures { IsTrue result ↔ (a.now ≡ b.now) }
+    ensures same { IsTrue result ↔ (a.now ≡ b.now) }
+    ensures meant { IsTrue result ↔ (map byte_of a.now ≡ map byte_of b.now) }
 {
-    a.as_slice() == b.as_slice()
+    slice_of(a) == slice_of(b)
 }
 
 /// A copy of a text.

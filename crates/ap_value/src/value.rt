@@ -2,7 +2,7 @@ ghost use Rattle.std.specs.Prelude.{◌≡◌, ◌+◌, ◌-◌, ◌^◌, ◌<�
 ghost use Rattle.ap_value.specs.Values.{val_of};
 ghost use Rattle.ap_value.specs.Counts.{node_count, acl2_count_of};
 
-use crate::symbol::{Symbol, copy_bytes, copy_symbol, same_bytes, same_symbol};
+use crate::symbol::{Symbol, copy_bytes, copy_symbol, same_bytes, same_code, same_symbol};
 use ap_list::{Boxed, Bytes, NoMemory};
 use std::alloc::Global;
 
@@ -20,10 +20,11 @@ pub enum Value {
 /// Whether two values are one: ACL2's `equal`. Takes no memory.
 pub fn same(a: &Value, b: &Value) -> bool
     ensures equal { IsTrue result ↔ (a.now ≡ b.now) }
+    ensures meant { IsTrue result ↔ (val_of a.now ≡ val_of b.now) }
 {
     match (a, b) {
         (Value::Int(x), Value::Int(y)) => *x == *y,
-        (Value::Chr(x), Value::Chr(y)) => *x == *y,
+        (Value::Chr(x), Value::Chr(y)) => same_code(*x, *y),
         (Value::Str(x), Value::Str(y)) => same_bytes(x, y),
         (Value::Sym(x), Value::Sym(y)) => same_symbol(x, y),
         (Value::Cons(x, xs), Value::Cons(y, ys)) => same(x.get(), y.get())

@@ -1,0 +1,10 @@
+//! Terms of ACL2 in translated form: variables, quoted constants and calls; clauses, substitutions and
+//! the count of steps that a clause may spend.
+#![tactic(auto)]
+
+mod steps;
+mod term;
+
+pub use ap_value::{Boxed, Bytes, NoMemory, Seq, Symbol, Value};
+pub use steps::{Spent, Steps};
+pub use term::{Clause, Subst, Term, copy_symbols, copy_term, copy_terms, same_term, size};
