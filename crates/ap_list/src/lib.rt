@@ -3,6 +3,7 @@
 #![tactic(auto)]
 
 mod boxed;
+mod compared;
 mod seq;
 
 pub use boxed::Boxed;

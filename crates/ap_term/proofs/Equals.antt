@@ -1,5 +1,5 @@
 -- The test of equality on terms says what it says.
-use Rattle.std.proofs.Common.{◌≡◌, Bool, true, false, ◌&&◌, refl, ap, ◌∙◌}
+use Rattle.std.proofs.Common.{◌≡◌, true, refl, ap, ◌∙◌}
 use Rattle.std.proofs.lemmas.Bool.{eqb-true, eq-eqb}
 use base.Stored.{Gv, gnil, gnum, gcons}
 use Rattle.ap_value.proofs.Equals.{both, and_true}

@@ -1,9 +1,9 @@
 -- Induction on terms, and what a fold gives at each kind of term.
-use Rattle.std.proofs.Common.{◌≡◌, List, [], ◌∷◌, map, refl, sym, ap, ◌∙◌, subst}
+use Rattle.std.proofs.Common.{◌≡◌, List, [], ◌∷◌, map, sym, ap, ◌∙◌, subst}
 use Rattle.ap_list.specs.Lists.{Each}
 use Rattle.ap_value.specs.declared.symbol.Symbol.{Symbol}
 use Rattle.ap_value.specs.declared.value.Value.{Value}
-use Rattle.ap_term.specs.declared.term.Term.{Term, fold-Term, fold-roll-Term, para-Term, para-roll-Term, ind-Term, roll-Term, out-Term, map-Term, Var, Quote, Call}
+use Rattle.ap_term.specs.declared.term.Term.{Term, fold-Term, fold-roll-Term, para-Term, para-roll-Term, ind-Term, roll-Term, map-Term, Var, Quote, Call}
 use Rattle.ap_term.specs.declared.term.Term.TheOpen.{Term-F}
 use Rattle.ap_term.specs.declared.term.Term.TheVariants.{rolls-Var, rolls-Quote, rolls-Call}
 

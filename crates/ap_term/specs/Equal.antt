@@ -1,8 +1,6 @@
 -- Equality as a test that computes, for definitions that choose by it.
-use Rattle.std.specs.Prelude.{ℕ, Bool, true, false, ◌&&◌, nat_eq}
+use Rattle.std.specs.Prelude.{Bool, true, false, ◌&&◌, nat_eq}
 use base.Stored.{Gv, gnil, gnum, gcons}
-use Rattle.ap_value.specs.declared.value.Value.{Value}
-use Rattle.ap_value.specs.contracts.value.Value as value
 use Rattle.ap_term.specs.declared.term.Term.{Term}
 use Rattle.ap_term.specs.contracts.term.Term as term
 

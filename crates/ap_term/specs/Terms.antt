@@ -1,8 +1,7 @@
 -- Words on terms, each a fold: one line for a variable, a constant and a call.
-use Rattle.std.specs.Prelude.{ℕ, ◌+◌, Bool, cond, List, [], ◌∷◌, ◌++◌, map, unwrap_or}
+use Rattle.std.specs.Prelude.{ℕ, ◌+◌, cond, List, [], ◌∷◌, ◌++◌, unwrap_or}
 use Rattle.ap_list.specs.Lists.{sum_of, in_turn, is_among, lookup_by}
 use Rattle.ap_value.specs.declared.symbol.Symbol.{Symbol}
-use Rattle.ap_value.specs.declared.value.Value.{Value}
 use Rattle.ap_value.specs.Values.{symbol_eq}
 use Rattle.ap_value.specs.Counts.{node_count}
 use Rattle.ap_term.specs.declared.term.Term.{Term, fold-Term, Var, Quote, Call}

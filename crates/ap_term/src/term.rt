@@ -29,7 +29,8 @@ pub fn same_term(a: &Term, b: &Term) -> bool
     match (a, b) {
         (Term::Var(x), Term::Var(y)) => same_symbol(x, y),
         (Term::Quote(v), Term::Quote(w)) => same(v, w),
-        (Term::Call(f, xs), Term::Call(g, ys)) => same_symbol(f, g) && same_terms(xs.as_slice(), ys.as_slice()),
+        (Term::Call(f, xs), Term::Call(g, ys)) => same_symbol(f, g)
+            && same_terms(xs.as_slice(), ys.as_slice()),
         _ => false,
     }
 }
@@ -57,7 +58,10 @@ pub fn copy_term(alloc: Global, t: &Term) -> Result<Term, NoMemory>
     match t {
         Term::Var(x) => Ok(Term::Var(copy_symbol(alloc, x)?)),
         Term::Quote(v) => Ok(Term::Quote(copy(alloc, v)?)),
-        Term::Call(f, xs) => Ok(Term::Call(copy_symbol(alloc, f)?, copy_terms(alloc, xs.as_slice())?)),
+        Term::Call(f, xs) => Ok(Term::Call(
+            copy_symbol(alloc, f)?,
+            copy_terms(alloc, xs.as_slice())?,
+        )),
     }
 }
 

@@ -72,7 +72,9 @@ unfolding value_eq
 value_eq-true (int m) (int n) h = ap int (int_eq-true m n h)
 value_eq-true (chr c) (chr d) h = ap chr (same_byte c d (eqb-true c.code d.code h))
 value_eq-true (str s) (str t) h = ap str (string_eq-true s t h)
-value_eq-true (symbol s) (symbol t) h = ap symbol (symbol_eq-true s t h)
+value_eq-true (symbol j s) (symbol k t) h =
+    let p = both (bool_eq j k) (string_eq s t) h in
+    ap (λ b. symbol b s) (bool_eq-true j k p.0) ∙ ap (λ n. symbol k n) (string_eq-true s t p.1)
 value_eq-true (cons a b) (cons c d) h =
     let p = both (value_eq a c) (value_eq b d) h in
     ap (λ x. cons x b) (value_eq-true a c p.0) ∙ ap (λ y. cons c y) (value_eq-true b d p.1)
@@ -83,5 +85,5 @@ unfolding value_eq
 value_eq-same (int n) = int_eq-same n
 value_eq-same (chr c) = eq-eqb c.code c.code refl
 value_eq-same (str s) = string_eq-same s
-value_eq-same (symbol s) = symbol_eq-same s
+value_eq-same (symbol k s) = and_true (bool_eq k k) (string_eq s s) (bool_eq-same k) (string_eq-same s)
 value_eq-same (cons a b) = and_true (value_eq a a) (value_eq b b) (value_eq-same a) (value_eq-same b)

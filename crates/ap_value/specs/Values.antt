@@ -26,12 +26,12 @@ pub record Byte : Type 0 where
   pub code : ℕ
   pub small : code < 256
 
--- an integer, a character, a string, a symbol, or a cons
+-- an integer, a character, a string, a symbol by its package (whether KEYWORD) and its name, or a cons
 pub data V : Type 0 where
   int : ℤ → V
   chr : Byte → V
   str : List Byte → V
-  sym : Symbol → V
+  sym : Bool → List Byte → V
   cons : V → V → V
 
 -- the byte of a number
@@ -43,7 +43,7 @@ abbrev pub val_step : Value-F V → V
 val_step (Value-F.Int n) = int n
 val_step (Value-F.Chr c) = chr (byte_of c)
 val_step (Value-F.Str s) = str (map byte_of s)
-val_step (Value-F.Sym s) = sym s
+val_step (Value-F.Sym s) = sym s.keyword (map byte_of s.name)
 val_step (Value-F.Cons a b) = cons a b
 
 -- what a value that a program holds means
@@ -74,6 +74,6 @@ unfoldable pub value_eq : V → V → Bool
 value_eq (int m) (int n) = int_eq m n
 value_eq (chr c) (chr d) = nat_eq c.code d.code
 value_eq (str s) (str t) = string_eq s t
-value_eq (sym s) (sym t) = symbol_eq s t
+value_eq (sym j s) (sym k t) = bool_eq j k && string_eq s t
 value_eq (cons a b) (cons c d) = value_eq a c && value_eq b d
 value_eq _ _ = false

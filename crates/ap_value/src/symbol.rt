@@ -6,7 +6,7 @@ use std::alloc::Global;
 
 /// A symbol of the package `KEYWORD`, or else of `ACL2`, by its name as it is read: `car` has the name
 /// `CAR`. The two packages are those of the manual's topic `packages` that this fragment has.
-#[derive(Debug, Drop)]
+#[derive(Debug, Drop, PartialEq, Eq, Hash)]
 pub struct Symbol {
     pub keyword: bool,
     pub name: Bytes,
@@ -50,7 +50,8 @@ pub fn copy_bytes(alloc: Global, bytes: &Bytes) -> Result<Bytes, NoMemory>
 
 /// Whether two symbols are one. Takes no memory.
 pub fn same_symbol(a: &Symbol, b: &Symbol) -> bool
-    ensures { IsTrue result ↔ (a.now ≡ b.now) }
+    ensures same { IsTrue result ↔ (a.now ≡ b.now) }
+    ensures meant { IsTrue result ↔ ((a.now.keyword ≡ b.now.keyword) × (map byte_of a.now.name ≡ map byte_of b.now.name)) }
 {
     a.keyword == b.keyword && same_bytes(&a.name, &b.name)
 }

@@ -1,4 +1,4 @@
-use Rattle.std.proofs.Common.{◌≡◌, take, length}
+use Rattle.std.proofs.Common.{◌≡◌, take}
 use Rattle.ap_term.proofs.term.+sameness.Given as goal
 
 -- the terms so far are the same
