@@ -1,12 +1,7 @@
 -- The two counts of a value.
-use Rattle.std.specs.Prelude.{ℕ, ◌+◌, ℤ, pos, negsuc, length}
+use Rattle.std.specs.Prelude.{ℕ, ◌+◌, nat_abs, length}
 use Rattle.ap_value.specs.declared.value.Value.{Value, fold-Value}
 use Rattle.ap_value.specs.declared.value.Value.TheOpen.{Value-F}
-
--- how far an integer is from 0
-abbrev pub magnitude : ℤ → ℕ
-magnitude (pos n) = n
-magnitude (negsuc n) = n + 1
 
 -- 1 for an integer, a character, a symbol; 1 and the length for a string; 1 and both parts for a cons
 abbrev pub node_step : Value-F ℕ → ℕ
@@ -21,7 +16,7 @@ node_count = fold-Value ℕ node_step
 
 -- ACL2's count, by which recursions are shown to end
 abbrev pub count_step : Value-F ℕ → ℕ
-count_step (Value-F.Int n) = magnitude n
+count_step (Value-F.Int n) = nat_abs n
 count_step (Value-F.Chr c) = 0
 count_step (Value-F.Str s) = length s
 count_step (Value-F.Sym s) = 0

@@ -1,0 +1,60 @@
+-- What contracts see of a world, and what is looked up in it.
+use Rattle.std.specs.Prelude.{Bool, true, false, cond, ◌||◌, List, [], ◌∷◌, Option, Some, None, is_some}
+use Rattle.ap_value.specs.declared.symbol.Symbol.{Symbol}
+use Rattle.ap_value.specs.declared.value.Value.{Value}
+use Rattle.ap_value.specs.Values.{symbol_eq}
+use Rattle.ap_world.specs.declared.entry.Function.{Function}
+use Rattle.ap_world.specs.declared.entry.Theorem.{Theorem}
+use Rattle.ap_world.specs.declared.entry.Entry.{Entry}
+use Rattle.ap_world.specs.declared.entry.Entry.TheVariants as entry
+use Rattle.ap_world.specs.declared.theory.Theory.{Theory}
+use Rattle.ap_world.specs.Meaning.{Defs}
+use Rattle.ap_world.specs.Primitives.{prim_of}
+
+-- the entries, oldest first, and the current theory
+pub record Shown : Type 0 where
+  pub entries : List Entry
+  pub theory : Theory
+
+-- the name that an entry takes
+abbrev pub name_in : Entry → Symbol
+name_in (entry.Function f) = f.name
+name_in (entry.Theorem u) = u.name
+name_in (entry.Constant c v) = c
+
+-- the first entry of a name
+abbrev pub entry_of : List Entry → Symbol → Option Entry
+entry_of [] x = None
+entry_of (y ∷ ys) x = cond (symbol_eq x (name_in y)) (Some y) (entry_of ys x)
+
+-- the function, the theorem, the constant's value, where the entry is one
+abbrev pub as_function : Option Entry → Option Function
+as_function (Some (entry.Function f)) = Some f
+as_function o = None
+
+abbrev pub as_theorem : Option Entry → Option Theorem
+as_theorem (Some (entry.Theorem u)) = Some u
+as_theorem o = None
+
+abbrev pub as_constant : Option Entry → Option Value
+as_constant (Some (entry.Constant c v)) = Some v
+as_constant o = None
+
+-- what each name is defined as
+abbrev pub function_of : List Entry → Defs
+function_of W f = as_function (entry_of W f)
+
+abbrev pub theorem_of : List Entry → Symbol → Option Theorem
+theorem_of W x = as_theorem (entry_of W x)
+
+abbrev pub constant_of : List Entry → Symbol → Option Value
+constant_of W x = as_constant (entry_of W x)
+
+-- a name is taken by an entry, or by a primitive
+abbrev pub has_name : List Entry → Symbol → Bool
+has_name W x = is_some (prim_of x) || is_some (entry_of W x)
+
+-- the names of the entries are distinct, and no primitive's
+abbrev pub are_distinct : List Entry → Bool
+are_distinct [] = true
+are_distinct (y ∷ ys) = cond (has_name ys (name_in y)) false (are_distinct ys)

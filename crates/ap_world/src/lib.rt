@@ -1,0 +1,12 @@
+//! The world: the functions, theorems and constants that a book has admitted so far, and the current
+//! theory. Its type keeps that the world is sound.
+#![tactic(auto)]
+
+mod entry;
+mod theory;
+
+pub use ap_list::{Bytes, NoMemory, Seq};
+pub use ap_term::{Clause, Subst, Term};
+pub use ap_value::{Symbol, Value};
+pub use entry::{Case, Entry, EntryRef, Function, Mask, Measure, RuleClass, Theorem};
+pub use theory::{Rune, Theory};
