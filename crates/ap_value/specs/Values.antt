@@ -1,7 +1,9 @@
 -- The values of the universe, over which assignments range. A byte is bounded here by its type, so
 -- that no character past 255 is a value; the program's `Value` is what a book can write.
-use Rattle.std.specs.Prelude.{ℕ, ◌<◌, ◌%◌, Bool, true, false, ◌&&◌, not, ℤ, pos, negsuc, List, [], ◌∷◌, map, nat_eq}
+use Rattle.std.specs.Prelude.{ℕ, ◌<◌, ◌%◌, Bool, true, false, ◌&&◌, ℤ, pos, negsuc, List, [], ◌∷◌, map, nat_eq}
 use Rattle.std.proofs.Common.{arith}
+use Rattle.std.proofs.Math.Bool.{beq}
+use Rattle.std.specs.Cmp.Lexicographic.{pointwise}
 use Rattle.ap_value.specs.declared.symbol.Symbol.{Symbol}
 use Rattle.ap_value.specs.declared.value.Value.{Value, fold-Value}
 use Rattle.ap_value.specs.declared.value.Value.TheOpen.{Value-F}
@@ -12,14 +14,10 @@ byte_small n = omega arith
 
 -- the same truth, and the same bytes
 abbrev pub bool_eq : Bool → Bool → Bool
-bool_eq true b = b
-bool_eq false b = not b
+bool_eq = beq
 
 abbrev pub bytes_eq : List ℕ → List ℕ → Bool
-bytes_eq [] [] = true
-bytes_eq (x ∷ xs) (y ∷ ys) = nat_eq x y && bytes_eq xs ys
-bytes_eq [] (y ∷ ys) = false
-bytes_eq (x ∷ xs) [] = false
+bytes_eq = pointwise nat_eq
 
 -- a character's code
 pub record Byte : Type 0 where

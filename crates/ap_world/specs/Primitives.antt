@@ -4,6 +4,8 @@ use Rattle.std.specs.Prelude.{ℕ, Bool, true, false, cond, ℤ, pos, ◌+ℤ◌
 use Rattle.ap_list.specs.Lists.{lookup_by}
 use Rattle.ap_value.specs.declared.symbol.Symbol.{Symbol}
 use Rattle.ap_value.specs.Values.{Byte, byte_of, V, int, chr, str, sym, cons, symbol_eq, value_eq}
+pub use Rattle.ap_world.specs.declared.primitive.Primitive.{Primitive as Prim}
+pub use Rattle.ap_world.specs.declared.primitive.Primitive.TheVariants.{If, Equal, Consp, Integerp, Symbolp, Stringp, Characterp, Cons, Car, Cdr, Plus, Times, Minus, Less, CharCode, CodeChar, SymbolName, Coerce}
 use Rattle.ap_world.specs.Names.{nil_name, t_name, list_name, if_name, equal_name, consp_name, integerp_name, symbolp_name, stringp_name, characterp_name, cons_name, car_name, cdr_name, plus_name, times_name, minus_name, less_name, char_code_name, code_char_name, symbol_name_name, coerce_name}
 
 -- the value of a symbol
@@ -21,27 +23,6 @@ t = symbol_value t_name
 abbrev pub truth : Bool → V
 truth true = t
 truth false = nil
-
--- which of the primitives
-pub data Prim : Type 0 where
-  If : Prim
-  Equal : Prim
-  Consp : Prim
-  Integerp : Prim
-  Symbolp : Prim
-  Stringp : Prim
-  Characterp : Prim
-  Cons : Prim
-  Car : Prim
-  Cdr : Prim
-  Plus : Prim
-  Times : Prim
-  Minus : Prim
-  Less : Prim
-  CharCode : Prim
-  CodeChar : Prim
-  SymbolName : Prim
-  Coerce : Prim
 
 -- the primitives by their names
 unfoldable pub primitives : List (Symbol × Prim)

@@ -3,10 +3,12 @@
 #![tactic(auto)]
 
 mod entry;
+mod primitive;
 mod theory;
 
 pub use ap_list::{Bytes, NoMemory, Seq};
 pub use ap_term::{Clause, Subst, Term};
 pub use ap_value::{Symbol, Value};
 pub use entry::{Case, Entry, EntryRef, Function, Mask, Measure, RuleClass, Theorem};
+pub use primitive::{Primitive, primitive_of};
 pub use theory::{Rune, Theory};

@@ -1,0 +1,78 @@
+ghost use Rattle.std.specs.Prelude.{◌≡◌, map};
+ghost use Rattle.ap_list.specs.Lists.{lookup_by};
+ghost use Rattle.ap_value.specs.Values.{symbol_eq, acl2};
+ghost use Rattle.ap_world.specs.Primitives.{prim_of};
+
+use ap_value::Symbol;
+
+/// The primitives: the functions that no definition gives. Their values are those of the manual's topics
+/// of these names.
+#[derive(Clone, Copy, Debug)]
+pub enum Primitive {
+    If,
+    Equal,
+    Consp,
+    Integerp,
+    Symbolp,
+    Stringp,
+    Characterp,
+    Cons,
+    Car,
+    Cdr,
+    Plus,
+    Times,
+    Minus,
+    Less,
+    CharCode,
+    CodeChar,
+    SymbolName,
+    Coerce,
+}
+
+/// Whether a symbol is the one of package `ACL2` with this name.
+fn is_named(symbol: &Symbol, name: &[u8]) -> bool
+    ensures { result ≡ symbol_eq symbol.now (acl2 name.now) }
+{
+    !symbol.keyword && symbol.name.as_slice() == name
+}
+
+/// What stands beside the name in a table.
+fn find_named(symbol: &Symbol, table: &[(&'static [u8], Primitive)]) -> Option<Primitive>
+    ensures { result ≡ lookup_by symbol_eq (map (λ p. (acl2 p.0.now, p.1)) table.now) symbol.now }
+{
+    for (name, primitive) in table {
+        if is_named(symbol, name) {
+            return Some(*primitive);
+        }
+    }
+    None
+}
+
+/// The primitive of a name, if it has one. Takes no memory.
+pub fn primitive_of(name: &Symbol) -> Option<Primitive>
+    ensures { result ≡ prim_of name.now }
+{
+    find_named(
+        name,
+        &[
+            (b"IF", Primitive::If),
+            (b"EQUAL", Primitive::Equal),
+            (b"CONSP", Primitive::Consp),
+            (b"INTEGERP", Primitive::Integerp),
+            (b"SYMBOLP", Primitive::Symbolp),
+            (b"STRINGP", Primitive::Stringp),
+            (b"CHARACTERP", Primitive::Characterp),
+            (b"CONS", Primitive::Cons),
+            (b"CAR", Primitive::Car),
+            (b"CDR", Primitive::Cdr),
+            (b"BINARY-+", Primitive::Plus),
+            (b"BINARY-*", Primitive::Times),
+            (b"UNARY--", Primitive::Minus),
+            (b"<", Primitive::Less),
+            (b"CHAR-CODE", Primitive::CharCode),
+            (b"CODE-CHAR", Primitive::CodeChar),
+            (b"SYMBOL-NAME", Primitive::SymbolName),
+            (b"COERCE", Primitive::Coerce),
+        ],
+    )
+}
