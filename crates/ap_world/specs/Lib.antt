@@ -1,5 +1,6 @@
 pub mod Names
 pub mod Primitives
+pub mod Kept
 pub mod Meaning
 pub mod Types
 pub mod Clauses

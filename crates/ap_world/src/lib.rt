@@ -3,8 +3,10 @@
 #![tactic(auto)]
 
 mod entry;
+mod names;
 mod primitive;
 mod theory;
+mod world;
 
 pub use ap_list::{Bytes, NoMemory, Seq};
 pub use ap_term::{Clause, Subst, Term};
@@ -12,3 +14,4 @@ pub use ap_value::{Symbol, Value};
 pub use entry::{Case, Entry, EntryRef, Function, Mask, Measure, RuleClass, Theorem};
 pub use primitive::{Primitive, primitive_of};
 pub use theory::{Rune, Theory};
+pub use world::World;
