@@ -1,6 +1,9 @@
-use ap_list::Seq;
-use ap_term::Term;
-use ap_value::{Symbol, Value};
+ghost use Rattle.std.specs.Prelude.{◌≡◌, IfOk};
+
+use ap_list::{NoMemory, Seq};
+use ap_term::{Term, copy_symbols, copy_term, copy_terms};
+use ap_value::{Symbol, Value, copy, copy_symbol};
+use std::alloc::Global;
 
 /// A set of the ten basic types of a value. Bit k stands for the k-th, from 0: zero, positive, negative,
 /// `nil`, `t`, another symbol, a proper cons, an improper cons, a string, a character.
@@ -63,4 +66,109 @@ pub enum EntryRef<'a> {
     Function(&'a Function),
     Theorem(&'a Theorem),
     Constant(&'a Symbol, &'a Value),
+}
+
+impl Entry {
+    ghost use Rattle.ap_world.specs.World.{name_in};
+
+    /// The name that the entry takes.
+    pub fn name(&self) -> &Symbol
+        ensures { result.now ≡ name_in self.now }
+    {
+        match self {
+            Entry::Function(function) => &function.name,
+            Entry::Theorem(theorem) => &theorem.name,
+            Entry::Constant(name, _) => name,
+        }
+    }
+}
+
+/// A copy of a list of lists of terms.
+fn copy_calls(alloc: Global, calls: &[Seq<Term>]) -> Result<Seq<Seq<Term>>, NoMemory>
+    ensures { IfOk result (λ r. r ≡ calls.now) }
+{
+    let mut out = Seq::new(alloc);
+    for arguments in calls {
+        out.push(copy_terms(alloc, arguments.as_slice())?)?;
+    }
+    Ok(out)
+}
+
+/// A copy of a list of cases.
+pub fn copy_cases(alloc: Global, cases: &[Case]) -> Result<Seq<Case>, NoMemory>
+    ensures { IfOk result (λ r. r ≡ cases.now) }
+{
+    let mut out = Seq::new(alloc);
+    for case in cases {
+        let tests = copy_terms(alloc, case.tests.as_slice())?;
+        let calls = copy_calls(alloc, case.calls.as_slice())?;
+        out.push(Case { tests, calls })?;
+    }
+    Ok(out)
+}
+
+/// A copy of a measure.
+pub fn copy_measure(alloc: Global, measure: &Option<Measure>) -> Result<Option<Measure>, NoMemory>
+    ensures { IfOk result (λ r. r ≡ measure.now) }
+{
+    match measure {
+        None => Ok(None),
+        Some(Measure(components)) => Ok(Some(Measure(copy_terms(alloc, components.as_slice())?))),
+    }
+}
+
+/// A copy of a function.
+pub fn copy_function(alloc: Global, function: &Function) -> Result<Function, NoMemory>
+    ensures { IfOk result (λ r. r ≡ function.now) }
+{
+    let name = copy_symbol(alloc, &function.name)?;
+    let formals = copy_symbols(alloc, function.formals.as_slice())?;
+    let body = copy_term(alloc, &function.body)?;
+    let measure = copy_measure(alloc, &function.measure)?;
+    let cases = copy_cases(alloc, function.cases.as_slice())?;
+    let mask = function.mask;
+    Ok(Function {
+        name,
+        formals,
+        body,
+        measure,
+        cases,
+        mask,
+    })
+}
+
+/// A copy of a theorem.
+pub fn copy_theorem(alloc: Global, theorem: &Theorem) -> Result<Theorem, NoMemory>
+    ensures { IfOk result (λ r. r ≡ theorem.now) }
+{
+    let name = copy_symbol(alloc, &theorem.name)?;
+    let term = copy_term(alloc, &theorem.term)?;
+    let classes = Seq::from_slice(alloc, theorem.classes.as_slice())?;
+    Ok(Theorem {
+        name,
+        term,
+        classes,
+    })
+}
+
+/// A copy of an entry.
+pub fn copy_entry(alloc: Global, entry: &Entry) -> Result<Entry, NoMemory>
+    ensures { IfOk result (λ r. r ≡ entry.now) }
+{
+    match entry {
+        Entry::Function(function) => Ok(Entry::Function(copy_function(alloc, function)?)),
+        Entry::Theorem(theorem) => Ok(Entry::Theorem(copy_theorem(alloc, theorem)?)),
+        Entry::Constant(name, value) => Ok(Entry::Constant(copy_symbol(alloc, name)?, copy(alloc, value)?)),
+    }
+}
+
+/// A copy of a list of entries.
+pub(crate) fn copy_entries(alloc: Global, entries: &[Entry]) -> Result<Seq<Entry>, NoMemory>
+    ensures { IfOk result (λ r. r ≡ entries.now) }
+{
+    let mut out = Seq::new(alloc);
+    for entry in entries {
+        out.push(copy_entry(alloc, entry)?)?;
+    }
+    Ok(out)
 }
