@@ -1,5 +1,5 @@
 -- What contracts see of a world, and what is looked up in it.
-use Rattle.std.specs.Prelude.{Bool, true, false, cond, ◌||◌, List, [], ◌∷◌, Option, Some, None, is_some}
+use Rattle.std.specs.Prelude.{Bool, true, false, cond, ◌||◌, List, [], ◌∷◌, ◌++◌, Option, Some, None, is_some}
 use Rattle.ap_value.specs.declared.symbol.Symbol.{Symbol}
 use Rattle.ap_value.specs.declared.value.Value.{Value}
 use Rattle.ap_value.specs.Values.{symbol_eq}
@@ -7,6 +7,8 @@ use Rattle.ap_world.specs.declared.entry.Function.{Function}
 use Rattle.ap_world.specs.declared.entry.Theorem.{Theorem}
 use Rattle.ap_world.specs.declared.entry.Entry.{Entry}
 use Rattle.ap_world.specs.declared.entry.Entry.TheVariants as entry
+use Rattle.ap_world.specs.declared.entry.EntryRef.{EntryRef}
+use Rattle.ap_world.specs.declared.entry.EntryRef.TheVariants as lent
 use Rattle.ap_world.specs.declared.theory.Theory.{Theory}
 use Rattle.ap_world.specs.Meaning.{Defs}
 use Rattle.ap_world.specs.Primitives.{prim_of}
@@ -58,3 +60,13 @@ has_name W x = is_some (prim_of x) || is_some (entry_of W x)
 abbrev pub are_distinct : List Entry → Bool
 are_distinct [] = true
 are_distinct (y ∷ ys) = cond (has_name ys (name_in y)) false (are_distinct ys)
+
+-- the world with one entry more at its end
+abbrev pub added : Shown → Entry → Shown
+added w y = record w { entries = w.entries ++ y ∷ [] }
+
+-- the entry that is lent
+abbrev pub lent_entry : EntryRef → Entry
+lent_entry (lent.Function f) = entry.Function f.now
+lent_entry (lent.Theorem u) = entry.Theorem u.now
+lent_entry (lent.Constant c v) = entry.Constant c.now v.now

@@ -1,15 +1,34 @@
-ghost use Rattle.std.specs.Prelude.{◌≡◌, [], ◌∷◌, ◌++◌, ◌↔◌, IsTrue, IsErrOf, IfOk, OnOk, OnErr, length, slice_get};
+ghost use Rattle.std.specs.Prelude.{◌≡◌, [], ◌∷◌, ◌++◌, ◌↔◌, IsTrue, IsErrOf, IfOk, OnOk, OnErr, length, slice_get, map, true};
+ghost use Rattle.ap_world.specs.World.{are_distinct, name_in};
 ghost use Rattle.std.specs.Option.{option_copied};
 
-use crate::entry::{Entry, EntryRef, Function, RuleClass, Theorem};
+use crate::entry::{Entry, EntryRef, Function, RuleClass, Theorem, copy_entries};
 use crate::names::NameTable;
 use crate::primitive::primitive_of;
-use crate::theory::{Rune, Theory};
+use crate::theory::{Rune, Theory, copy_theory, is_disabled};
 use ap_list::{NoMemory, Seq};
 use ap_term::Term;
 use ap_value::{Symbol, Value, copy_symbol};
-use std::alloc::Global;
+use std::alloc::{AllocError, Global};
 use std::marker::Model;
+
+/// Why a world takes no entry: its name is one of the world or of a primitive, or memory is wanting.
+#[derive(Clone, Copy, Debug)]
+pub enum AddError {
+    NameTaken,
+    NoMemory,
+}
+
+impl From<AllocError> for AddError {
+    ghost use Rattle.std.specs.Prelude.{◌≡◌};
+    ghost use Rattle.ap_world.specs.declared.world.AddError.TheVariants.{NoMemory};
+
+    ghost from_gives = { λ _ e. e ≡ NoMemory };
+
+    fn from(_error: AllocError) -> AddError {
+        AddError::NoMemory
+    }
+}
 
 /// What a book has admitted so far: functions, theorems and constants in their order, and the current
 /// theory. Contracts see the entries and the theory. Its type keeps that the entries are sound: every
@@ -39,7 +58,11 @@ impl Model for World {
 }
 
 impl World {
-    ghost use Rattle.ap_world.specs.Sound.{Sound};
+    ghost use Rattle.std.specs.Prelude.{Contains, false, nat_eq, IfSome};
+    ghost use Rattle.std.specs.Option.{option_map};
+    ghost use Rattle.ap_world.specs.Meaning.{Valid};
+    ghost use Rattle.ap_world.specs.Sound.{Sound, known};
+    ghost use Rattle.ap_world.specs.World.{entry_of, function_of, theorem_of, constant_of, has_name, name_in, added, lent_entry};
 
     /// The world of no entries, which disables nothing. Takes no memory.
     pub fn bare(alloc: Global) -> World
@@ -61,6 +84,77 @@ impl World {
         let _ = &self.entries;
     }
 
+    /// A copy of the world.
+    pub fn copy_world(&self, alloc: Global) -> Result<World, NoMemory>
+        ensures { IfOk result (λ w. w ≡ self.now) }
+    {
+        let entries = copy_entries(alloc, self.entries.as_slice())?;
+        let names = names_of(alloc, self.entries.as_slice())?;
+        let theory = copy_theory(alloc, &self.theory)?;
+        Ok(World {
+            entries,
+            names,
+            theory,
+        })
+    }
+
+    /// The entry of a name.
+    fn find(&self, name: &Symbol) -> Option<&Entry>
+        ensures { option_copied result ≡ entry_of self.now.entries name.now }
+    {
+        let place = self.names.place_of(name)?;
+        self.entries.get(place)
+    }
+
+    /// The function of a name, or `None` where the world has no such function. Takes no memory.
+    pub fn lookup_fun(&self, name: &Symbol) -> Option<&Function>
+        ensures { option_copied result ≡ function_of self.now.entries name.now }
+    {
+        match self.find(name) {
+            Some(Entry::Function(function)) => Some(function),
+            _ => None,
+        }
+    }
+
+    /// The theorem of a name, or `None` where the world has no such theorem. Takes no memory.
+    pub fn lookup_thm(&self, name: &Symbol) -> Option<&Theorem>
+        ensures { option_copied result ≡ theorem_of self.now.entries name.now }
+    {
+        match self.find(name) {
+            Some(Entry::Theorem(theorem)) => Some(theorem),
+            _ => None,
+        }
+    }
+
+    /// The value of a constant, or `None` where the world has no such constant. Takes no memory.
+    pub fn lookup_const(&self, name: &Symbol) -> Option<&Value>
+        ensures { option_copied result ≡ constant_of self.now.entries name.now }
+    {
+        match self.find(name) {
+            Some(Entry::Constant(_, value)) => Some(value),
+            _ => None,
+        }
+    }
+
+    /// Whether a name is taken, by an entry or by a primitive. Takes no memory.
+    pub fn has(&self, name: &Symbol) -> bool
+        ensures { result ≡ has_name self.now.entries name.now }
+    {
+        primitive_of(name).is_some() || self.find(name).is_some()
+    }
+
+    /// The entry at a place of the list, or `None` past its end. Takes no memory.
+    pub fn entry(&self, place: usize) -> Option<EntryRef<'_>>
+        ensures { option_map lent_entry result ≡ slice_get self.now.entries place }
+    {
+        match self.entries.get(place) {
+            Some(Entry::Function(function)) => Some(EntryRef::Function(function)),
+            Some(Entry::Theorem(theorem)) => Some(EntryRef::Theorem(theorem)),
+            Some(Entry::Constant(name, value)) => Some(EntryRef::Constant(name, value)),
+            None => None,
+        }
+    }
+
     /// The current theory. Takes no memory.
     pub fn theory(&self) -> &Theory
         ensures { result.now ≡ self.now.theory }
@@ -74,4 +168,40 @@ impl World {
     {
         self.theory = theory;
     }
+
+    /// Whether a rune is enabled: the current theory doesn't disable it. Takes no memory.
+    pub fn enabled(&self, rune: &Rune) -> bool
+        ensures { (result ≡ false) ↔ Contains self.now.theory.disabled rune.now }
+    {
+        !is_disabled(self.theory.disabled.as_slice(), rune)
+    }
+
+    /// Adds an entry whose name is free at the end of the list.
+    fn add(&mut self, alloc: Global, entry: Entry) -> Result<(), NoMemory>
+        requires sound { Sound (self.old.entries ++ entry ∷ []) }
+        requires free { has_name self.old.entries (name_in entry) ≡ false }
+        ensures ok { OnOk result (self.new ≡ added self.old entry) }
+        ensures err { OnErr result (self.new ≡ self.old) }
+    {
+        let name = copy_symbol(alloc, entry.name())?;
+        let count = self.entries.len();
+        self.entries.push(entry)?;
+        if let Err(error) = self.names.add(name) {
+            self.entries.truncate(count);
+            return Err(error);
+        }
+        Ok(())
+    }
+}
+
+/// The table of the names of entries whose names are distinct.
+fn names_of(alloc: Global, entries: &[Entry]) -> Result<NameTable, NoMemory>
+    requires { are_distinct entries.now ≡ true }
+    ensures { IfOk result (λ names. names ≡ map name_in entries.now) }
+{
+    let mut names = NameTable::new(alloc);
+    for entry in entries {
+        names.add(copy_symbol(alloc, entry.name())?)?;
+    }
+    Ok(names)
 }
