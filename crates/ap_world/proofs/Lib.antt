@@ -1,1 +1,3 @@
 pub mod Fuel
+pub mod Knowing
+pub mod TotalMeaning
