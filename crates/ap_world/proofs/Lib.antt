@@ -1,3 +1,5 @@
 pub mod Fuel
 pub mod Knowing
 pub mod TotalMeaning
+pub mod Extending
+pub mod Adding
