@@ -3,3 +3,4 @@ pub mod Knowing
 pub mod TotalMeaning
 pub mod Extending
 pub mod Adding
+pub mod Equations
