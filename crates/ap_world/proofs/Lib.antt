@@ -4,3 +4,4 @@ pub mod TotalMeaning
 pub mod Extending
 pub mod Adding
 pub mod Equations
+pub mod Starting

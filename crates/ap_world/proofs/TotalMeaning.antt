@@ -37,8 +37,8 @@ abbrev pub val : Apply → Term → Env → V
 val A = fold-Term (Env → V) (val_step A)
 
 -- the values of terms
-abbrev pub vals : Apply → List Term → Env → List V
-vals A ts e = map (λ m. m e) (map (val A) ts)
+abbrev pub values_of : Apply → List Term → Env → List V
+values_of A ts e = map (λ m. m e) (map (val A) ts)
 
 -- A is what calls of D's functions give
 abbrev pub Models : Defs → Apply → Type 0
@@ -57,7 +57,7 @@ val_var A x e = ap (λ m. m e) (fold_var (val_step A) x)
 pub val_quote : (A : Apply) (q : Value) (e : Env) → val A (Quote q) e ≡ val_of q
 val_quote A q e = ap (λ m. m e) (fold_quote (val_step A) q)
 
-pub val_call : (A : Apply) (f : Symbol) (ts : List Term) (e : Env) → val A (Call f ts) e ≡ head_val A f (prim_of f) (vals A ts e)
+pub val_call : (A : Apply) (f : Symbol) (ts : List Term) (e : Env) → val A (Call f ts) e ≡ head_val A f (prim_of f) (values_of A ts e)
 val_call A f ts e = ap (λ m. m e) (fold_call (val_step A) f ts)
 
 -- a total world has such calls
@@ -147,7 +147,7 @@ full_gives A u e = term_ind (λ u. Gives (meaning (full A) u e) (val A u e)) var
     constant : (q : Value) → Gives (meaning (full A) (Quote q) e) (val A (Quote q) e)
     constant q = λ v h. let p = meaning_quote (full A) q e in let r = val_quote A q e in cc
 
-    args : (ts : List Term) → Each (λ u. Gives (meaning (full A) u e) (val A u e)) ts → GiveEach (map (λ m. m e) (map (meaning (full A)) ts)) (vals A ts e)
+    args : (ts : List Term) → Each (λ u. Gives (meaning (full A) u e) (val A u e)) ts → GiveEach (map (λ m. m e) (map (meaning (full A)) ts)) (values_of A ts e)
     args [] es = tt
     args (t ∷ ts) es = (es.0, args ts es.1)
 
@@ -266,11 +266,11 @@ valued_args D A e (t ∷ ts) es =
     let (n, ps) = valued_args D A e ts es.1 in
     (n + m, (ev-more D n m t e (val A t e) p, subst (λ k. EachValued D A e k ts) (add_comm m n) (valued_more D A e m n ts ps)))
 
-values_are : (D : Defs) (A : Apply) (e : Env) (n : ℕ) (ts : List Term) → EachValued D A e n ts → map (λ m. m e) (map (meaning (calls n D)) ts) ≡ map Some (vals A ts e)
+values_are : (D : Defs) (A : Apply) (e : Env) (n : ℕ) (ts : List Term) → EachValued D A e n ts → map (λ m. m e) (map (meaning (calls n D)) ts) ≡ map Some (values_of A ts e)
 values_are D A e n [] es = refl
 values_are D A e n (t ∷ ts) es = ap (λ o. o ∷ map (λ m. m e) (map (meaning (calls n D)) ts)) es.0 ∙ ap (λ os. Some (val A t e) ∷ os) (values_are D A e n ts es.1)
 
-vals_length : (A : Apply) (ts : List Term) (e : Env) → length (vals A ts e) ≡ length ts
+vals_length : (A : Apply) (ts : List Term) (e : Env) → length (values_of A ts e) ≡ length ts
 vals_length A ts e = length_map (λ m. m e) (map (val A) ts) ∙ length_map (val A) ts
 
 -- a known term has its value
@@ -290,7 +290,7 @@ val_is D A m u u_known e = term_ind Goal variable constant call u u_known
     args [] es ks = tt
     args (t ∷ ts) es ks = (es.0 ks.0, args ts es.1 ks.1)
 
-    ready : (f : Symbol) (ts : List Term) → (k : ℕ) × ((n : ℕ) → head_call (calls (n + k) D) f (prim_of f) (map Some (vals A ts e)) ≡ Some (head_val A f (prim_of f) (vals A ts e)))
+    ready : (f : Symbol) (ts : List Term) → (k : ℕ) × ((n : ℕ) → head_call (calls (n + k) D) f (prim_of f) (map Some (values_of A ts e)) ≡ Some (head_val A f (prim_of f) (values_of A ts e)))
         → (n : ℕ) × EachValued D A e n ts → HasValue D (Call f ts) e (val A (Call f ts) e)
     ready f ts (k, h) (n, es) =
         let es : EachValued D A e (n + k) ts = subst (λ j. EachValued D A e j ts) (add_comm k n) (valued_more D A e k n ts es) in
@@ -298,7 +298,7 @@ val_is D A m u u_known e = term_ind Goal variable constant call u u_known
 
     call : (f : Symbol) (ts : List Term) → Each Goal ts → Goal (Call f ts)
     call f ts es = λ k. ready f ts
-        (head_ready D A m f (prim_of f) (vals A ts e) (rw (vals_length A ts e) (known_head D f ts k)))
+        (head_ready D A m f (prim_of f) (values_of A ts e) (rw (vals_length A ts e) (known_head D f ts k)))
         (valued_args D A e ts (args ts es (each_true (known D) ts (known_args D f ts k))))
 
 -- in a total world each known term has a value
@@ -348,9 +348,9 @@ val_subst A s u e = term_ind (λ u. val A (subst_of s u) e ≡ val A u (replaced
     constant : (q : Value) → val A (subst_of s (Quote q)) e ≡ val A (Quote q) (replaced A s e)
     constant q = ap (λ u. val A u e) (fold_quote (subst_step s) q) ∙ val_quote A q e ∙ sym (val_quote A q (replaced A s e))
 
-    args : (ts : List Term) → Each (λ u. val A (subst_of s u) e ≡ val A u (replaced A s e)) ts → vals A (map (subst_of s) ts) e ≡ vals A ts (replaced A s e)
+    args : (ts : List Term) → Each (λ u. val A (subst_of s u) e ≡ val A u (replaced A s e)) ts → values_of A (map (subst_of s) ts) e ≡ values_of A ts (replaced A s e)
     args [] es = refl
-    args (t ∷ ts) es = ap (λ v. v ∷ vals A (map (subst_of s) ts) e) es.0 ∙ ap (λ vs. val A t (replaced A s e) ∷ vs) (args ts es.1)
+    args (t ∷ ts) es = ap (λ v. v ∷ values_of A (map (subst_of s) ts) e) es.0 ∙ ap (λ vs. val A t (replaced A s e) ∷ vs) (args ts es.1)
 
     call : (f : Symbol) (ts : List Term) → Each (λ u. val A (subst_of s u) e ≡ val A u (replaced A s e)) ts → val A (subst_of s (Call f ts)) e ≡ val A (Call f ts) (replaced A s e)
     call f ts es = ap (λ u. val A u e) (fold_call (subst_step s) f ts) ∙ val_call A f (map (subst_of s) ts) e
