@@ -1,20 +1,19 @@
 -- What may be added to a sound world so that it stays sound.
-use Rattle.std.proofs.Common.{◌≡◌, ℕ, zero, suc, Bool, true, false, cond, nat_eq, IsTrue, IfSome, List, [], ◌∷◌, ◌++◌, map, length, zip, Option, Some, None, is_some, refl, ap, ◌∙◌, sym, subst, eqb-true, eq-eqb}
+use Rattle.std.proofs.Common.{◌≡◌, ℕ, zero, suc, Bool, true, false, cond, nat_eq, IfSome, List, [], ◌∷◌, ◌++◌, map, length, zip, Option, Some, None, is_some, refl, ap, ◌∙◌, sym, subst, eqb-true, eq-eqb}
 use Rattle.ap_list.specs.Lists.{Each, all_true, is_distinct}
 use Rattle.ap_value.specs.declared.symbol.Symbol.{Symbol}
 use Rattle.ap_value.specs.declared.value.Value.{Value}
 use Rattle.ap_value.specs.Values.{V, symbol_eq}
 use Rattle.ap_value.proofs.Equals.{symbol_eq-true, symbol_eq-same}
-use Rattle.ap_term.specs.declared.term.Term.{Term}
 use Rattle.ap_world.specs.declared.entry.Measure.{Measure}
 use Rattle.ap_world.specs.declared.entry.Function.{Function}
 use Rattle.ap_world.specs.declared.entry.Theorem.{Theorem}
 use Rattle.ap_world.specs.declared.entry.Entry.{Entry}
 use Rattle.ap_world.specs.declared.entry.Entry.TheVariants as entry
-use Rattle.ap_world.specs.Meaning.{Defs, Calls, meaning, body_value, calls, HasValue, CallValue, Total, Valid}
+use Rattle.ap_world.specs.Meaning.{Defs, meaning, body_value, calls, HasValue, CallValue, Total, Valid}
 use Rattle.ap_world.specs.Types.{Has}
 use Rattle.ap_world.specs.Recursion.{has_no_call}
-use Rattle.ap_world.specs.Sound.{known, components, speaks_of, given_function, DefinedAlike, IsRecursive, IsPlain, Recurs, GoodFunction, GoodTheorem, Good, Sound}
+use Rattle.ap_world.specs.Sound.{known, components, speaks_of, given_function, DefinedAlike, Recurs, GoodFunction, GoodTheorem, Good, Sound}
 use Rattle.ap_world.specs.World.{name_in, entry_of, as_function, function_of, has_name}
 use Rattle.ap_world.proofs.Fuel.{call_unique, value_unique}
 use Rattle.ap_world.proofs.Knowing.{each_same}
@@ -198,7 +197,7 @@ plain_call W f total fresh body_known vs v l h = go h
         let (w, d) = known_valued D total f.body body_known (zip f.formals vs) in
         let larger = value_extend D E (extends-append W (entry.Function f ∷ [])) f.body (zip f.formals vs) w d in
         subst (λ u. HasValue D f.body (zip f.formals vs) u)
-            (value_unique E f.body (zip f.formals vs) w v larger (n, sym (opened n) ∙ k)) d
+        (value_unique E f.body (zip f.formals vs) w v larger (n, sym (opened n) ∙ k)) d
 
 -- a function without a measure may be added whose body is known without it, where the rest of what is asked of it holds
 pub sound-define : (W : List Entry) (f : Function) → Sound W → has_name W f.name ≡ false

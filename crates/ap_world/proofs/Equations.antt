@@ -1,9 +1,8 @@
 -- What a call of each primitive means, and that it is known: one equation a name. The rulesets compute
 -- written terms: `heads` which primitive a name is, `vals` what a term means, `knowing` that it is known.
-use Rattle.std.proofs.Common.{◌≡◌, ℕ, Bool, true, false, cond, ◌&&◌, ◌+ℤ◌, ◌*ℤ◌, neg_ℤ, int_lt, List, [], ◌∷◌, map, length, Option, Some, None, ◌≢◌, ℤ, true≢false, refl, ap, sym, ◌∙◌}
-use Rattle.ap_list.specs.Lists.{all_true}
+use Rattle.std.proofs.Common.{◌≡◌, ℕ, Bool, true, false, cond, ◌+ℤ◌, ◌*ℤ◌, neg_ℤ, int_lt, List, [], ◌∷◌, map, Some, None, ◌≢◌, ℤ, true≢false, refl, ap, sym, ◌∙◌}
 use Rattle.ap_value.specs.declared.symbol.Symbol.{Symbol}
-use Rattle.ap_value.specs.declared.value.Value.{Value, fold-Value, fold-roll-Value}
+use Rattle.ap_value.specs.declared.value.Value.{Value, fold-roll-Value}
 use Rattle.ap_value.specs.declared.value.Value.TheOpen.{Value-F}
 use Rattle.ap_value.specs.declared.value.Value.TheVariants.{Int, Chr, Str, Sym, Cons as Pair, rolls-Int, rolls-Chr, rolls-Str, rolls-Sym, rolls-Cons}
 use Rattle.ap_value.specs.Values.{V, int, chr, str, cons, byte_of, val_step, val_of, value_eq}
@@ -11,8 +10,7 @@ use Rattle.ap_value.proofs.Equals.{value_eq-true, value_eq-same}
 use Rattle.ap_term.specs.declared.term.Term.{Term, Call}
 use Rattle.ap_world.specs.Names.{nil_name, t_name, list_name, if_name, equal_name, consp_name, integerp_name, symbolp_name, stringp_name, characterp_name, cons_name, car_name, cdr_name, plus_name, times_name, minus_name, less_name, char_code_name, code_char_name, symbol_name_name, coerce_name, not_name, implies_name, natp_name, acl2_count_name}
 use Rattle.ap_world.specs.Primitives.{symbol_value, nil, t, truth, Prim, If, Equal, Consp, Integerp, Symbolp, Stringp, Characterp, Cons, Car, Cdr, Plus, Times, Minus, Less, CharCode, CodeChar, SymbolName, Coerce, primitives, prim_of, is_cons, is_integer, is_symbol, is_string, is_character, car_of, cdr_of, int_of, char_code_of, code_char_of, symbol_name_of, coerce_of}
-use Rattle.ap_world.specs.Meaning.{Env, Defs}
-use Rattle.ap_world.specs.Sound.{is_head, takes, known}
+use Rattle.ap_world.specs.Meaning.{Env}
 use Rattle.ap_world.proofs.Knowing.{known_var, known_quote, known_call}
 use Rattle.ap_world.proofs.TotalMeaning.{Apply, head_val, val, values_of, val_var, val_quote, val_call}
 

@@ -1,11 +1,11 @@
 -- A world that defines all that another does, alike, keeps its values, what is known and what is valid.
-use Rattle.std.proofs.Common.{◌≡◌, ℕ, zero, suc, Bool, true, false, cond, ◌||◌, List, [], ◌∷◌, ◌++◌, map, length, Option, Some, None, is_some, refl, ap, ◌∙◌, sym, inl, inr}
+use Rattle.std.proofs.Common.{◌≡◌, ℕ, zero, suc, Bool, true, false, cond, ◌||◌, List, [], ◌∷◌, ◌++◌, map, length, Option, Some, None, is_some, refl, ap, ◌∙◌, inl, inr}
 use Rattle.ap_list.specs.Lists.{Each, AnyOf, all_true}
 use Rattle.ap_value.specs.declared.symbol.Symbol.{Symbol}
 use Rattle.ap_value.specs.declared.value.Value.{Value}
 use Rattle.ap_value.specs.Values.{V, symbol_eq}
-use Rattle.ap_value.proofs.Equals.{symbol_eq-true, symbol_eq-same}
-use Rattle.ap_term.specs.declared.term.Term.{Term, Var, Quote, Call}
+use Rattle.ap_value.proofs.Equals.{symbol_eq-same}
+use Rattle.ap_term.specs.declared.term.Term.{Term, Call}
 use Rattle.ap_term.proofs.Induction.{term_ind}
 use Rattle.ap_world.specs.declared.entry.Function.{Function}
 use Rattle.ap_world.specs.declared.entry.Theorem.{Theorem}
@@ -15,7 +15,7 @@ use Rattle.ap_world.specs.Primitives.{Prim, prim_of}
 use Rattle.ap_world.specs.Meaning.{Env, Defs, body_value, calls, HasValue, CallValue, Total, IsHeld, Valid}
 use Rattle.ap_world.specs.Sound.{is_head, takes, known}
 use Rattle.ap_world.specs.World.{name_in, entry_of, as_function, function_of, has_name}
-use Rattle.ap_world.proofs.Fuel.{Keeps, CallsKeep, meaning_keep, body_keep, value_unique}
+use Rattle.ap_world.proofs.Fuel.{CallsKeep, meaning_keep, body_keep, value_unique}
 use Rattle.ap_world.proofs.Knowing.{known_var, known_quote, known_head, known_args, known_by, each_true, true_each, each_same}
 use Rattle.ap_world.proofs.TotalMeaning.{known_valued}
 

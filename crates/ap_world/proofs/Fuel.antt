@@ -7,7 +7,7 @@ use Rattle.ap_value.specs.Values.{V, val_of, value_eq}
 use Rattle.ap_term.specs.declared.term.Term.{Term, Var, Quote, Call}
 use Rattle.ap_term.proofs.Induction.{term_ind, fold_var, fold_quote, fold_call}
 use Rattle.ap_world.specs.declared.entry.Function.{Function}
-use Rattle.ap_world.specs.Primitives.{nil, Prim, If, Equal, Consp, Integerp, Symbolp, Stringp, Characterp, Cons, Car, Cdr, Plus, Times, Minus, Less, CharCode, CodeChar, SymbolName, Coerce, prim, prim_of}
+use Rattle.ap_world.specs.Primitives.{nil, Prim, If, prim, prim_of}
 use Rattle.ap_world.specs.Meaning.{Env, value_at, Defs, Calls, if_of, applied, prim_call, head_call, term_step, meaning, body_value, calls, ev, HasValue, CallValue}
 
 -- what the first option gives, the second gives

@@ -1,10 +1,10 @@
 -- The table of names finds the entries, and names stay distinct.
-use Rattle.std.proofs.Common.{◌≡◌, ◌≢◌, ℕ, zero, suc, ◌+◌, ◌≤◌, ◌<◌, Bool, true, false, cond, not, ◌||◌, List, [], ◌∷◌, ◌++◌, map, length, take, Option, Some, None, is_some, refl, sym, ap, ◌∙◌, arith, ltb}
+use Rattle.std.proofs.Common.{◌≡◌, ℕ, zero, suc, ◌+◌, ◌≤◌, Bool, true, false, cond, not, ◌||◌, List, [], ◌∷◌, ◌++◌, map, length, take, Some, None, is_some, refl, sym, ap, ◌∙◌, ltb}
 use Rattle.std.proofs.Math.Numerals.{one-add}
 use Rattle.std.proofs.lemmas.Bool.{ltb-false}
 use Rattle.std.proofs.Math.ListN.{length-map}
-use Rattle.std.specs.Prelude.{slice_get, nat_lt}
-use Rattle.std.specs.List.{position, position_or_len, prefix_len, list_any}
+use Rattle.std.specs.Prelude.{slice_get}
+use Rattle.std.specs.List.{position, position_or_len, list_any}
 use Rattle.std.proofs.lemmas.Option.{slice_get_past}
 use Rattle.ap_value.specs.declared.symbol.Symbol.{Symbol}
 use Rattle.ap_value.specs.Values.{symbol_eq}
@@ -109,10 +109,10 @@ distinct_more (z ∷ zs) y d free =
     let other = free_rest z zs (name_in y) (free_entry (z ∷ zs) (name_in y) free) in
     let apart : symbol_eq (name_in z) (name_in y) ≡ false = symbol_eq-false (name_in y) (name_in z) other.0 in
     let still : has_name (zs ++ y ∷ []) (name_in z) ≡ false =
-        not_either (is_some (prim_of (name_in z))) (is_some (entry_of (zs ++ y ∷ []) (name_in z))) (free_prim zs (name_in z) own.0)
-            (free_more zs y (name_in z) (free_entry zs (name_in z) own.0) apart) in
+    not_either (is_some (prim_of (name_in z))) (is_some (entry_of (zs ++ y ∷ []) (name_in z))) (free_prim zs (name_in z) own.0)
+    (free_more zs y (name_in z) (free_entry zs (name_in z) own.0) apart) in
     let rest : has_name zs (name_in y) ≡ false =
-        not_either (is_some (prim_of (name_in y))) (is_some (entry_of zs (name_in y))) (free_prim (z ∷ zs) (name_in y) free) other.1 in
+    not_either (is_some (prim_of (name_in y))) (is_some (entry_of zs (name_in y))) (free_prim (z ∷ zs) (name_in y) free) other.1 in
     rw still (distinct_more zs y own.1 rest)
   where
     parts : (b c : Bool) → cond b false c ≡ true → (b ≡ false) × (c ≡ true)

@@ -1,6 +1,6 @@
 -- What terms mean in a total world, with no units and no missing value: a plain fold over what calls
 -- give. It is the tool of the proofs about total worlds; no contract speaks of it.
-use Rattle.std.proofs.Common.{◌≡◌, ◌≢◌, ℕ, zero, suc, ◌+◌, Bool, true, false, cond, ◌&&◌, nat_eq, List, [], ◌∷◌, ◌++◌, map, length, zip, Option, Some, None, unwrap_or, refl, ap, ◌∙◌, sym, subst, add_comm, eqb-true, eq-eqb, inl, inr, arith}
+use Rattle.std.proofs.Common.{◌≡◌, ◌≢◌, ℕ, zero, suc, ◌+◌, Bool, true, false, cond, nat_eq, List, [], ◌∷◌, ◌++◌, map, length, zip, Option, Some, None, unwrap_or, refl, ap, ◌∙◌, sym, subst, add_comm, eqb-true, eq-eqb, inl, inr, arith}
 use Rattle.ap_list.specs.Lists.{Each, AnyOf, with_first, all_some, all_true, lookup_by}
 use Rattle.ap_value.specs.declared.symbol.Symbol.{Symbol}
 use Rattle.ap_value.specs.declared.value.Value.{Value}

@@ -158,7 +158,10 @@ pub fn copy_entry(alloc: Global, entry: &Entry) -> Result<Entry, NoMemory>
     match entry {
         Entry::Function(function) => Ok(Entry::Function(copy_function(alloc, function)?)),
         Entry::Theorem(theorem) => Ok(Entry::Theorem(copy_theorem(alloc, theorem)?)),
-        Entry::Constant(name, value) => Ok(Entry::Constant(copy_symbol(alloc, name)?, copy(alloc, value)?)),
+        Entry::Constant(name, value) => Ok(Entry::Constant(
+            copy_symbol(alloc, name)?,
+            copy(alloc, value)?,
+        )),
     }
 }
 

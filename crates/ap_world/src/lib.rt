@@ -11,7 +11,10 @@ mod world;
 pub use ap_list::{Bytes, NoMemory, Seq};
 pub use ap_term::{Clause, Subst, Term};
 pub use ap_value::{Symbol, Value};
-pub use entry::{Case, Entry, EntryRef, Function, Mask, Measure, RuleClass, Theorem};
+pub use entry::{
+    Case, Entry, EntryRef, Function, Mask, Measure, RuleClass, Theorem, copy_cases, copy_entry,
+    copy_function, copy_measure, copy_theorem,
+};
 pub use primitive::{Primitive, primitive_of};
-pub use theory::{Rune, Theory};
-pub use world::World;
+pub use theory::{Rune, Theory, copy_rune, copy_theory, same_rune};
+pub use world::{AddError, World};

@@ -176,6 +176,71 @@ impl World {
         !is_disabled(self.theory.disabled.as_slice(), rune)
     }
 
+    /// Adds a function at the end. `NameTaken` exactly where the name is in the world, which then stays as
+    /// it was; so it does where memory is refused.
+    pub fn add_function(&mut self, alloc: Global, function: Function) -> Result<(), AddError>
+        requires sound { Sound (self.old.entries ++ Entry.Function function ∷ []) }
+        ensures ok { OnOk result (self.new ≡ added self.old (Entry.Function function)) }
+        ensures err { OnErr result (self.new ≡ self.old) }
+        ensures taken { IsErrOf result AddError.NameTaken ↔ IsTrue (has_name self.old.entries function.name) }
+    {
+        if self.has(&function.name) {
+            return Err(AddError::NameTaken);
+        }
+        self.add(alloc, Entry::Function(function))?;
+        Ok(())
+    }
+
+    /// Adds a theorem at the end. `NameTaken` exactly where the name is in the world, which then stays as it
+    /// was; so it does where memory is refused.
+    pub fn add_theorem(
+        &mut self,
+        alloc: Global,
+        name: Symbol,
+        term: Term,
+        classes: Seq<RuleClass>,
+    ) -> Result<(), AddError>
+        requires known { IsTrue (known (function_of self.old.entries) term) }
+        requires valid { Valid (function_of self.old.entries) (term ∷ []) }
+        ensures ok { OnOk result (self.new ≡ added self.old (Entry.Theorem (record { name = name; term = term; classes = classes }))) }
+        ensures err { OnErr result (self.new ≡ self.old) }
+        ensures taken { IsErrOf result AddError.NameTaken ↔ IsTrue (has_name self.old.entries name) }
+    {
+        self.is_sound();
+        if self.has(&name) {
+            return Err(AddError::NameTaken);
+        }
+        self.add(
+            alloc,
+            Entry::Theorem(Theorem {
+                name,
+                term,
+                classes,
+            }),
+        )?;
+        Ok(())
+    }
+
+    /// Adds a constant at the end. `NameTaken` exactly where the name is in the world, which then stays as
+    /// it was; so it does where memory is refused.
+    pub fn add_constant(
+        &mut self,
+        alloc: Global,
+        name: Symbol,
+        value: Value,
+    ) -> Result<(), AddError>
+        ensures ok { OnOk result (self.new ≡ added self.old (Entry.Constant name value)) }
+        ensures err { OnErr result (self.new ≡ self.old) }
+        ensures taken { IsErrOf result AddError.NameTaken ↔ IsTrue (has_name self.old.entries name) }
+    {
+        self.is_sound();
+        if self.has(&name) {
+            return Err(AddError::NameTaken);
+        }
+        self.add(alloc, Entry::Constant(name, value))?;
+        Ok(())
+    }
+
     /// Adds an entry whose name is free at the end of the list.
     fn add(&mut self, alloc: Global, entry: Entry) -> Result<(), NoMemory>
         requires sound { Sound (self.old.entries ++ entry ∷ []) }

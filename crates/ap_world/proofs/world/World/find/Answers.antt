@@ -15,15 +15,15 @@ place_is W names x o p named place was = sym (ap (position (symbol_eq x)) named)
 pub returns-in_err-place : goal.returns-in_err-place
 returns-in_err-place c =
     let missing : entry_of c.self.inside.entries c.args.name.now ≡ None =
-        not_found c.self.inside.entries c.args.name.now
-            (place_is c.self.inside.entries c.self.inside.names c.args.name.now c.place_of.result None c.self.invariant.named c.place_of.ensures.place c.in_err-place.was) in
+    not_found c.self.inside.entries c.args.name.now
+    (place_is c.self.inside.entries c.self.inside.names c.args.name.now c.place_of.result None c.self.invariant.named c.place_of.ensures.place c.in_err-place.was) in
     let same : entry_of c.self.inside.entries c.args.name.now ≡ entry_of c.args.self.now.entries c.args.name.now =
-        ap (λ (s : Shown). entry_of s.entries c.args.name.now) c.self.view_is in
+    ap (λ (s : Shown). entry_of s.entries c.args.name.now) c.self.view_is in
     rw c.from_residual.ensures (sym missing ∙ same)
 
 pub returns : goal.returns
 returns c =
     c.get.ensures.value
     ∙ found_at c.self.inside.entries c.args.name.now c.in_ok-place.place
-        (place_is c.self.inside.entries c.self.inside.names c.args.name.now c.place_of.result (Some c.in_ok-place.place) c.self.invariant.named c.place_of.ensures.place c.in_ok-place.was)
+    (place_is c.self.inside.entries c.self.inside.names c.args.name.now c.place_of.result (Some c.in_ok-place.place) c.self.invariant.named c.place_of.ensures.place c.in_ok-place.was)
     ∙ ap (λ (s : Shown). entry_of s.entries c.args.name.now) c.self.view_is
