@@ -4,12 +4,15 @@
 #![tactic(auto)]
 
 mod fault;
+mod files;
 mod library;
+mod memory_library;
 mod memory_sink;
 mod schedule;
 mod sink;
 
 pub use fault::{ReadFault, WriteFault};
 pub use library::{BookBytes, BookRead, LONGEST_BOOK, Library};
+pub use memory_library::FailFreeLibrary;
 pub use memory_sink::{FailFreeSink, MemorySink};
 pub use sink::{Sink, put_all};
