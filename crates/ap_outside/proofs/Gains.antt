@@ -75,3 +75,6 @@ take_on done n piece =
     let left = take-take done (done + n) piece (omega arith) in
     let right = drop-take done n piece in
     ap (λ rest. take done piece ++ take n rest) (take_rest piece done) ∙ (sym (ap (λ xs. xs ++ take n (drop done piece)) left) ∙ (sym (ap (λ xs. take done (take (done + n) piece) ++ xs) right) ∙ take-append-drop done (take (done + n) piece)))
+
+-- for functions that put several texts in a row
+pub ruleset gains = (gained_nothing, gained_more, part_first, part_next, part_none, part_all, rose_within)

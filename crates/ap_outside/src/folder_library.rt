@@ -21,8 +21,8 @@ pub struct FolderLibrary<'a, R: Files> {
 impl<'a, R: Files> FolderLibrary<'a, R> {
     /// The current folder of this runtime, with no fault yet.
     pub fn new(rt: &'a R) -> FolderLibrary<'a, R>
-        ensures reads { result.read_faults ≡ 0 }
-        ensures stores { result.store_faults ≡ 0 }
+        ensures reads { ⟦<FolderLibrary<'a, R> as Library>⟧.read_faults result ≡ 0 }
+        ensures stores { ⟦<FolderLibrary<'a, R> as Library>⟧.store_faults result ≡ 0 }
     {
         FolderLibrary {
             rt,

@@ -16,6 +16,9 @@ impl Schedule {
         ensures fails { IsTrue result ↔ Contains self.old.failing self.new.calls }
     {
         self.calls = self.calls.saturating_add(1);
-        self.failing.as_slice().iter().any(|number| u64::from(*number) == self.calls)
+        self.failing
+            .as_slice()
+            .iter()
+            .any(|number| u64::from(*number) == self.calls)
     }
 }

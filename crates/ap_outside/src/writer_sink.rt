@@ -16,7 +16,7 @@ pub struct WriterSink<W: Write> {
 impl<W: Write> WriterSink<W> {
     /// A sink over a writer, with no fault yet.
     pub fn new(writer: W) -> WriterSink<W>
-        ensures { result.faults ≡ 0 }
+        ensures { ⟦<WriterSink<W> as Sink>⟧.faults result ≡ 0 }
     {
         WriterSink { writer, faults: 0 }
     }
