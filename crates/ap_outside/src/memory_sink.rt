@@ -1,4 +1,4 @@
-ghost use Rattle.std.specs.Prelude.{◌≡◌, ◌+◌, ◌-◌, ◌^◌, ◌<◌, ◌≤◌, ◌↔◌, [], IfOk, OnErr, IsErrOf, Contains, length, take, min};
+ghost use Rattle.std.specs.Prelude.{◌≡◌, ◌+◌, ◌-◌, ◌^◌, ◌<◌, ◌≤◌, ◌↔◌, [], ◌++◌, IfOk, IfErr, OnOk, OnErr, IsErrOf, Contains, length, take, min};
 ghost use Rattle.ap_outside.specs.Faults.{Rose};
 ghost use Rattle.ap_outside.specs.Gains.{Gained};
 
@@ -49,8 +49,7 @@ impl Sink for FailFreeSink {
     ghost faults = { λ _. 0 };
 
     fn put(&mut self, piece: &[u8]) -> Result<usize, WriteFault> {
-        self.content.extend(piece)?;
-        Ok(piece.len())
+        take_whole(&mut self.content, piece)
     }
 }
 
@@ -115,7 +114,17 @@ impl Sink for MemorySink {
             self.faults = self.faults.saturating_add(1);
             return Err(WriteFault::Failed);
         }
-        self.content.extend(piece)?;
-        Ok(piece.len())
+        take_whole(&mut self.content, piece)
     }
+}
+
+/// Appends a piece whole, and answers its length. Where memory is refused the content stays.
+fn take_whole(content: &mut Bytes, piece: &[u8]) -> Result<usize, WriteFault>
+    ensures ok { OnOk result (content.new ≡ content.old ++ piece.now) }
+    ensures whole { IfOk result (λ taken. taken ≡ length piece.now) }
+    ensures err { OnErr result (content.new ≡ content.old) }
+    ensures fault { IfErr result (λ fault. fault ≡ WriteFault.NoMemory) }
+{
+    content.extend(piece)?;
+    Ok(piece.len())
 }

@@ -1,4 +1,4 @@
-use Rattle.std.proofs.Common.{◌≡◌, ℕ, List, Some, sym, ap, ◌∙◌}
+use Rattle.std.proofs.Common.{ℕ, List, Some, sym, ap, ◌∙◌}
 use Rattle.ap_outside.proofs.Places.{bytes_at_place, bytes_at_none}
 use Rattle.ap_outside.proofs.files.bytes_at.Goals as goal
 
