@@ -1,0 +1,5 @@
+pub mod Faults
+pub mod Gains
+pub mod Files
+pub mod Books
+pub mod Memory
