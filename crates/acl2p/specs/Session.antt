@@ -1,0 +1,105 @@
+-- The session: what is printed, which status and which world the words and the books give.
+use Rattle.std.specs.Prelude.{ℕ, Bool, true, false, cond, ◌&&◌, List, [], ◌∷◌, ◌++◌, Option, Some, None}
+use Rattle.ap_value.specs.declared.symbol.Symbol.{Symbol}
+use Rattle.ap_value.specs.Values.{symbol_eq}
+use Rattle.ap_term.specs.declared.term.Term.{Term, out-Term}
+use Rattle.ap_term.specs.declared.term.Term.TheOpen.{Term-F}
+use Rattle.ap_term.specs.Equal.{term_eq}
+use Rattle.ap_world.specs.Names.{equal_name}
+use Rattle.ap_world.specs.Sound.{not_function}
+use Rattle.ap_world.specs.World.{Shown, has_name, added}
+use Rattle.ap_world.specs.declared.entry.Entry.TheVariants as entry
+use Rattle.ap_outside.specs.declared.library.BookRead.{BookRead}
+use Rattle.ap_outside.specs.declared.library.BookRead.TheVariants.{Absent, TooLong, Found}
+use Rattle.acl2p.specs.declared.reader.Line.{Line}
+use Rattle.acl2p.specs.declared.report.Status.{Status}
+use Rattle.acl2p.specs.declared.report.Status.TheVariants.{Certified, NotCertified, Usage}
+use Rattle.acl2p.specs.Command.{command_of}
+use Rattle.acl2p.specs.Reading.{book_of}
+use Rattle.acl2p.specs.Texts.{usage_text, opening, closing, absent_text, too_long_text, not_yet_text, proved_text, taken_text, not_supported_text}
+
+-- the world that a session begins with: `not`, and nothing disabled
+unfoldable pub start : Shown
+start = record { entries = entry.Function not_function ∷ []; theory = record { disabled = [] } }
+
+-- the one way to prove: (equal a b) where a and b are the same term
+abbrev pub same_sides : Bool → List Term → Bool
+same_sides true (a ∷ b ∷ []) = term_eq a b
+same_sides f ts = false
+
+abbrev pub is_equality : Term-F Term → Bool
+is_equality (Term-F.Var x) = false
+is_equality (Term-F.Quote v) = false
+is_equality (Term-F.Call f ts) = same_sides (symbol_eq f equal_name) ts
+
+unfoldable pub is_proved : Term → Bool
+is_proved u = is_equality (out-Term u)
+
+-- an event's text, and the world after it where it is admitted
+pub record Step : Type 0 where
+  pub text : List ℕ
+  pub next : Option Shown
+
+-- a theorem: its name is free, and it is proved
+unfoldable pub event_of : Shown → Line → Step
+event_of w l =
+    cond (has_name w.entries l.name) (record { text = taken_text l.name.name; next = None })
+    (cond (is_proved l.term)
+        (record { text = proved_text l.name.name; next = Some (added w (entry.Theorem (record { name = l.name; term = l.term; classes = [] }))) })
+        (record { text = not_supported_text; next = None }))
+
+-- a book's text between its first and last lines, whether it is certified, and the world after it
+pub record Body : Type 0 where
+  pub text : List ℕ
+  pub certified : Bool
+  pub world : Shown
+
+-- the events up to the first that is refused, each in the world that the one before left
+abbrev pub before : List ℕ → Body → Body
+before text b = record { text = text ++ b.text; certified = b.certified; world = b.world }
+
+abbrev pub go_on : Shown → List ℕ → Option Shown → (Shown → Body) → Body
+go_on w text None more = record { text = text; certified = false; world = w }
+go_on w text (Some v) more = before text (more v)
+
+abbrev pub events_of : List Line → Shown → Body
+events_of [] w = record { text = []; certified = true; world = w }
+events_of (l ∷ ls) w = go_on w (event_of w l).text (event_of w l).next (events_of ls)
+
+-- a body that stands for no events
+abbrev pub without_events : List ℕ → Body
+without_events text = record { text = text; certified = false; world = start }
+
+abbrev pub read_body : Option (List Line) → Body
+read_body None = without_events not_yet_text
+read_body (Some ls) = events_of ls start
+
+abbrev pub body_of : BookRead → Body
+body_of Absent = without_events absent_text
+body_of TooLong = without_events too_long_text
+body_of (Found book) = read_body (book_of book.0)
+
+-- what the session gives
+pub record Session : Type 0 where
+  pub text : List ℕ
+  pub status : Status
+  pub world : Shown
+
+abbrev pub status_of : Bool → Status
+status_of true = Certified
+status_of false = NotCertified
+
+unfoldable pub shown_book : List ℕ → Body → Session
+shown_book name b = record { text = opening name ++ b.text ++ closing name b.certified; status = status_of b.certified; world = b.world }
+
+-- by the words, and by what the read of the book that they name answered, if it did
+abbrev pub answered : List ℕ → Option BookRead → Session
+answered name None = record { text = []; status = NotCertified; world = start }
+answered name (Some r) = shown_book name (body_of r)
+
+abbrev pub commanded : Option (List ℕ) → Option BookRead → Session
+commanded None read = record { text = usage_text; status = Usage; world = start }
+commanded (Some name) read = answered name read
+
+abbrev pub session : List (List ℕ) → Option BookRead → Session
+session words read = commanded (command_of words) read
