@@ -2,7 +2,8 @@ ghost use Rattle.std.specs.Prelude.{◌≡◌, ◌<◌, ◌≤◌, ◌+◌, ◌-
 ghost use Rattle.std.specs.List.{list_all};
 ghost use Rattle.ap_value.specs.Values.{acl2};
 ghost use Rattle.ap_term.specs.Terms.{term_size};
-ghost use Rattle.acl2p.specs.Reading.{is_blank, is_word_byte, goes_on, raised, tokens_of, upper, says, is_name, atom_of, arity_of, after_open, after_close, after_word, terms_at, call_at, term_at, within_size, after_said, after_classes, name_at, line_at, lines_at, after_package, after_header, book_of};
+ghost use Rattle.acl2p.specs.Command.{is_letter};
+ghost use Rattle.acl2p.specs.Reading.{is_plain_byte, begins_with_letter, is_blank, is_word_byte, goes_on, raised, tokens_of, upper, says, is_name, atom_of, arity_of, after_open, after_close, after_word, terms_at, call_at, term_at, within_size, after_said, after_classes, name_at, line_at, lines_at, after_package, after_header, book_of};
 
 use ap_list::{Bytes, NoMemory, Seq};
 use ap_term::{Term, size};
@@ -104,4 +105,165 @@ pub(crate) fn tokens(alloc: Global, text: &[u8]) -> Result<Seq<Token>, NoMemory>
         }
     }
     Ok(out)
+}
+
+/// The symbol of package `ACL2` that a word is read as.
+fn symbol(alloc: Global, word: &[u8]) -> Result<Symbol, NoMemory>
+    ensures { IfOk result (λ s. s ≡ acl2 (upper word.now)) }
+{
+    let name = raised_word(alloc, word)?;
+    Ok(Symbol {
+        keyword: false,
+        name,
+    })
+}
+
+fn is_letter_byte(byte: u8) -> bool
+    ensures { result ≡ is_letter byte }
+{
+    (97 <= byte && byte <= 122) || (65 <= byte && byte <= 90)
+}
+
+fn is_plain(byte: u8) -> bool
+    ensures { result ≡ is_plain_byte byte }
+{
+    is_letter_byte(byte) || (48 <= byte && byte <= 57) || byte == 45
+}
+
+fn starts_with_letter(word: &[u8]) -> bool
+    ensures { result ≡ begins_with_letter word.now }
+{
+    match word {
+        [] => false,
+        [first, ..] => is_letter_byte(*first),
+    }
+}
+
+fn are_plain(word: &[u8]) -> bool
+    ensures { result ≡ list_all is_plain_byte word.now }
+{
+    word.iter().all(|byte| is_plain(*byte))
+}
+
+/// Whether a word is a name or a variable.
+#[tactic(auto, unfolding(crate::specs::Reading::is_name))]
+fn is_name_word(word: &[u8]) -> bool
+    ensures { result ≡ is_name word.now }
+{
+    starts_with_letter(word) && are_plain(word) && !is_said(word, b"T") && !is_said(word, b"NIL")
+}
+
+/// The variable or constant that a word is.
+#[tactic(auto, unfolding(crate::specs::Reading::atom_of))]
+fn atom(alloc: Global, word: &[u8]) -> Result<Option<Term>, NoMemory>
+    ensures { IfOk result (λ o. o ≡ atom_of word.now) }
+{
+    if is_said(word, b"T") || is_said(word, b"NIL") {
+        return Ok(Some(Term::Quote(Value::Sym(symbol(alloc, word)?))));
+    }
+    if is_name_word(word) {
+        return Ok(Some(Term::Var(symbol(alloc, word)?)));
+    }
+    Ok(None)
+}
+
+/// The number of arguments that a call of the word takes.
+#[tactic(auto, unfolding(crate::specs::Reading::arity_of))]
+fn arity(word: &[u8]) -> Option<u32>
+    ensures { result ≡ arity_of word.now }
+{
+    if is_said(word, b"IF") {
+        return Some(3);
+    }
+    if is_said(word, b"EQUAL") {
+        return Some(2);
+    }
+    None
+}
+
+/// What follows an open parenthesis.
+fn open(tokens: &[Token]) -> Option<&[Token]>
+    ensures { option_map (λ r. r.now) result ≡ after_open tokens.now }
+{
+    match tokens {
+        [Token::Open, rest @ ..] => Some(rest),
+        _ => None,
+    }
+}
+
+/// What follows a close parenthesis.
+fn close(tokens: &[Token]) -> Option<&[Token]>
+    ensures { option_map (λ r. r.now) result ≡ after_close tokens.now }
+{
+    match tokens {
+        [Token::Close, rest @ ..] => Some(rest),
+        _ => None,
+    }
+}
+
+/// A word, and what follows it.
+fn word(tokens: &[Token]) -> Option<(&[u8], &[Token])>
+    ensures { option_map (λ r. (r.0.now, r.1.now)) result ≡ after_word tokens.now }
+{
+    match tokens {
+        [Token::Word(word), rest @ ..] => Some((word.as_slice(), rest)),
+        _ => None,
+    }
+}
+
+/// A term under at most so many open parentheses more, and what follows it.
+#[cycle(terms)]
+fn term<'a>(alloc: Global, depth: u32, tokens: &'a [Token]) -> Result<Option<(Term, &'a [Token])>, NoMemory>
+    ensures { IfOk result (λ o. option_map (λ r. (r.0, r.1.now)) o ≡ term_at depth tokens.now) }
+{
+    if let Some((name, rest)) = word(tokens) {
+        return match atom(alloc, name)? {
+            Some(atom) => Ok(Some((atom, rest))),
+            None => Ok(None),
+        };
+    }
+    match open(tokens) {
+        Some(rest) if depth > 0 => call(alloc, depth - 1, rest),
+        _ => Ok(None),
+    }
+}
+
+/// A call, behind its open parenthesis, and what follows it.
+#[cycle(terms)]
+#[tactic(auto, unfolding(crate::specs::Reading::call_at))]
+fn call<'a>(alloc: Global, depth: u32, tokens: &'a [Token]) -> Result<Option<(Term, &'a [Token])>, NoMemory>
+    ensures { IfOk result (λ o. option_map (λ r. (r.0, r.1.now)) o ≡ call_at (term_at depth) tokens.now) }
+{
+    let Some((head, rest)) = word(tokens) else {
+        return Ok(None);
+    };
+    let Some(count) = arity(head) else {
+        return Ok(None);
+    };
+    let Some((arguments, rest)) = terms(alloc, depth, count, rest)? else {
+        return Ok(None);
+    };
+    let Some(rest) = close(rest) else {
+        return Ok(None);
+    };
+    Ok(Some((Term::Call(symbol(alloc, head)?, arguments), rest)))
+}
+
+/// So many terms, and what follows them.
+#[cycle(terms)]
+fn terms<'a>(alloc: Global, depth: u32, count: u32, tokens: &'a [Token]) -> Result<Option<(Seq<Term>, &'a [Token])>, NoMemory>
+    ensures { IfOk result (λ o. option_map (λ r. (r.0, r.1.now)) o ≡ terms_at (term_at depth) count tokens.now) }
+{
+    let mut out = Seq::new(alloc);
+    let mut rest = tokens;
+    for _i in 0..count {
+        match term(alloc, depth, rest)? {
+            Some((next, more)) => {
+                out.push(next)?;
+                rest = more;
+            }
+            None => return Ok(None),
+        }
+    }
+    Ok(Some((out, rest)))
 }

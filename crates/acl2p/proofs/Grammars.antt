@@ -1,0 +1,24 @@
+-- Lists that are read one after another.
+use Rattle.std.proofs.Common.{◌≡◌, ℕ, suc, List, [], ◌∷◌, ◌++◌, Option, Some, None, refl, sym, ap, ◌∙◌}
+use Rattle.std.specs.Prelude.{option_and_then}
+use Rattle.std.proofs.lemmas.List.{append_assoc}
+use Rattle.ap_term.specs.declared.term.Term.{Term}
+use Rattle.acl2p.specs.declared.reader.Token.{Token}
+use Rattle.acl2p.specs.Reading.{terms_at, with_first_term}
+
+-- what is read behind some terms
+abbrev pub with_front : List Term → Option (List Term × List Token) → Option (List Term × List Token)
+with_front us None = None
+with_front us (Some r) = Some (us ++ r.0, r.1)
+
+-- a term more in front leaves a term less to read
+pub next_term : (f : List Token → Option (Term × List Token)) (out after : List Term) (u : Term) (m n : ℕ) (rest more : List Token) (all : Option (List Term × List Token))
+    → m ≡ suc n → Some (u, more) ≡ f rest → after ≡ out ++ u ∷ [] → with_front out (terms_at f m rest) ≡ all → with_front after (terms_at f n more) ≡ all
+next_term f out after u m n rest more all less read pushed told =
+    ap (λ us. with_front us (terms_at f n more)) pushed ∙ joins (terms_at f n more)
+    ∙ ap (λ o. with_front out (option_and_then (λ r. with_first_term r.0 (terms_at f n r.1)) o)) read
+    ∙ ap (λ k. with_front out (terms_at f k rest)) (sym less) ∙ told
+  where
+    joins : (r : Option (List Term × List Token)) → with_front (out ++ u ∷ []) r ≡ with_front out (with_first_term u r)
+    joins None = refl
+    joins (Some r) = ap (λ us. Some (us, r.1)) (append_assoc out (u ∷ []) r.0)
