@@ -267,3 +267,125 @@ fn terms<'a>(alloc: Global, depth: u32, count: u32, tokens: &'a [Token]) -> Resu
     }
     Ok(Some((out, rest)))
 }
+
+/// What follows a word that is this one.
+fn said<'a>(text: &[u8], tokens: &'a [Token]) -> Option<&'a [Token]>
+    ensures { option_map (λ r. r.now) result ≡ after_said text.now tokens.now }
+{
+    match word(tokens) {
+        Some((word, rest)) if is_said(word, text) => Some(rest),
+        _ => None,
+    }
+}
+
+/// What follows the rule classes and the theorem's parenthesis.
+#[tactic(auto, unfolding(crate::specs::Reading::after_classes))]
+fn classes(tokens: &[Token]) -> Option<&[Token]>
+    ensures { option_map (λ r. r.now) result ≡ after_classes tokens.now }
+{
+    let rest = said(b":RULE-CLASSES", tokens)?;
+    let rest = said(b"NIL", rest)?;
+    close(rest)
+}
+
+/// A term of at most 4,096 nodes under at most 399 parentheses, and what follows it.
+fn short_term<'a>(alloc: Global, tokens: &'a [Token]) -> Result<Option<(Term, &'a [Token])>, NoMemory>
+    ensures { IfOk result (λ o. option_map (λ r. (r.0, r.1.now)) o ≡ within_size (term_at 399 tokens.now)) }
+{
+    let Some((term, rest)) = term(alloc, 399, tokens)? else {
+        return Ok(None);
+    };
+    match size(&term) {
+        Some(nodes) if nodes <= 4096 => Ok(Some((term, rest))),
+        _ => Ok(None),
+    }
+}
+
+/// A theorem's name as it stands, and what follows it.
+fn named(tokens: &[Token]) -> Option<(&[u8], &[Token])>
+    ensures { option_map (λ r. (upper r.0.now, r.1.now)) result ≡ name_at tokens.now }
+{
+    match word(tokens) {
+        Some((word, rest)) if is_name_word(word) => Some((word, rest)),
+        _ => None,
+    }
+}
+
+/// A theorem, and what follows it.
+#[tactic(auto, unfolding(crate::specs::Reading::line_at))]
+fn theorem<'a>(alloc: Global, tokens: &'a [Token]) -> Result<Option<(Line, &'a [Token])>, NoMemory>
+    ensures { IfOk result (λ o. option_map (λ r. (r.0, r.1.now)) o ≡ line_at tokens.now) }
+{
+    let Some(rest) = open(tokens) else {
+        return Ok(None);
+    };
+    let Some(rest) = said(b"DEFTHM", rest) else {
+        return Ok(None);
+    };
+    let Some((name, rest)) = named(rest) else {
+        return Ok(None);
+    };
+    let Some((term, rest)) = short_term(alloc, rest)? else {
+        return Ok(None);
+    };
+    let Some(rest) = classes(rest) else {
+        return Ok(None);
+    };
+    let name = symbol(alloc, name)?;
+    Ok(Some((Line { name, term }, rest)))
+}
+
+/// Theorems to the end of the tokens.
+fn lines(alloc: Global, count: usize, tokens: &[Token]) -> Result<Option<Seq<Line>>, NoMemory>
+    ensures { IfOk result (λ o. o ≡ lines_at count tokens.now) }
+{
+    let mut out = Seq::new(alloc);
+    let mut rest = tokens;
+    for _i in 0..count {
+        if rest.is_empty() {
+            return Ok(Some(out));
+        }
+        match theorem(alloc, rest)? {
+            Some((next, more)) => {
+                out.push(next)?;
+                rest = more;
+            }
+            None => return Ok(None),
+        }
+    }
+    if rest.is_empty() { Ok(Some(out)) } else { Ok(None) }
+}
+
+/// What follows the string "ACL2".
+#[tactic(auto, unfolding(crate::specs::Reading::after_package))]
+fn package(tokens: &[Token]) -> Option<&[Token]>
+    ensures { option_map (λ r. r.now) result ≡ after_package tokens.now }
+{
+    match word(tokens) {
+        Some((word, rest)) if word == b"\"ACL2\"".as_slice() => Some(rest),
+        _ => None,
+    }
+}
+
+/// What follows a book's first line.
+#[tactic(auto, unfolding(crate::specs::Reading::after_header))]
+fn header(tokens: &[Token]) -> Option<&[Token]>
+    ensures { option_map (λ r. r.now) result ≡ after_header tokens.now }
+{
+    let rest = open(tokens)?;
+    let rest = said(b"IN-PACKAGE", rest)?;
+    let rest = package(rest)?;
+    close(rest)
+}
+
+/// The theorems of a book, or `None` where its bytes aren't in the first grammar.
+#[tactic(auto, unfolding(crate::specs::Reading::book_of))]
+pub(crate) fn book(alloc: Global, bytes: &[u8]) -> Result<Option<Seq<Line>>, NoMemory>
+    ensures { IfOk result (λ o. o ≡ book_of bytes.now) }
+{
+    let tokens = tokens(alloc, bytes)?;
+    match header(tokens.as_slice()) {
+        Some(rest) => lines(alloc, tokens.len(), rest),
+        None => Ok(None),
+    }
+}
