@@ -1,4 +1,5 @@
 pub mod Adding
+pub mod Agreeing
 pub mod Equations
 pub mod Extending
 pub mod Fuel
@@ -6,3 +7,4 @@ pub mod Knowing
 pub mod Places
 pub mod Starting
 pub mod TotalMeaning
+pub mod Written
