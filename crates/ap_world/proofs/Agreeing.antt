@@ -91,7 +91,7 @@ agreed S D E agree c only =
 pub equal_valid : (D : Defs) → Total D → (u : Term) → known D u ≡ true → Valid D (Call equal_name (u ∷ u ∷ []) ∷ [])
 equal_valid D total u u_known =
     let (A, m) = models D total in
-    valid_of D A m (Call equal_name (u ∷ u ∷ []) ∷ []) (simp (known_equal, u_known)) (λ e. inl (other A e))
+    valid_of D A m (Call equal_name (u ∷ u ∷ []) ∷ []) (simp known_equal) (λ e. inl (other A e))
   where
     known_equal : known D (Call equal_name (u ∷ u ∷ [])) ≡ true
     known_equal = known_by D equal_name (u ∷ u ∷ []) (simp heads) (simp u_known)
