@@ -14,10 +14,9 @@ use Rattle.ap_world.specs.Primitives.{nil, t, truth}
 use Rattle.ap_world.specs.Meaning.{Env, Defs}
 use Rattle.ap_world.specs.Types.{is_true_list, int_type, symbol_type, type_of, Has}
 use Rattle.ap_world.specs.Clauses.{not_of}
-use Rattle.ap_world.specs.Recursion.{has_no_call}
 use Rattle.ap_world.specs.Sound.{known, speaks_of, not_function, given_function, DefinedAlike, Sound}
 use Rattle.ap_world.specs.World.{function_of, has_name}
-use Rattle.ap_world.proofs.Written.{vars_var, vars_quote, vars_call, calls_var, calls_quote, calls_call}
+use Rattle.ap_world.proofs.Written.{vars_var, vars_quote, vars_call}
 use Rattle.ap_world.proofs.TotalMeaning.{Apply, Models, val, apply_is}
 use Rattle.ap_world.proofs.Adding.{sound-none, sound-define}
 use Rattle.ap_world.proofs.Equations.{names_open, heads, vals, knowing, prim_of_not, val_defined}
@@ -49,13 +48,9 @@ not_speaks : speaks_of not_function.formals not_function.body ≡ true
 unfolding not_function
 not_speaks = simp (vars_call, vars_var, vars_quote)
 
-not_plain : has_no_call not_function.name not_function.body ≡ true
-unfolding not_function names_open
-not_plain = simp (calls_call, calls_var, calls_quote)
-
 pub starting_sound : Sound (entry.Function not_function ∷ [])
 unfolding not_function names_open
-starting_sound = sound-define [] not_function sound-none refl refl not_speaks (not_known (function_of [])) refl not_plain refl
+starting_sound = sound-define [] not_function sound-none refl refl not_speaks (not_known (function_of [])) refl refl
     (record { formals = refl; body = refl; measure = refl }) (λ vs v l h. has_all v)
 
 -- what `not` gives: t of nil, and nil of every other value
