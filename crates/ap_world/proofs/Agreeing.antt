@@ -1,22 +1,22 @@
 -- Worlds that define the same functions alike agree on what a clause of these means; and equal sides are valid.
-use Rattle.std.proofs.Common.{◌≡◌, ℕ, zero, suc, Bool, true, false, cond, nat_eq, ◌||◌, ◌&&◌, ◌↔◌, is_some, List, [], ◌∷◌, map, length, zip, Option, Some, None, refl, ap, ◌∙◌, sym, inl, inr}
+use Rattle.std.proofs.Common.{◌≡◌, ℕ, zero, suc, Bool, true, cond, nat_eq, ◌||◌, ◌↔◌, is_some, List, [], ◌∷◌, map, length, zip, Option, Some, None, refl, ap, ◌∙◌, sym, inl, inr}
 use Rattle.ap_list.specs.Lists.{Each, AnyOf, all_some, all_true}
 use Rattle.ap_value.specs.declared.symbol.Symbol.{Symbol}
 use Rattle.ap_value.specs.declared.value.Value.{Value}
-use Rattle.ap_value.specs.Values.{V, value_eq}
+use Rattle.ap_value.specs.Values.{V}
 use Rattle.ap_value.proofs.Equals.{both, value_eq-same}
 use Rattle.ap_term.specs.declared.term.Term.{Term, Var, Quote, Call}
 use Rattle.ap_term.proofs.Induction.{term_ind, fold_call}
 use Rattle.ap_world.specs.declared.entry.Function.{Function}
 use Rattle.ap_world.specs.Names.{equal_name}
-use Rattle.ap_world.specs.Primitives.{nil, t, truth, Prim, prim_of}
-use Rattle.ap_world.specs.Meaning.{Env, Defs, Calls, applied, head_call, meaning, body_value, calls, ev, HasValue, IsHeld, Total, Valid}
+use Rattle.ap_world.specs.Primitives.{nil, truth, Prim, prim_of}
+use Rattle.ap_world.specs.Meaning.{Env, Defs, Calls, applied, head_call, meaning, body_value, calls, ev, IsHeld, Total, Valid}
 use Rattle.ap_world.specs.Sound.{known}
 use Rattle.ap_world.specs.Laws.{calls_only_step, calls_only, Alike, AgreeOn}
 use Rattle.ap_world.proofs.Fuel.{meaning_var, meaning_quote, meaning_call}
 use Rattle.ap_world.proofs.Knowing.{each_true, known_by}
 use Rattle.ap_world.proofs.TotalMeaning.{models, val, valid_of}
-use Rattle.ap_world.proofs.Equations.{heads, prim_of_equal, val_equal, t_isnt_nil}
+use Rattle.ap_world.proofs.Equations.{heads, val_equal, t_isnt_nil}
 
 -- calls of the names of the set are the same
 abbrev SameCalls : (Symbol → Bool) → Calls → Calls → Type 0
@@ -83,9 +83,10 @@ held_here S D E agree e (u ∷ us) ks (inl (v, (n, h), other)) = inl (v, (n, sam
 held_here S D E agree e (u ∷ us) ks (inr h) = inr (held_here S D E agree e us ks.1 h)
 
 pub agreed : (S : Symbol → Bool) (D E : Defs) → AgreeOn S D E → (c : List Term) → all_true (map (calls_only S) c) ≡ true → Valid D c ↔ Valid E c
-agreed S D E agree c only =
-    (λ valid e. held_there S D E agree e c (each_true (calls_only S) c only) (valid e),
-    λ valid e. held_here S D E agree e c (each_true (calls_only S) c only) (valid e))
+agreed S D E agree c only = (
+  λ valid e. held_there S D E agree e c (each_true (calls_only S) c only) (valid e),
+  λ valid e. held_here S D E agree e c (each_true (calls_only S) c only) (valid e),
+)
 
 -- a known term equals itself
 pub equal_valid : (D : Defs) → Total D → (u : Term) → known D u ≡ true → Valid D (Call equal_name (u ∷ u ∷ []) ∷ [])

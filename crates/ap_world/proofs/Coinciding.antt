@@ -1,5 +1,5 @@
 -- What a term means depends on its variables alone, so a call means its function's body at the actuals.
-use Rattle.std.proofs.Common.{◌≡◌, ℕ, suc, Bool, true, false, cond, ◌||◌, List, [], ◌∷◌, ◌++◌, map, length, zip, Option, Some, None, unwrap_or, refl, ap, sym, ◌∙◌, arith}
+use Rattle.std.proofs.Common.{◌≡◌, ℕ, suc, Bool, true, false, cond, ◌||◌, List, [], ◌∷◌, ◌++◌, map, length, zip, Some, None, unwrap_or, refl, ap, sym, ◌∙◌, arith}
 use Rattle.ap_list.specs.Lists.{Each, in_turn, is_among, is_within, lookup_by}
 use Rattle.ap_value.specs.declared.symbol.Symbol.{Symbol}
 use Rattle.ap_value.specs.declared.value.Value.{Value}
@@ -12,7 +12,6 @@ use Rattle.ap_world.specs.declared.entry.Function.{Function}
 use Rattle.ap_world.specs.Primitives.{nil, prim_of}
 use Rattle.ap_world.specs.Meaning.{Env, value_at, Defs}
 use Rattle.ap_world.specs.Sound.{speaks_of}
-use Rattle.ap_world.proofs.Adding.{each_append}
 use Rattle.ap_world.proofs.Knowing.{each_same}
 use Rattle.ap_world.proofs.TotalMeaning.{Apply, head_val, val, values_of, Models, val_var, val_quote, val_call, apply_is, replaced, val_subst}
 use Rattle.ap_world.proofs.Equations.{val_defined}

@@ -1,25 +1,22 @@
 -- The starting world, of `not` alone, is sound; and what `not` means.
-use Rattle.std.proofs.Common.{◌≡◌, ℕ, zero, suc, Bool, true, false, cond, IfSome, ℤ, pos, negsuc, List, [], ◌∷◌, ◌++◌, map, length, zip, Option, Some, None, refl, ap, ◌∙◌, sym, subst}
+use Rattle.std.proofs.Common.{◌≡◌, zero, suc, Bool, true, false, cond, IfSome, pos, negsuc, [], ◌∷◌, Some, None, refl, ◌∙◌, sym, subst}
 use Rattle.std.specs.Int.{bit_at}
-use Rattle.ap_list.specs.Lists.{is_distinct}
 use Rattle.ap_value.specs.declared.symbol.Symbol.{Symbol}
-use Rattle.ap_value.specs.declared.value.Value.{Value}
 use Rattle.ap_value.specs.Values.{V, int, chr, str, sym as symbol, cons, symbol_eq, value_eq}
-use Rattle.ap_term.specs.declared.term.Term.{Term, Var, Quote, Call}
+use Rattle.ap_term.specs.declared.term.Term.{Term}
 use Rattle.ap_world.specs.declared.entry.Function.{Function}
-use Rattle.ap_world.specs.declared.entry.Entry.{Entry}
 use Rattle.ap_world.specs.declared.entry.Entry.TheVariants as entry
 use Rattle.ap_world.specs.Names.{not_name}
 use Rattle.ap_world.specs.Primitives.{nil, t, truth}
 use Rattle.ap_world.specs.Meaning.{Env, Defs}
-use Rattle.ap_world.specs.Types.{is_true_list, int_type, symbol_type, type_of, Has}
+use Rattle.ap_world.specs.Types.{is_true_list, Has}
 use Rattle.ap_world.specs.Clauses.{not_of}
 use Rattle.ap_world.specs.Sound.{known, speaks_of, not_function, given_function, DefinedAlike, Sound}
-use Rattle.ap_world.specs.World.{function_of, has_name}
+use Rattle.ap_world.specs.World.{function_of}
 use Rattle.ap_world.proofs.Written.{vars_var, vars_quote, vars_call}
 use Rattle.ap_world.proofs.TotalMeaning.{Apply, Models, val, apply_is}
 use Rattle.ap_world.proofs.Adding.{sound-none, sound-define}
-use Rattle.ap_world.proofs.Equations.{names_open, heads, vals, knowing, prim_of_not, val_defined}
+use Rattle.ap_world.proofs.Equations.{names_open, vals, knowing, prim_of_not, val_defined}
 
 -- the mask of all ten types
 pub has_all : (v : V) → Has (record { 0 = 1023 }) v

@@ -1,5 +1,5 @@
 -- The words on terms at a variable, a constant and a call, with all arguments, for terms that are written out.
-use Rattle.std.proofs.Common.{◌≡◌, Bool, true, false, sym, cond, List, [], ◌∷◌, ◌++◌, map, unwrap_or, refl, ap, ◌∙◌}
+use Rattle.std.proofs.Common.{◌≡◌, true, false, sym, cond, List, [], ◌∷◌, ◌++◌, map, unwrap_or, refl, ap, ◌∙◌}
 use Rattle.ap_list.specs.Lists.{is_among, in_turn, joined, lookup_by}
 use Rattle.ap_value.specs.declared.symbol.Symbol.{Symbol}
 use Rattle.ap_value.specs.declared.value.Value.{Value}
@@ -128,6 +128,9 @@ unnested_call F f ts = para_call (unnested_step F) f ts
 
 -- these equations compute the words on written terms
 pub ruleset speaking = (vars_var, vars_quote, vars_call)
+
 pub ruleset instances = (subst_var, subst_quote, subst_call)
+
 pub ruleset clauses = (negate_var, negate_quote, negate_call, is_nil_var, is_nil_quote, is_nil_call, conjuncts_var, conjuncts_quote, conjuncts_call, flat_var, flat_quote, flat_call)
+
 pub ruleset recursion = (calls_var, calls_quote, calls_call, cases_var, cases_quote, cases_call, unnested_var, unnested_quote, unnested_call)
