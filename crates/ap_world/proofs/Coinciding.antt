@@ -1,5 +1,5 @@
 -- What a term means depends on its variables alone, so a call means its function's body at the actuals.
-use Rattle.std.proofs.Common.{◌≡◌, ℕ, suc, Bool, true, false, cond, ◌||◌, List, [], ◌∷◌, ◌++◌, map, length, zip, Some, None, unwrap_or, refl, ap, sym, ◌∙◌, arith}
+use Rattle.std.proofs.Common.{◌≡◌, Bool, true, false, cond, ◌||◌, List, [], ◌∷◌, ◌++◌, map, length, zip, Some, None, unwrap_or, refl, ap, sym, ◌∙◌, arith}
 use Rattle.ap_list.specs.Lists.{Each, in_turn, is_among, is_within, lookup_by}
 use Rattle.ap_value.specs.declared.symbol.Symbol.{Symbol}
 use Rattle.ap_value.specs.declared.value.Value.{Value}
@@ -13,7 +13,7 @@ use Rattle.ap_world.specs.Primitives.{nil, prim_of}
 use Rattle.ap_world.specs.Meaning.{Env, value_at, Defs}
 use Rattle.ap_world.specs.Sound.{speaks_of}
 use Rattle.ap_world.proofs.Knowing.{each_same}
-use Rattle.ap_world.proofs.TotalMeaning.{Apply, head_val, val, values_of, Models, val_var, val_quote, val_call, apply_is, replaced, val_subst}
+use Rattle.ap_world.proofs.TotalMeaning.{Apply, head_val, val, values_of, Models, val_var, val_quote, val_call, apply_is, replaced, val_subst, values_of-length}
 use Rattle.ap_world.proofs.Equations.{val_defined}
 use Rattle.ap_world.proofs.Written.{vars_var, vars_quote, vars_call}
 
@@ -100,17 +100,13 @@ replaced_zip A [] ts e = refl
 replaced_zip A (f ∷ fs) [] e = refl
 replaced_zip A (f ∷ fs) (t ∷ ts) e = ap (λ d. (f, val A t e) ∷ d) (replaced_zip A fs ts e)
 
-values_length : (A : Apply) (ts : List Term) (e : Env) → length (values_of A ts e) ≡ length ts
-values_length A [] e = refl
-values_length A (t ∷ ts) e = ap (λ (n : ℕ). suc n) (values_length A ts e)
-
 -- an instance of a term of the formals means the term at the actuals' values
 pub val_instance : (A : Apply) (fs : List Symbol) (ts : List Term) (u : Term) (e : Env) → length fs ≡ length ts → speaks_of fs u ≡ true → val A (subst_of (zip fs ts) u) e ≡ val A u (zip fs (values_of A ts e))
 val_instance A fs ts u e l h =
-    val_subst A (zip fs ts) u e ∙ ap (val A u) (replaced_zip A fs ts e) ∙ formals_alone A fs (values_of A ts e) e u (l ∙ sym (values_length A ts e)) h
+    val_subst A (zip fs ts) u e ∙ ap (val A u) (replaced_zip A fs ts e) ∙ formals_alone A fs (values_of A ts e) e u (l ∙ sym (values_of-length A ts e)) h
 
 -- so a call means its function's body, the actuals in the places of the formals
 pub val_opened : (D : Defs) (A : Apply) → Models D A → (f : Symbol) (g : Function) (ts : List Term) (e : Env) → prim_of f ≡ None → D f ≡ Some g → length g.formals ≡ length ts → speaks_of g.formals g.body ≡ true
     → val A (Call f ts) e ≡ val A (subst_of (zip g.formals ts) g.body) e
 val_opened D A m f g ts e no_prim here l h =
-    val_defined A f ts e no_prim ∙ apply_is D A m f g (values_of A ts e) here (l ∙ sym (values_length A ts e)) ∙ sym (val_instance A g.formals ts g.body e l h)
+    val_defined A f ts e no_prim ∙ apply_is D A m f g (values_of A ts e) here (l ∙ sym (values_of-length A ts e)) ∙ sym (val_instance A g.formals ts g.body e l h)
