@@ -1,5 +1,5 @@
 -- The words on terms at a variable, a constant and a call, with all arguments, for terms that are written out.
-use Rattle.std.proofs.Common.{◌≡◌, true, false, sym, cond, List, [], ◌∷◌, ◌++◌, map, unwrap_or, refl, ap, ◌∙◌}
+use Rattle.std.proofs.Common.{◌≡◌, Bool, true, false, sym, cond, List, [], ◌∷◌, ◌++◌, map, unwrap_or, refl, ap, ◌∙◌}
 use Rattle.ap_list.specs.Lists.{is_among, in_turn, joined, lookup_by}
 use Rattle.ap_value.specs.declared.symbol.Symbol.{Symbol}
 use Rattle.ap_value.specs.declared.value.Value.{Value}
@@ -7,7 +7,9 @@ use Rattle.ap_value.specs.Values.{val_of, symbol_eq, value_eq}
 use Rattle.ap_term.specs.declared.term.Term.{Term, out-Term, out-roll-Term, Var, Quote, Call}
 use Rattle.ap_term.specs.declared.term.Term.TheOpen.{Term-F}
 use Rattle.ap_term.specs.declared.term.Term.TheVariants.{rolls-Var, rolls-Quote, rolls-Call}
+use Rattle.ap_term.specs.Equal.{term_eq}
 use Rattle.ap_term.specs.Terms.{vars_step, vars_after, subst_step, subst_of}
+use Rattle.ap_term.proofs.Equals.{term_eq-true}
 use Rattle.ap_term.proofs.Induction.{fold_var, fold_quote, fold_call, para_var, para_quote, para_call}
 use Rattle.ap_world.specs.Names.{if_name, not_name, implies_name}
 use Rattle.ap_world.specs.Primitives.{nil}
@@ -63,6 +65,26 @@ out_quote q = ap out-Term (sym (rolls-Quote q)) ∙ out-roll-Term (Term-F.Quote 
 
 pub out_call : (f : Symbol) (ts : List Term) → out-Term (Call f ts) ≡ Term-F.Call f ts
 out_call f ts = ap out-Term (sym (rolls-Call f ts)) ∙ out-roll-Term (Term-F.Call f ts)
+
+-- terms of different kinds, and what the test of equality says of terms that differ
+pub call_isnt_var : (f : Symbol) (ts : List Term) (x : Symbol) → Call f ts ≡ Var x → ⊥
+call_isnt_var f ts x h = let p = sym (out_call f ts) ∙ ap out-Term h ∙ out_var x in cc
+
+pub quote_isnt_var : (q : Value) (x : Symbol) → Quote q ≡ Var x → ⊥
+quote_isnt_var q x h = let p = sym (out_quote q) ∙ ap out-Term h ∙ out_var x in cc
+
+pub differs : (a b : Term) → (a ≡ b → ⊥) → term_eq a b ≡ false
+differs a b no_path = go (term_eq a b) refl
+  where
+    go : (b' : Bool) → term_eq a b ≡ b' → term_eq a b ≡ false
+    go true e = absurd (no_path (term_eq-true a b e))
+    go false e = e
+
+pub differs_call : (f : Symbol) (ts : List Term) (x : Symbol) → term_eq (Call f ts) (Var x) ≡ false
+differs_call f ts x = differs (Call f ts) (Var x) (call_isnt_var f ts x)
+
+pub differs_quote : (q : Value) (x : Symbol) → term_eq (Quote q) (Var x) ≡ false
+differs_quote q x = differs (Quote q) (Var x) (quote_isnt_var q x)
 
 -- the negation of a term, and whether it is a constant that means nil
 pub negate_var : (x : Symbol) → negate (Var x) ≡ not_of (Var x)
@@ -133,4 +155,4 @@ pub ruleset instances = (subst_var, subst_quote, subst_call)
 
 pub ruleset clauses = (negate_var, negate_quote, negate_call, is_nil_var, is_nil_quote, is_nil_call, conjuncts_var, conjuncts_quote, conjuncts_call, flat_var, flat_quote, flat_call)
 
-pub ruleset recursion = (calls_var, calls_quote, calls_call, cases_var, cases_quote, cases_call, unnested_var, unnested_quote, unnested_call)
+pub ruleset recursion = (differs_call, differs_quote, calls_var, calls_quote, calls_call, cases_var, cases_quote, cases_call, unnested_var, unnested_quote, unnested_call)
