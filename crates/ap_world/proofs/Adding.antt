@@ -1,24 +1,28 @@
 -- What may be added to a sound world so that it stays sound.
-use Rattle.std.proofs.Common.{◌≡◌, ℕ, zero, suc, Bool, true, false, cond, nat_eq, IfSome, List, [], ◌∷◌, ◌++◌, map, length, zip, Option, Some, None, is_some, refl, ap, ◌∙◌, sym, subst, eqb-true, eq-eqb}
-use Rattle.ap_list.specs.Lists.{Each, all_true, is_distinct}
+use Rattle.std.proofs.Common.{◌≡◌, ℕ, zero, suc, Bool, true, false, cond, nat_eq, IfSome, List, [], ◌∷◌, ◌++◌, map, length, zip, Option, Some, None, is_some, refl, ap, ◌∙◌, sym, subst, true≢false, eqb-true, eq-eqb}
+use Rattle.ap_list.specs.Lists.{Each, all_true, joined, is_distinct}
 use Rattle.ap_value.specs.declared.symbol.Symbol.{Symbol}
 use Rattle.ap_value.specs.declared.value.Value.{Value}
 use Rattle.ap_value.specs.Values.{V, symbol_eq}
 use Rattle.ap_value.proofs.Equals.{symbol_eq-true, symbol_eq-same}
+use Rattle.ap_term.specs.declared.term.Term.{Term, Call}
+use Rattle.ap_term.proofs.Induction.{term_ind}
 use Rattle.ap_world.specs.declared.entry.Measure.{Measure}
 use Rattle.ap_world.specs.declared.entry.Function.{Function}
 use Rattle.ap_world.specs.declared.entry.Theorem.{Theorem}
 use Rattle.ap_world.specs.declared.entry.Entry.{Entry}
 use Rattle.ap_world.specs.declared.entry.Entry.TheVariants as entry
+use Rattle.ap_world.specs.Primitives.{prim_of}
 use Rattle.ap_world.specs.Meaning.{Defs, meaning, body_value, calls, HasValue, CallValue, Total, Valid}
 use Rattle.ap_world.specs.Types.{Has}
-use Rattle.ap_world.specs.Recursion.{has_no_call}
-use Rattle.ap_world.specs.Sound.{known, components, speaks_of, given_function, DefinedAlike, Recurs, GoodFunction, GoodTheorem, Good, Sound}
+use Rattle.ap_world.specs.Recursion.{is_empty, calls_in, has_no_call}
+use Rattle.ap_world.specs.Sound.{takes, is_head, known, components, speaks_of, given_function, DefinedAlike, Recurs, GoodFunction, GoodTheorem, Good, Sound}
 use Rattle.ap_world.specs.World.{name_in, entry_of, as_function, function_of, has_name}
 use Rattle.ap_world.proofs.Fuel.{call_unique, value_unique}
-use Rattle.ap_world.proofs.Knowing.{each_same}
+use Rattle.ap_world.proofs.Knowing.{known_head, known_args, each_true, each_same}
+use Rattle.ap_world.proofs.Written.{calls_var, calls_quote, calls_call}
 use Rattle.ap_world.proofs.TotalMeaning.{known_valued}
-use Rattle.ap_world.proofs.Extending.{Extends, value_extend, call_extend, known_extend, all_known_extend, valid_extend, entry_of-kept, extends-append, function_of-theorem, function_of-constant, function_of-here, function_of-other}
+use Rattle.ap_world.proofs.Extending.{Extends, value_extend, call_extend, known_extend, all_known_extend, valid_extend, entry_of-kept, not_taken, extends-append, function_of-theorem, function_of-constant, function_of-here, function_of-other}
 
 pub each_append : {A : Type 0} (P : A → Type 0) (xs ys : List A) → Each P xs → Each P ys → Each P (xs ++ ys)
 each_append P [] ys ps qs = qs
@@ -199,13 +203,40 @@ plain_call W f total fresh body_known vs v l h = go h
         subst (λ u. HasValue D f.body (zip f.formals vs) u)
         (value_unique E f.body (zip f.formals vs) w v larger (n, sym (opened n) ∙ k)) d
 
+-- a known term doesn't call a name that isn't defined
+pub known_no_call : (D : Defs) (F : Symbol) → prim_of F ≡ None → D F ≡ None → (u : Term) → known D u ≡ true → calls_in F u ≡ []
+known_no_call D F no_prim undefined u u_known = term_ind Goal (λ x k. calls_var F x) (λ q k. calls_quote F q) call u u_known
+  where
+    Goal : Term → Type 0
+    Goal u = known D u ≡ true → calls_in F u ≡ []
+
+    args : (ts : List Term) → Each Goal ts → Each (λ u. known D u ≡ true) ts → joined (map (calls_in F) ts) ≡ []
+    args [] es ks = refl
+    args (t ∷ ts) es ks = ap (λ cs. cs ++ joined (map (calls_in F) ts)) (es.0 ks.0) ∙ args ts es.1 ks.1
+
+    own : (f : Symbol) (ts : List Term) → is_head D f (prim_of f) (length ts) ≡ true → (b : Bool) → symbol_eq f F ≡ b → cond b (ts ∷ []) [] ≡ []
+    own f ts h false q = refl
+    own f ts h true q =
+        let same = subst (λ g. is_head D g (prim_of g) (length ts) ≡ true) (symbol_eq-true f F q) h in
+        absurd (true≢false (sym same ∙ ap (λ o. is_head D F o (length ts)) no_prim ∙ ap (λ o. takes o (length ts)) undefined))
+
+    call : (f : Symbol) (ts : List Term) → Each Goal ts → Goal (Call f ts)
+    call f ts es = λ k. calls_call F f ts
+        ∙ ap (λ cs. cs ++ joined (map (calls_in F) ts)) (own f ts (known_head D f ts k) (symbol_eq f F) refl)
+        ∙ args ts es (each_true (known D) ts (known_args D f ts k))
+
+pub plain_body : (W : List Entry) (f : Function) → has_name W f.name ≡ false → known (function_of W) f.body ≡ true → has_no_call f.name f.body ≡ true
+plain_body W f fresh body_known =
+    let p = not_taken W f.name fresh in
+    ap is_empty (known_no_call (function_of W) f.name p.0 (ap as_function p.1) f.body body_known)
+
 -- a function without a measure may be added whose body is known without it, where the rest of what is asked of it holds
 pub sound-define : (W : List Entry) (f : Function) → Sound W → has_name W f.name ≡ false
     → is_distinct symbol_eq f.formals ≡ true → speaks_of f.formals f.body ≡ true → known (function_of W) f.body ≡ true
-    → f.measure ≡ None → has_no_call f.name f.body ≡ true → f.cases ≡ [] → IfSome (given_function f.name) (DefinedAlike f)
+    → f.measure ≡ None → f.cases ≡ [] → IfSome (given_function f.name) (DefinedAlike f)
     → ((vs : List V) (v : V) → length f.formals ≡ length vs → HasValue (function_of W) f.body (zip f.formals vs) v → Has f.mask v)
     → Sound (W ++ entry.Function f ∷ [])
-sound-define W f sound fresh formals speaks body_known measure plain cases given mask =
+sound-define W f sound fresh formals speaks body_known measure cases given mask =
     sound-function W f sound (total-define W f sound.total fresh body_known) (record {
       formals = formals;
       body_speaks = speaks;
@@ -213,7 +244,7 @@ sound-define W f sound fresh formals speaks body_known measure plain cases given
       body_known = known_extend D E (extends-append W (entry.Function f ∷ [])) f.body body_known;
       measure_known = ap (λ o. all_true (map (known E) (components o))) measure;
       given = given;
-      recursion = subst (λ o. Recurs E f o) (sym measure) (record { plain = plain; cases = cases });
+      recursion = subst (λ o. Recurs E f o) (sym measure) (record { plain = plain_body W f fresh body_known; cases = cases });
       mask = λ vs v l h. mask vs v l (plain_call W f sound.total fresh body_known vs v l h);
     })
   where

@@ -1,5 +1,6 @@
 -- Which terms are known: one line for a variable, a constant and a call, and lists of them.
-use Rattle.std.proofs.Common.{◌≡◌, ℕ, suc, Bool, true, ◌&&◌, List, [], ◌∷◌, map, length, refl, ap, ◌∙◌}
+use Rattle.std.proofs.Common.{◌≡◌, ℕ, Bool, true, ◌&&◌, List, [], ◌∷◌, map, length, refl, ap, ◌∙◌}
+use Rattle.std.proofs.Math.ListN.{length-map}
 use Rattle.ap_list.specs.Lists.{Each, all_true}
 use Rattle.ap_value.specs.declared.symbol.Symbol.{Symbol}
 use Rattle.ap_value.specs.declared.value.Value.{Value}
@@ -10,10 +11,6 @@ use Rattle.ap_world.specs.Primitives.{prim_of}
 use Rattle.ap_world.specs.Meaning.{Defs}
 use Rattle.ap_world.specs.Sound.{is_head, known_step, known}
 
-pub length_map : {A B : Type 0} (f : A → B) (xs : List A) → length (map f xs) ≡ length xs
-length_map f [] = refl
-length_map f (x ∷ xs) = ap (λ (n : ℕ). suc n) (length_map f xs)
-
 pub known_var : (D : Defs) (x : Symbol) → known D (Var x) ≡ true
 known_var D x = fold_var (known_step D) x
 
@@ -21,7 +18,7 @@ pub known_quote : (D : Defs) (q : Value) → known D (Quote q) ≡ true
 known_quote D q = fold_quote (known_step D) q
 
 pub known_call : (D : Defs) (f : Symbol) (ts : List Term) → known D (Call f ts) ≡ (is_head D f (prim_of f) (length ts) && all_true (map (known D) ts))
-known_call D f ts = fold_call (known_step D) f ts ∙ ap (λ (n : ℕ). is_head D f (prim_of f) n && all_true (map (known D) ts)) (length_map (known D) ts)
+known_call D f ts = fold_call (known_step D) f ts ∙ ap (λ (n : ℕ). is_head D f (prim_of f) n && all_true (map (known D) ts)) (length-map ts (known D))
 
 -- a call is known where its head is one of so many arguments, and each argument is known
 pub known_head : (D : Defs) (f : Symbol) (ts : List Term) → known D (Call f ts) ≡ true → is_head D f (prim_of f) (length ts) ≡ true

@@ -1,8 +1,12 @@
 pub mod Adding
+pub mod Agreeing
+pub mod Coinciding
 pub mod Equations
 pub mod Extending
 pub mod Fuel
 pub mod Knowing
+pub mod Looking
 pub mod Places
 pub mod Starting
 pub mod TotalMeaning
+pub mod Written

@@ -1,6 +1,7 @@
 -- What terms mean in a total world, with no units and no missing value: a plain fold over what calls
 -- give. It is the tool of the proofs about total worlds; no contract speaks of it.
 use Rattle.std.proofs.Common.{◌≡◌, ◌≢◌, ℕ, zero, suc, ◌+◌, Bool, true, false, cond, nat_eq, List, [], ◌∷◌, ◌++◌, map, length, zip, Option, Some, None, unwrap_or, refl, ap, ◌∙◌, sym, subst, add_comm, eqb-true, eq-eqb, inl, inr, arith}
+use Rattle.std.proofs.Math.ListN.{length-map}
 use Rattle.ap_list.specs.Lists.{Each, AnyOf, with_first, all_some, all_true, lookup_by}
 use Rattle.ap_value.specs.declared.symbol.Symbol.{Symbol}
 use Rattle.ap_value.specs.declared.value.Value.{Value}
@@ -14,7 +15,7 @@ use Rattle.ap_world.specs.Primitives.{nil, Prim, If, Equal, Consp, Integerp, Sym
 use Rattle.ap_world.specs.Meaning.{Env, value_at, Defs, Calls, if_of, applied, prim_call, head_call, meaning, body_value, calls, ev, HasValue, CallValue, Total, IsHeld, Valid}
 use Rattle.ap_world.specs.Sound.{is_head, takes, known}
 use Rattle.ap_world.proofs.Fuel.{CallsKeep, meaning_var, meaning_quote, meaning_call, meaning_keep, calls_more, ev-more, call_unique}
-use Rattle.ap_world.proofs.Knowing.{length_map, known_head, known_args, each_true, each_same}
+use Rattle.ap_world.proofs.Knowing.{known_head, known_args, each_true, each_same}
 
 -- what each call gives
 abbrev pub Apply : Type 0
@@ -270,8 +271,8 @@ values_are : (D : Defs) (A : Apply) (e : Env) (n : ℕ) (ts : List Term) → Eac
 values_are D A e n [] es = refl
 values_are D A e n (t ∷ ts) es = ap (λ o. o ∷ map (λ m. m e) (map (meaning (calls n D)) ts)) es.0 ∙ ap (λ os. Some (val A t e) ∷ os) (values_are D A e n ts es.1)
 
-vals_length : (A : Apply) (ts : List Term) (e : Env) → length (values_of A ts e) ≡ length ts
-vals_length A ts e = length_map (λ m. m e) (map (val A) ts) ∙ length_map (val A) ts
+pub values_of-length : (A : Apply) (ts : List Term) (e : Env) → length (values_of A ts e) ≡ length ts
+values_of-length A ts e = length-map (map (val A) ts) (λ m. m e) ∙ length-map ts (val A)
 
 -- a known term has its value
 pub val_is : (D : Defs) (A : Apply) → Models D A → (u : Term) → known D u ≡ true → (e : Env) → HasValue D u e (val A u e)
@@ -298,7 +299,7 @@ val_is D A m u u_known e = term_ind Goal variable constant call u u_known
 
     call : (f : Symbol) (ts : List Term) → Each Goal ts → Goal (Call f ts)
     call f ts es = λ k. ready f ts
-        (head_ready D A m f (prim_of f) (values_of A ts e) (rw (vals_length A ts e) (known_head D f ts k)))
+        (head_ready D A m f (prim_of f) (values_of A ts e) (rw (values_of-length A ts e) (known_head D f ts k)))
         (valued_args D A e ts (args ts es (each_true (known D) ts (known_args D f ts k))))
 
 -- in a total world each known term has a value

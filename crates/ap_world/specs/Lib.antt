@@ -7,3 +7,4 @@ pub mod Clauses
 pub mod Recursion
 pub mod Sound
 pub mod World
+pub mod Laws

@@ -1,0 +1,74 @@
+-- The laws of meaning and soundness, as the public functions of the module of laws state them.
+use Rattle.std.specs.Prelude.{◌≡◌, ℕ, ◌+◌, Bool, true, ◌&&◌, ◌||◌, ◌↔◌, List, [], ◌∷◌, ◌++◌, map, Option, Some, None, is_some}
+use Rattle.ap_list.specs.Lists.{all_true}
+use Rattle.ap_value.specs.declared.symbol.Symbol.{Symbol}
+use Rattle.ap_value.specs.Values.{V}
+use Rattle.ap_term.specs.declared.term.Term.{Term, fold-Term, Call}
+use Rattle.ap_term.specs.declared.term.Term.TheOpen.{Term-F}
+use Rattle.ap_world.specs.declared.entry.Function.{Function}
+use Rattle.ap_world.specs.declared.entry.Entry.{Entry}
+use Rattle.ap_world.specs.declared.entry.Entry.TheVariants as entry
+use Rattle.ap_world.specs.Names.{equal_name}
+use Rattle.ap_world.specs.Primitives.{prim_of}
+use Rattle.ap_world.specs.Meaning.{Env, Defs, ev, HasValue, CallValue, Total, Valid}
+use Rattle.ap_world.specs.Sound.{known, not_function, Sound}
+use Rattle.ap_world.specs.World.{function_of}
+
+-- a value that some number of units gives, every greater number gives
+abbrev pub MoreFuelKeeps : Type 0
+MoreFuelKeeps = (D : Defs) (k n : ℕ) (u : Term) (e : Env) (v : V) → ev n D u e ≡ Some v → ev (k + n) D u e ≡ Some v
+
+-- a term has one value at most, and so has a call
+abbrev pub ValuesAreUnique : Type 0
+ValuesAreUnique = (D : Defs) (u : Term) (e : Env) (v w : V) → HasValue D u e v → HasValue D u e w → v ≡ w
+
+abbrev pub CallsAreUnique : Type 0
+CallsAreUnique = (D : Defs) (f : Symbol) (vs : List V) (v w : V) → CallValue D f vs v → CallValue D f vs w → v ≡ w
+
+-- where every function is total, each known term has a value under every assignment
+abbrev pub KnownTermsHaveValues : Type 0
+KnownTermsHaveValues = (D : Defs) → Total D → (u : Term) → known D u ≡ true → (e : Env) → (v : V) × HasValue D u e v
+
+-- entries that are added keep the value of every term that has one
+abbrev pub EntriesKeepValues : Type 0
+EntriesKeepValues = (W X : List Entry) (u : Term) (e : Env) (v : V) → HasValue (function_of W) u e v → HasValue (function_of (W ++ X)) u e v
+
+-- so they keep validity, and of terms that the old world knows they make nothing valid that wasn't
+abbrev pub EntriesKeepValidity : Type 0
+EntriesKeepValidity = (W X : List Entry) (c : List Term) → Valid (function_of W) c → Valid (function_of (W ++ X)) c
+
+abbrev pub EntriesAddNoValidity : Type 0
+EntriesAddNoValidity = (W X : List Entry) (c : List Term) → Total (function_of W) → all_true (map (known (function_of W)) c) ≡ true
+    → Valid (function_of (W ++ X)) c → Valid (function_of W) c
+
+-- each call in a term is one of a primitive or of a name of the set, which is given by its test
+abbrev pub calls_only_step : (Symbol → Bool) → Term-F Bool → Bool
+calls_only_step S (Term-F.Var x) = true
+calls_only_step S (Term-F.Quote v) = true
+calls_only_step S (Term-F.Call f ks) = (is_some (prim_of f) || S f) && all_true ks
+
+abbrev pub calls_only : (Symbol → Bool) → Term → Bool
+calls_only S = fold-Term Bool (calls_only_step S)
+
+-- two definitions have one meaning: the same formals and the same body, or neither is there
+abbrev pub Alike : Option Function → Option Function → Type 0
+Alike None None = Unit {0}
+Alike (Some f) (Some g) = (f.formals ≡ g.formals) × (f.body ≡ g.body)
+Alike o p = ⊥
+
+-- the two worlds define each name of the set alike, and the bodies there call no name beyond it
+pub record AgreeOn (S : Symbol → Bool) (D E : Defs) : Type 0 where
+  pub alike : (f : Symbol) → S f ≡ true → Alike (D f) (E f)
+  pub closed : (f : Symbol) (g : Function) → S f ≡ true → D f ≡ Some g → calls_only S g.body ≡ true
+
+-- worlds that define the functions of a clause, and all that these call, alike agree on its validity
+abbrev pub WorldsThatAgree : Type 0
+WorldsThatAgree = (S : Symbol → Bool) (D E : Defs) → AgreeOn S D E → (c : List Term) → all_true (map (calls_only S) c) ≡ true → Valid D c ↔ Valid E c
+
+-- a known term equals itself
+abbrev pub EqualSidesAreValid : Type 0
+EqualSidesAreValid = (D : Defs) → Total D → (u : Term) → known D u ≡ true → Valid D (Call equal_name (u ∷ u ∷ []) ∷ [])
+
+-- the world of `not` alone is sound
+abbrev pub StartingWorldIsSound : Type 0
+StartingWorldIsSound = Sound (entry.Function not_function ∷ [])

@@ -1,0 +1,41 @@
+//! The laws of meaning and soundness, each the contract of a function that does nothing.
+ghost use Rattle.ap_world.specs.Laws.{MoreFuelKeeps, ValuesAreUnique, CallsAreUnique, KnownTermsHaveValues, EntriesKeepValues, EntriesKeepValidity, EntriesAddNoValidity, WorldsThatAgree, EqualSidesAreValid, StartingWorldIsSound};
+
+/// A value that some number of units gives, every greater number gives.
+pub fn more_fuel()
+    ensures { MoreFuelKeeps }
+{}
+
+/// A term has one value at most under an assignment, and a call has one at most.
+pub fn value_is_unique()
+    ensures terms { ValuesAreUnique }
+    ensures calls { CallsAreUnique }
+{}
+
+/// Where every function is total, each known term has a value under every assignment.
+pub fn known_terms_have_values()
+    ensures { KnownTermsHaveValues }
+{}
+
+/// Entries that are added keep the value of every term, and what is valid. Of terms that the old world
+/// knows they make nothing valid that wasn't.
+pub fn entries_keep_values()
+    ensures values { EntriesKeepValues }
+    ensures valid { EntriesKeepValidity }
+    ensures back { EntriesAddNoValidity }
+{}
+
+/// Worlds that define the functions of a clause, and all that these call, alike agree on its validity.
+pub fn worlds_that_agree()
+    ensures { WorldsThatAgree }
+{}
+
+/// In a total world a known term equals itself.
+pub fn equal_sides_are_valid()
+    ensures { EqualSidesAreValid }
+{}
+
+/// The world whose one entry is `not` is sound.
+pub fn starting_world_is_sound()
+    ensures { StartingWorldIsSound }
+{}
