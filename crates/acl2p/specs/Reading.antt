@@ -1,15 +1,18 @@
 -- The first grammar: `(in-package "ACL2")`, then theorems `(defthm NAME TERM :rule-classes nil)` whose
 -- terms are variables, `t`, `nil` and calls of `if` and `equal`. It goes away when the reader of forms comes.
-use Rattle.std.specs.Prelude.{ℕ, suc, zero, ◌-◌, Bool, true, false, cond, not, ◌&&◌, ◌||◌, nat_eq, nat_le, List, [], ◌∷◌, ◌++◌, map, length, codes, Option, Some, None, option_and_then}
+use Rattle.std.specs.Prelude.{◌≡◌, ℕ, suc, zero, ◌-◌, Bool, true, false, cond, not, ◌&&◌, ◌||◌, nat_eq, nat_le, List, [], ◌∷◌, map, length, codes, Option, Some, None, option_and_then}
 use Rattle.std.specs.List.{list_all}
 use Rattle.ap_value.specs.declared.symbol.Symbol.{Symbol}
 use Rattle.ap_value.specs.declared.value.Value.TheVariants.{Sym}
-use Rattle.ap_value.specs.Values.{acl2, bytes_eq}
-use Rattle.ap_term.specs.declared.term.Term.{Term, Var, Quote, Call}
+use Rattle.ap_list.specs.Lists.{Each, all_true}
+use Rattle.ap_value.specs.Values.{acl2, bytes_eq, symbol_eq}
+use Rattle.ap_term.specs.declared.term.Term.{Term, fold-Term, Var, Quote, Call}
+use Rattle.ap_term.specs.declared.term.Term.TheOpen.{Term-F}
 use Rattle.ap_term.specs.Terms.{term_size}
 use Rattle.acl2p.specs.declared.reader.Token.{Token}
 use Rattle.acl2p.specs.declared.reader.Token.TheVariants.{Open, Close, Word}
 use Rattle.acl2p.specs.declared.reader.Line.{Line}
+use Rattle.ap_world.specs.Names.{if_name, equal_name}
 use Rattle.acl2p.specs.Command.{is_between, is_letter, is_digit}
 
 -- blanks are the newline and the space; a word runs to a blank, a parenthesis or the end
@@ -95,7 +98,7 @@ terms_at f (suc n) ts = option_and_then (λ r. with_first_term r.0 (terms_at f n
 unfoldable pub call_at : (List Token → Option (Term × List Token)) → List Token → Option (Term × List Token)
 call_at f ts =
     option_and_then (λ h. option_and_then (λ n. option_and_then (λ r. option_and_then (λ rest. Some (Call (acl2 (upper h.0)) r.0, rest))
-        (after_close r.1)) (terms_at f n h.1)) (arity_of h.0)) (after_word ts)
+    (after_close r.1)) (terms_at f n h.1)) (arity_of h.0)) (after_word ts)
 
 -- a term under so many open parentheses more
 abbrev pub term_at : ℕ → List Token → Option (Term × List Token)
@@ -119,11 +122,14 @@ after_classes ts = option_and_then (λ r. option_and_then after_close (after_sai
 abbrev pub name_at : List Token → Option (List ℕ × List Token)
 name_at ts = option_and_then (λ h. cond (is_name h.0) (Some (upper h.0, h.1)) None) (after_word ts)
 
+abbrev pub line_of : List ℕ → Term → Line
+line_of n u = record { name = acl2 n; term = u }
+
 unfoldable pub line_at : List Token → Option (Line × List Token)
 line_at ts =
     option_and_then (λ a. option_and_then (λ b. option_and_then (λ n. option_and_then (λ u. option_and_then (λ rest.
-        Some (record { name = acl2 n.0; term = u.0 }, rest)) (after_classes u.1)) (within_size (term_at 399 n.1))) (name_at b))
-        (after_said (codes "DEFTHM") a)) (after_open ts)
+    Some (line_of n.0 u.0, rest)) (after_classes u.1)) (within_size (term_at 399 n.1))) (name_at b))
+    (after_said (codes "DEFTHM") a)) (after_open ts)
 
 -- theorems to the end, where there are no more than so many
 abbrev pub with_first_line : Line → Option (List Line) → Option (List Line)
@@ -146,3 +152,19 @@ after_header ts =
 -- the theorems of a book, where its bytes are in the grammar
 unfoldable pub book_of : List ℕ → Option (List Line)
 book_of bytes = let ts = tokens_of bytes in option_and_then (lines_at (length ts)) (after_header ts)
+
+-- a term of the grammar: each call is one of `if` with three arguments or of `equal` with two
+abbrev pub takes_plainly : Symbol → ℕ → Bool
+takes_plainly f n = (symbol_eq f if_name && nat_eq n 3) || (symbol_eq f equal_name && nat_eq n 2)
+
+abbrev pub plain_step : Term-F Bool → Bool
+plain_step (Term-F.Var x) = true
+plain_step (Term-F.Quote v) = true
+plain_step (Term-F.Call f ks) = takes_plainly f (length ks) && all_true ks
+
+abbrev pub is_plain_term : Term → Bool
+is_plain_term = fold-Term Bool plain_step
+
+-- each theorem's term is one
+abbrev pub are_plain : List Line → Type 0
+are_plain = Each (λ (l : Line). is_plain_term l.term ≡ true)

@@ -1,6 +1,5 @@
 -- The session: what is printed, which status and which world the words and the books give.
-use Rattle.std.specs.Prelude.{ℕ, Bool, true, false, cond, ◌&&◌, List, [], ◌∷◌, ◌++◌, Option, Some, None}
-use Rattle.ap_value.specs.declared.symbol.Symbol.{Symbol}
+use Rattle.std.specs.Prelude.{◌≡◌, ℕ, Bool, true, false, cond, List, [], ◌∷◌, ◌++◌, Option, Some, None, codes, IfSome}
 use Rattle.ap_value.specs.Values.{symbol_eq}
 use Rattle.ap_term.specs.declared.term.Term.{Term, out-Term}
 use Rattle.ap_term.specs.declared.term.Term.TheOpen.{Term-F}
@@ -13,7 +12,10 @@ use Rattle.ap_outside.specs.declared.library.BookRead.{BookRead}
 use Rattle.ap_outside.specs.declared.library.BookRead.TheVariants.{Absent, TooLong, Found}
 use Rattle.acl2p.specs.declared.reader.Line.{Line}
 use Rattle.acl2p.specs.declared.report.Status.{Status}
-use Rattle.acl2p.specs.declared.report.Status.TheVariants.{Certified, NotCertified, Usage}
+use Rattle.acl2p.specs.declared.report.Status.TheVariants.{Certified, NotCertified, Usage, ReadFault, WriteFault, NoMemory}
+use Rattle.acl2p.specs.declared.report.BookSeen.{BookSeen}
+use Rattle.ap_outside.specs.Files.{Files, told_at}
+use Rattle.ap_outside.specs.Books.{answer_of}
 use Rattle.acl2p.specs.Command.{command_of}
 use Rattle.acl2p.specs.Reading.{book_of}
 use Rattle.acl2p.specs.Texts.{usage_text, opening, closing, absent_text, too_long_text, not_yet_text, proved_text, taken_text, not_supported_text}
@@ -45,8 +47,8 @@ unfoldable pub event_of : Shown → Line → Step
 event_of w l =
     cond (has_name w.entries l.name) (record { text = taken_text l.name.name; next = None })
     (cond (is_proved l.term)
-        (record { text = proved_text l.name.name; next = Some (added w (entry.Theorem (record { name = l.name; term = l.term; classes = [] }))) })
-        (record { text = not_supported_text; next = None }))
+    (record { text = proved_text l.name.name; next = Some (added w (entry.Theorem (record { name = l.name; term = l.term; classes = [] }))) })
+    (record { text = not_supported_text; next = None }))
 
 -- a book's text between its first and last lines, whether it is certified, and the world after it
 pub record Body : Type 0 where
@@ -79,10 +81,10 @@ body_of Absent = without_events absent_text
 body_of TooLong = without_events too_long_text
 body_of (Found book) = read_body (book_of book.0)
 
--- what the session gives
+-- what the session gives; it has no status where the book that the words name wasn't read
 pub record Session : Type 0 where
   pub text : List ℕ
-  pub status : Status
+  pub status : Option Status
   pub world : Shown
 
 abbrev pub status_of : Bool → Status
@@ -90,16 +92,54 @@ status_of true = Certified
 status_of false = NotCertified
 
 unfoldable pub shown_book : List ℕ → Body → Session
-shown_book name b = record { text = opening name ++ b.text ++ closing name b.certified; status = status_of b.certified; world = b.world }
+shown_book name b = record { text = opening name ++ b.text ++ closing name b.certified; status = Some (status_of b.certified); world = b.world }
 
 -- by the words, and by what the read of the book that they name answered, if it did
 abbrev pub answered : List ℕ → Option BookRead → Session
-answered name None = record { text = []; status = NotCertified; world = start }
+answered name None = record { text = []; status = None; world = start }
 answered name (Some r) = shown_book name (body_of r)
 
 abbrev pub commanded : Option (List ℕ) → Option BookRead → Session
-commanded None read = record { text = usage_text; status = Usage; world = start }
+commanded None read = record { text = usage_text; status = Some Usage; world = start }
 commanded (Some name) read = answered name read
 
 abbrev pub session : List (List ℕ) → Option BookRead → Session
 session words read = commanded (command_of words) read
+
+-- the file that a book is read from
+abbrev pub file_name : List ℕ → List ℕ
+file_name name = name ++ codes ".lisp"
+
+-- what the first of the books read answered
+abbrev pub first_read : List BookSeen → Option BookRead
+first_read [] = None
+first_read (b ∷ bs) = Some b.read
+
+-- the session ended by itself, and not by a fault
+abbrev pub is_done : Status → Bool
+is_done Certified = true
+is_done NotCertified = true
+is_done Usage = true
+is_done ReadFault = false
+is_done WriteFault = false
+is_done NoMemory = false
+
+-- the exit status
+abbrev pub number_of : Status → ℕ
+number_of Certified = 0
+number_of NotCertified = 1
+number_of Usage = 2
+number_of ReadFault = 3
+number_of WriteFault = 4
+number_of NoMemory = 5
+
+-- by itself, or for want of memory
+abbrev pub EndsItself : Status → Type 0
+EndsItself NoMemory = Unit {0}
+EndsItself s = is_done s ≡ true
+
+-- the books of a report: none, or the one that the words name, with what the library told at the start
+abbrev pub Listed : Option Files → Option (List ℕ) → List BookSeen → Type 0
+Listed told command [] = Unit {0}
+Listed told command (b ∷ []) = (command ≡ Some b.name.0) × IfSome (told_at told (file_name b.name.0)) (λ found. b.read ≡ answer_of found)
+Listed told command (b ∷ c ∷ bs) = ⊥

@@ -1,5 +1,5 @@
 -- The printed texts.
-use Rattle.std.specs.Prelude.{ℕ, Bool, true, false, cond, List, [], ◌∷◌, ◌++◌, codes}
+use Rattle.std.specs.Prelude.{ℕ, Bool, true, false, List, [], ◌∷◌, ◌++◌, codes}
 
 -- a text and the end of its line
 abbrev pub line : List ℕ → List ℕ

@@ -3,7 +3,7 @@ ghost use Rattle.std.specs.List.{list_all};
 ghost use Rattle.ap_value.specs.Values.{acl2};
 ghost use Rattle.ap_term.specs.Terms.{term_size};
 ghost use Rattle.acl2p.specs.Command.{is_letter};
-ghost use Rattle.acl2p.specs.Reading.{is_plain_byte, begins_with_letter, is_blank, is_word_byte, goes_on, raised, tokens_of, upper, says, is_name, atom_of, arity_of, after_open, after_close, after_word, terms_at, call_at, term_at, within_size, after_said, after_classes, name_at, line_at, lines_at, after_package, after_header, book_of};
+ghost use Rattle.acl2p.specs.Reading.{is_plain_byte, begins_with_letter, is_blank, is_word_byte, goes_on, raised, tokens_of, upper, says, is_name, atom_of, arity_of, after_open, after_close, after_word, terms_at, call_at, term_at, within_size, after_said, after_classes, name_at, line_at, lines_at, after_package, after_header, book_of, are_plain};
 
 use ap_list::{Bytes, NoMemory, Seq};
 use ap_term::{Term, size};
@@ -213,7 +213,11 @@ fn word(tokens: &[Token]) -> Option<(&[u8], &[Token])>
 
 /// A term under at most so many open parentheses more, and what follows it.
 #[cycle(terms)]
-fn term<'a>(alloc: Global, depth: u32, tokens: &'a [Token]) -> Result<Option<(Term, &'a [Token])>, NoMemory>
+fn term<'a>(
+    alloc: Global,
+    depth: u32,
+    tokens: &'a [Token],
+) -> Result<Option<(Term, &'a [Token])>, NoMemory>
     ensures { IfOk result (λ o. option_map (λ r. (r.0, r.1.now)) o ≡ term_at depth tokens.now) }
 {
     if let Some((name, rest)) = word(tokens) {
@@ -231,7 +235,11 @@ fn term<'a>(alloc: Global, depth: u32, tokens: &'a [Token]) -> Result<Option<(Te
 /// A call, behind its open parenthesis, and what follows it.
 #[cycle(terms)]
 #[tactic(auto, unfolding(crate::specs::Reading::call_at))]
-fn call<'a>(alloc: Global, depth: u32, tokens: &'a [Token]) -> Result<Option<(Term, &'a [Token])>, NoMemory>
+fn call<'a>(
+    alloc: Global,
+    depth: u32,
+    tokens: &'a [Token],
+) -> Result<Option<(Term, &'a [Token])>, NoMemory>
     ensures { IfOk result (λ o. option_map (λ r. (r.0, r.1.now)) o ≡ call_at (term_at depth) tokens.now) }
 {
     let Some((head, rest)) = word(tokens) else {
@@ -251,7 +259,12 @@ fn call<'a>(alloc: Global, depth: u32, tokens: &'a [Token]) -> Result<Option<(Te
 
 /// So many terms, and what follows them.
 #[cycle(terms)]
-fn terms<'a>(alloc: Global, depth: u32, count: u32, tokens: &'a [Token]) -> Result<Option<(Seq<Term>, &'a [Token])>, NoMemory>
+fn terms<'a>(
+    alloc: Global,
+    depth: u32,
+    count: u32,
+    tokens: &'a [Token],
+) -> Result<Option<(Seq<Term>, &'a [Token])>, NoMemory>
     ensures { IfOk result (λ o. option_map (λ r. (r.0, r.1.now)) o ≡ terms_at (term_at depth) count tokens.now) }
 {
     let mut out = Seq::new(alloc);
@@ -289,7 +302,10 @@ fn classes(tokens: &[Token]) -> Option<&[Token]>
 }
 
 /// A term of at most 4,096 nodes under at most 399 parentheses, and what follows it.
-fn short_term<'a>(alloc: Global, tokens: &'a [Token]) -> Result<Option<(Term, &'a [Token])>, NoMemory>
+fn short_term<'a>(
+    alloc: Global,
+    tokens: &'a [Token],
+) -> Result<Option<(Term, &'a [Token])>, NoMemory>
     ensures { IfOk result (λ o. option_map (λ r. (r.0, r.1.now)) o ≡ within_size (term_at 399 tokens.now)) }
 {
     let Some((term, rest)) = term(alloc, 399, tokens)? else {
@@ -353,7 +369,11 @@ fn lines(alloc: Global, count: usize, tokens: &[Token]) -> Result<Option<Seq<Lin
             None => return Ok(None),
         }
     }
-    if rest.is_empty() { Ok(Some(out)) } else { Ok(None) }
+    if rest.is_empty() {
+        Ok(Some(out))
+    } else {
+        Ok(None)
+    }
 }
 
 /// What follows the string "ACL2".
@@ -378,9 +398,9 @@ fn header(tokens: &[Token]) -> Option<&[Token]>
     close(rest)
 }
 
-/// The theorems of a book, or `None` where its bytes aren't in the first grammar.
+/// The theorems of a book by its tokens.
 #[tactic(auto, unfolding(crate::specs::Reading::book_of))]
-pub(crate) fn book(alloc: Global, bytes: &[u8]) -> Result<Option<Seq<Line>>, NoMemory>
+fn whole_book(alloc: Global, bytes: &[u8]) -> Result<Option<Seq<Line>>, NoMemory>
     ensures { IfOk result (λ o. o ≡ book_of bytes.now) }
 {
     let tokens = tokens(alloc, bytes)?;
@@ -388,4 +408,14 @@ pub(crate) fn book(alloc: Global, bytes: &[u8]) -> Result<Option<Seq<Line>>, NoM
         Some(rest) => lines(alloc, tokens.len(), rest),
         None => Ok(None),
     }
+}
+
+/// The theorems of a book, or `None` where its bytes aren't in the first grammar.
+#[tactic(auto, using(crate::proofs::Plainness::plain_some))]
+pub(crate) fn book(alloc: Global, bytes: &[u8]) -> Result<Option<Seq<Line>>, NoMemory>
+    ensures is { IfOk result (λ o. o ≡ book_of bytes.now) }
+    ensures plain { IfOk result (λ o. IfSome o are_plain) }
+{
+    let lines = whole_book(alloc, bytes)?;
+    Ok(lines)
 }

@@ -1,4 +1,4 @@
-use Rattle.std.proofs.Common.{◌≡◌, ◌+◌, ◌-◌, ◌*◌, ◌≤◌, ◌++◌}
+use Rattle.std.proofs.Common.{◌≡◌, ◌+◌, ◌-◌, ◌*◌}
 use Rattle.acl2p.specs.Reading.{terms_at, term_at}
 use Rattle.acl2p.proofs.Grammars.{with_front}
 use Rattle.acl2p.proofs.reader.+terms.Given as goal

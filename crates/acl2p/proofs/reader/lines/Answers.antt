@@ -1,5 +1,4 @@
-use Rattle.std.proofs.Common.{◌≡◌, ◌+◌, ◌-◌, suc, Some, List, [], arith, rules}
-use Rattle.acl2p.specs.declared.reader.Token.{Token}
+use Rattle.std.proofs.Common.{◌≡◌, ◌+◌, ◌-◌, suc, Some, [], arith, rules}
 use Rattle.acl2p.specs.Reading.{line_at, lines_at}
 use Rattle.acl2p.proofs.Grammars.{next_line}
 use Rattle.acl2p.proofs.reader.lines.Goals as goal
@@ -10,4 +9,4 @@ loop-i-preserved c =
     let read : Some (c.in-Some.next, c.in-Some.more.now) ≡ line_at c.loop-i.rest.now = search rules in
     let some : c.loop-i.rest.now ≡ [] → ⊥ = search rules in
     next_line c.loop-i.out c.push.new.self c.in-Some.next (c.args.count - c.loop-i._i) (c.args.count - (c.loop-i._i + 1)) c.loop-i.rest.now c.in-Some.more.now
-        (lines_at c.args.count c.args.tokens.now) some less read c.in_ok-push-in-Some.ensures.ok c.loop-i.invariant
+    (lines_at c.args.count c.args.tokens.now) some less read c.in_ok-push-in-Some.ensures.ok c.loop-i.invariant

@@ -1,0 +1,11 @@
+use Rattle.std.proofs.Common.{◌≤◌, drop}
+use Rattle.acl2p.specs.Session.{events_of}
+use Rattle.acl2p.proofs.Showing.{SoFar}
+use Rattle.acl2p.proofs.certifier.show_events.Given as goal
+
+-- the text of the events so far was gained, and what is left gives the rest
+abbrev pub invariant-loop-line : goal.invariant-loop-line
+invariant-loop-line g l = record {
+  so_far : SoFar (g.S.Sink.content l.fn.sink) (g.S.Sink.content l.sink) (events_of l.lines l.fn.world) (events_of (drop l.line-index l.lines) l.world);
+  later : g.S.Sink.faults l.fn.sink ≤ g.S.Sink.faults l.sink;
+}
