@@ -1,2 +1,4 @@
+pub mod Atoms
 pub mod Equal
+pub mod Printed
 pub mod Terms
