@@ -1,2 +1,3 @@
 pub mod Equals
 pub mod Induction
+pub mod StrictOrder

@@ -1,2 +1,5 @@
+pub mod Atoms
 pub mod Equal
+pub mod Order
+pub mod Printed
 pub mod Terms

@@ -2,9 +2,13 @@
 //! the count of steps that a clause may spend.
 #![tactic(auto)]
 
+mod atoms;
+mod order;
 mod steps;
 mod term;
 
 pub use ap_value::{Boxed, Bytes, NoMemory, Seq, Symbol, Value};
+pub use atoms::reads_back;
+pub use order::term_order_is_total;
 pub use steps::{Spent, Steps};
 pub use term::{Clause, Subst, Term, copy_symbols, copy_term, copy_terms, same_term, size};

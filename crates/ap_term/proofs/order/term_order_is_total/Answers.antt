@@ -1,0 +1,5 @@
+use Rattle.ap_term.proofs.StrictOrder.{less-same, less-transitive, less-neither}
+use Rattle.ap_term.proofs.order.term_order_is_total.Goals as goal
+
+pub returns : goal.returns
+returns c = record { strict = less-same; transitive = less-transitive; total = less-neither }
