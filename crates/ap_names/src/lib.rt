@@ -1,0 +1,8 @@
+//! The names of goals, as the ACL2 manual's topic `goal-spec` gives them: `Goal`, `Goal'`,
+//! `Subgoal 2.1''`, `*1.1`, `Subgoal *1.1/3'4'`.
+#![tactic(auto)]
+
+mod name;
+
+pub use ap_list::{Bytes, NoMemory, Seq};
+pub use name::{GoalName, same_name};
