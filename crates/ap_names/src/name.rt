@@ -1,7 +1,9 @@
 ghost use Rattle.std.specs.Prelude.{◌≡◌, ◌<◌, ◌≤◌, ◌↔◌, false, IsTrue, IfOk};
 ghost use Rattle.ap_names.specs.Names.{child_of, primed_of, pushed_of, is_pushed, IsName};
+ghost use Rattle.ap_names.specs.Printed.{name_text};
 
-use ap_list::{NoMemory, Seq};
+use crate::print::{put_induction, put_place, put_primes};
+use ap_list::{Bytes, NoMemory, Seq};
 use std::alloc::Global;
 use std::marker::Model;
 
@@ -104,6 +106,20 @@ impl GoalName {
             path: Seq::new(alloc),
             primes: 0,
         })
+    }
+
+    /// The printed bytes of the name.
+    pub fn print(&self, alloc: Global) -> Result<Bytes, NoMemory>
+        ensures { IfOk result (λ text. text ≡ name_text self.now) }
+    {
+        let mut text = Seq::new(alloc);
+        let path = self.path.as_slice();
+        match self.induction.as_slice().split_first() {
+            None => put_place(&mut text, path)?,
+            Some((first, rest)) => put_induction(&mut text, *first, rest, self.case, path)?,
+        }
+        put_primes(&mut text, self.primes)?;
+        Ok(text)
     }
 
     /// A copy of a name.
