@@ -12,24 +12,44 @@ fn root(alloc: Global) -> GoalName {
     }
 }
 
-fn primed(rt: &impl Abort, alloc: Global, name: &GoalName) -> Result<GoalName, NoMemory> {
-    assert!(rt; !name.is_pushed() && name.primes < 250);
-    name.primed(alloc)
+// The goal with these numbers that is pushed below the root, or the root where there are none.
+fn pushed(alloc: Global, numbers: &[u32]) -> Result<GoalName, NoMemory> {
+    let mut name = root(alloc);
+    for k in numbers {
+        if *k > 0 {
+            name = name.pushed(alloc, *k)?;
+        }
+    }
+    Ok(name)
 }
 
-fn child(alloc: Global, name: &GoalName, k: u32) -> Result<GoalName, NoMemory>
-    requires { 1 ≤ k }
-{
-    name.child(alloc, k)
+// The goal that the moves lead to from another: a prime for 0, a child for each other number.
+fn walked(
+    rt: &impl Abort,
+    alloc: Global,
+    from: GoalName,
+    moves: &[u32],
+) -> Result<GoalName, NoMemory> {
+    let mut name = from;
+    for k in moves {
+        if *k > 0 {
+            name = name.child(alloc, *k)?;
+        } else {
+            assert!(rt; !name.is_pushed() && name.primes < 250);
+            name = name.primed(alloc)?;
+        }
+    }
+    Ok(name)
 }
 
-fn pushed(alloc: Global, name: &GoalName, k: u32) -> Result<GoalName, NoMemory>
-    requires { 1 ≤ k }
-{
-    name.pushed(alloc, k)
-}
-
-fn shows(rt: &impl Abort, alloc: Global, name: &GoalName, text: &[u8]) -> Result<(), NoMemory> {
+fn shows(
+    rt: &impl Abort,
+    alloc: Global,
+    numbers: &[u32],
+    moves: &[u32],
+    text: &[u8],
+) -> Result<(), NoMemory> {
+    let name = walked(rt, alloc, pushed(alloc, numbers)?, moves)?;
     let printed = name.print(alloc)?;
     assert_eq!(rt; printed.as_slice(), text);
     Ok(())
@@ -38,32 +58,25 @@ fn shows(rt: &impl Abort, alloc: Global, name: &GoalName, text: &[u8]) -> Result
 #[test]
 fn names_print_as_the_manual_has_them(rt: HostRuntime) -> Result<(), Fail> {
     let alloc = rt.alloc();
-    let goal = root(alloc);
-    shows(&rt, alloc, &goal, b"Goal")?;
-    let second = child(alloc, &primed(&rt, alloc, &goal)?, 2)?;
-    shows(&rt, alloc, &second, b"Subgoal 2")?;
-    let once = primed(&rt, alloc, &second)?;
-    shows(&rt, alloc, &once, b"Subgoal 2'")?;
-    shows(&rt, alloc, &child(alloc, &once, 1)?, b"Subgoal 2.1")?;
-    let twice = primed(&rt, alloc, &once)?;
-    shows(&rt, alloc, &twice, b"Subgoal 2''")?;
-    let thrice = primed(&rt, alloc, &twice)?;
-    shows(&rt, alloc, &thrice, b"Subgoal 2'''")?;
-    shows(&rt, alloc, &primed(&rt, alloc, &thrice)?, b"Subgoal 2'4'")?;
+    shows(&rt, alloc, &[], &[], b"Goal")?;
+    shows(&rt, alloc, &[], &[0, 2], b"Subgoal 2")?;
+    shows(&rt, alloc, &[], &[2, 0], b"Subgoal 2'")?;
+    shows(&rt, alloc, &[], &[2, 0, 1], b"Subgoal 2.1")?;
+    shows(&rt, alloc, &[], &[2, 1, 0, 0], b"Subgoal 2.1''")?;
+    shows(&rt, alloc, &[], &[0, 0, 0], b"Goal'''")?;
+    shows(&rt, alloc, &[], &[0, 0, 0, 0], b"Goal'4'")?;
+    shows(&rt, alloc, &[1, 2], &[], b"*1.2")?;
+    shows(&rt, alloc, &[1], &[3], b"Subgoal *1/3")?;
+    shows(&rt, alloc, &[1, 1], &[3, 12, 0], b"Subgoal *1.1/3.12'")?;
     Ok(())
 }
 
 #[test]
-fn names_under_an_induction_print_its_numbers(rt: HostRuntime) -> Result<(), Fail> {
+fn a_copy_is_the_same_name(rt: HostRuntime) -> Result<(), Fail> {
     let alloc = rt.alloc();
-    let first = pushed(alloc, &root(alloc), 1)?;
-    let case = child(alloc, &first, 3)?;
-    shows(&rt, alloc, &case, b"Subgoal *1/3")?;
-    shows(&rt, alloc, &child(alloc, &case, 12)?, b"Subgoal *1/3.12")?;
-    let again = pushed(alloc, &case, 2)?;
-    shows(&rt, alloc, &again, b"*1.2")?;
-    let copied = again.copy(alloc)?;
-    assert!(rt; same_name(&again, &copied));
-    assert!(rt; !same_name(&again, &first));
+    let name = pushed(alloc, &[1, 2])?;
+    let copied = name.copy(alloc)?;
+    assert!(rt; same_name(&name, &copied));
+    assert!(rt; !same_name(&name, &root(alloc)));
     Ok(())
 }
