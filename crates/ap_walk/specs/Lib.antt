@@ -1,0 +1,3 @@
+pub mod Visits
+pub mod Tallies
+pub mod Walks
