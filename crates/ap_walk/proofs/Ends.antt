@@ -5,12 +5,7 @@ use Rattle.ap_walk.specs.declared.rule.Tally.{Tally}
 use Rattle.ap_walk.specs.declared.rule.Rule.{Rule}
 use Rattle.ap_walk.specs.declared.rule.End.{End}
 use Rattle.ap_walk.specs.Visits.{Visit}
-use Rattle.ap_walk.specs.Tallies.{IsOpen, can_revert, end_at, tally_at, tally_by, mark_end, end_by}
-
--- neither count of the first tally is above that of the second
-pub record AtMost (low high : Tally) : Type 0 where
-  pub pushes : low.pushes ≤ high.pushes
-  pub goals : low.goals ≤ high.goals
+use Rattle.ap_walk.specs.Tallies.{AtMost, IsOpen, can_revert, end_at, tally_at, tally_by, mark_end, end_by}
 
 pub at_most_same : (t : Tally) → AtMost t t
 at_most_same t = record { pushes = omega arith; goals = omega arith }

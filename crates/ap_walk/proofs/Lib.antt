@@ -1,3 +1,5 @@
 pub mod Ends
 pub mod Cuts
 pub mod Trees
+pub mod Goods
+pub mod Stops

@@ -12,9 +12,8 @@ use Rattle.ap_walk.specs.declared.rule.End.{End}
 use Rattle.ap_walk.specs.declared.mark.Walked.{Walked}
 use Rattle.ap_walk.specs.Visits.{Visit, Tells, visit_of, out_children, reason_number, reason_of}
 use Rattle.ap_walk.specs.Tallies.{zero_tally, is_push, is_stop, tally_by, end_by, tally_after, end_after}
-use Rattle.ap_walk.specs.Walks.{nothing, then, in_order, first_visit, walk_to, walk, walk_all, join_each, marks_to, all_marks, one_mark, cut, full, full_marks}
-use Rattle.ap_walk.proofs.Ends.{AtMost}
-use Rattle.ap_walk.proofs.Cuts.{then_same, then_nothing, cut_append, cut_again}
+use Rattle.ap_walk.specs.Walks.{nothing, and_then, in_order, first_visit, walk_to, walk, walk_all, join_each, marks_to, all_marks, one_mark, cut, full, full_marks}
+use Rattle.ap_walk.proofs.Cuts.{and_then_same, and_then_nothing, cut_append, cut_again}
 
 pub reason_back : (r : Reason) → reason_of (reason_number r) ≡ r
 unfolding reason_of
@@ -67,8 +66,8 @@ module _ {T : Type 0} where
   unfolding cut
   in_order_is_cut rule f g each [] t = refl
   in_order_is_cut rule f g each (c ∷ cs) t =
-      ap (λ w. then w (in_order f cs)) (each c t)
-      ∙ then_same (cut rule t (g c)) (in_order f cs) (λ u. cut rule u (join_each g cs)) (λ _. in_order_is_cut rule f g each cs _)
+      ap (λ w. and_then w (in_order f cs)) (each c t)
+      ∙ and_then_same (cut rule t (g c)) (in_order f cs) (λ u. cut rule u (join_each g cs)) (λ _. in_order_is_cut rule f g each cs _)
       ∙ sym (cut_append rule t (g c) (join_each g cs))
 
 module _ {T : Type 0} (step : T → Stepped T) (tells : (task : T) → Tells (step task).act.process (step task).out) (rule : Rule) where
@@ -77,11 +76,11 @@ module _ {T : Type 0} (step : T → Stepped T) (tells : (task : T) → Tells (st
 
   pub walk_to_is_cut : (n : ℕ) (task : T) (t : Tally) → walk_to step rule n task t ≡ cut rule t (marks_to step n task)
   unfolding walk_to cut marks_to
-  walk_to_is_cut zero task t = first_is_mark task t ∙ sym (then_nothing (one_mark rule t (visit_of task (step task))))
+  walk_to_is_cut zero task t = first_is_mark task t ∙ sym (and_then_nothing (one_mark rule t (visit_of task (step task))))
   walk_to_is_cut (suc n) task t =
       let children = out_children (step task).out in
-      ap (λ w. then w (in_order (walk_to step rule n) children)) (first_is_mark task t)
-      ∙ then_same (one_mark rule t (visit_of task (step task))) (in_order (walk_to step rule n) children) (λ u. cut rule u (join_each (marks_to step n) children))
+      ap (λ w. and_then w (in_order (walk_to step rule n) children)) (first_is_mark task t)
+      ∙ and_then_same (one_mark rule t (visit_of task (step task))) (in_order (walk_to step rule n) children) (λ u. cut rule u (join_each (marks_to step n) children))
         (λ _. in_order_is_cut rule (walk_to step rule n) (marks_to step n) (walk_to_is_cut n) children _)
 
 module _ {T : Type 0} (step : T → Stepped T) (depth : T → ℕ) (deeper : (task : T) → Each (λ c. depth c < depth task) (out_children (step task).out)) where
@@ -120,13 +119,13 @@ module _ {T : Type 0} (step : T → Stepped T) (depth : T → ℕ) (tells : (tas
 
   -- a walk is its own visit, and then the walks of the children
   pub walk_is : (deeper : (task : T) → Each (λ c. depth c < depth task) (out_children (step task).out)) (task : T) (t : Tally)
-    → walk step depth rule task t ≡ then (first_visit step rule task t) (walk_all step depth rule (out_children (step task).out))
+    → walk step depth rule task t ≡ and_then (first_visit step rule task t) (walk_all step depth rule (out_children (step task).out))
   unfolding cut
   walk_is deeper task t =
       let children = out_children (step task).out in
       let mark = visit_of task (step task) in
       walk_is_cut_of_all task t
       ∙ ap (cut rule t) (all_marks_is step depth deeper task)
-      ∙ then_same (one_mark rule t mark) (λ u. cut rule u (join_each (all_marks step depth) children)) (walk_all step depth rule children)
+      ∙ and_then_same (one_mark rule t mark) (λ u. cut rule u (join_each (all_marks step depth) children)) (walk_all step depth rule children)
         (λ _. sym (in_order_is_cut rule (walk step depth rule) (all_marks step depth) walk_is_cut_of_all children _))
-      ∙ ap (λ w. then w (walk_all step depth rule children)) (sym (first_is_mark step tells rule task t))
+      ∙ ap (λ w. and_then w (walk_all step depth rule children)) (sym (first_is_mark step tells rule task t))

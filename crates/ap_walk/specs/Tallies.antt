@@ -21,6 +21,11 @@ pub record IsOpen (rule : Rule) (tally : Tally) : Type 0 where
   pub goals : tally.goals < rule.goal_limit
   pub pushes : IsTrue (can_revert rule) → tally.pushes < 2
 
+-- neither count of the first tally is above that of the second
+pub record AtMost (low high : Tally) : Type 0 where
+  pub pushes : low.pushes ≤ high.pushes
+  pub goals : low.goals ≤ high.goals
+
 -- how a walk that didn't stop goes on from a tally: pushes are 2 where the rule reverts, or else goals
 -- are the limit, or else it goes through
 unfoldable pub end_at : Rule → Tally → End

@@ -24,13 +24,13 @@ continued End.Limit w next = w
 continued (End.Stopped reason) w next = w
 
 -- a walk, and where it goes through what follows from the tally that it left
-abbrev pub then : {T : Type 0} → Walked T → (Tally → Walked T) → Walked T
-then w next = continued w.end w next
+abbrev pub and_then : {T : Type 0} → Walked T → (Tally → Walked T) → Walked T
+and_then w next = continued w.end w next
 
 -- the walks of a list one after another, up to the first that doesn't go through
 abbrev pub in_order : {T : Type 0} → (T → Tally → Walked T) → List T → Tally → Walked T
 in_order walk_one [] tally = nothing tally
-in_order walk_one (task ∷ tasks) tally = then (walk_one task tally) (in_order walk_one tasks)
+in_order walk_one (task ∷ tasks) tally = and_then (walk_one task tally) (in_order walk_one tasks)
 
 -- the visit of a task alone
 abbrev pub first_visit : {T : Type 0} → (T → Stepped T) → Rule → T → Tally → Walked T
@@ -46,7 +46,7 @@ first_visit step rule task tally =
 unfoldable pub walk_to : {T : Type 0} → (T → Stepped T) → Rule → ℕ → T → Tally → Walked T
 walk_to step rule zero task tally = first_visit step rule task tally
 walk_to step rule (suc n) task tally =
-    then (first_visit step rule task tally) (in_order (walk_to step rule n) (out_children (step task).out))
+    and_then (first_visit step rule task tally) (in_order (walk_to step rule n) (out_children (step task).out))
 
 -- the serial walk of a task from a tally
 abbrev pub walk : {T : Type 0} → (T → Stepped T) → (T → ℕ) → Rule → T → Tally → Walked T
@@ -78,7 +78,7 @@ one_mark rule tally mark =
 -- the marks up to the first at which a walk ends, counted from a tally
 unfoldable pub cut : {T : Type 0} → Rule → Tally → List (Visit T) → Walked T
 cut rule tally [] = nothing tally
-cut rule tally (mark ∷ marks) = then (one_mark rule tally mark) (λ next. cut rule next marks)
+cut rule tally (mark ∷ marks) = and_then (one_mark rule tally mark) (λ next. cut rule next marks)
 
 -- the cut of all marks of a task, from the empty tally
 abbrev pub full : {T : Type 0} → (T → Stepped T) → (T → ℕ) → Rule → T → Walked T
