@@ -5,6 +5,7 @@
 #![tactic(auto)]
 
 mod act;
+mod counting;
 mod mark;
 mod rule;
 mod step;
