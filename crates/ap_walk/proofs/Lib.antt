@@ -3,3 +3,4 @@ pub mod Cuts
 pub mod Trees
 pub mod Goods
 pub mod Stops
+pub mod GoOn

@@ -1,12 +1,13 @@
 -- A cut that begins at an open tally ends where a count is what the rule says; each mark counts a goal.
-use Rattle.std.proofs.Common.{◌≡◌, ℕ, suc, ◌+◌, ◌<◌, ◌≤◌, Bool, true, false, ◌&&◌, nat_le, nat_eq, if◌then◌else◌, IsTrue, List, [], ◌∷◌, ◌++◌, length, length-append, add_assoc, add-zero, refl, arith, sym, ◌∙◌, ap}
+use Rattle.std.proofs.Common.{◌≡◌, ℕ, suc, ◌+◌, ◌<◌, ◌≤◌, Bool, true, false, ◌&&◌, nat_le, nat_eq, if◌then◌else◌, IsTrue, List, [], ◌∷◌, ◌++◌, length, length-append, add_assoc, add-zero, refl, arith, sym, ◌∙◌, ap, subst}
 use Rattle.std.proofs.lemmas.Bool.Decides.{nat_tests}
+use Rattle.ap_walk.specs.declared.act.Out.{Out}
 use Rattle.ap_walk.specs.declared.rule.Tally.{Tally}
 use Rattle.ap_walk.specs.declared.rule.Rule.{Rule}
 use Rattle.ap_walk.specs.declared.rule.End.{End}
 use Rattle.ap_walk.specs.declared.mark.Walked.{Walked}
 use Rattle.ap_walk.specs.Visits.{Visit}
-use Rattle.ap_walk.specs.Tallies.{IsOpen, can_revert, end_at, is_push, is_stop, tally_by, end_by, tally_at}
+use Rattle.ap_walk.specs.Tallies.{IsOpen, can_revert, end_at, is_push, is_stop, tally_by, end_by, tally_at, tally_after, end_after}
 use Rattle.ap_walk.specs.Walks.{nothing, and_then, one_mark, cut}
 use Rattle.ap_walk.specs.Laws.{end_when, StopsAt, CountsFrom}
 use Rattle.ap_walk.proofs.Ends.{through_pushes, through_goals}
@@ -130,3 +131,13 @@ module _ {T : Type 0} where
       counts_then_at t (x ∷ []) u (end_by (is_stop x.act.process) rule x.children u) (λ v. cut rule v xs)
       (goals_by (is_push x.act.process) t)
       (cut_counts rule u xs)
+
+opened_after : {T : Type 0} (rule : Rule) (t : Tally) (out : Out T) → IsOpen rule t → end_after rule out (tally_after out t) ≡ End.Through → IsOpen rule (tally_after out t)
+opened_after {T = T} rule t (Out.Split cs) is h = (stops_tested {T = T} rule (tally_by false t) [] (next_by rule false t is)).through h
+opened_after {T = T} rule t Out.Push is h = (stops_tested {T = T} rule (tally_by true t) [] (next_by rule true t is)).through h
+opened_after rule t (Out.Stop r) is h = absurd (cc)
+
+-- a walk that goes through the visit of a task from an open tally leaves an open one
+pub opened_by : {T : Type 0} (rule : Rule) (t : Tally) (out : Out T) (next : Tally) (e : End) → IsOpen rule t → next ≡ tally_after out t → e ≡ end_after rule out next → e ≡ End.Through → IsOpen rule next
+opened_by rule t out next e is counted ends h =
+    subst (IsOpen rule) (sym counted) (opened_after rule t out is (ap (end_after rule out) (sym counted) ∙ sym ends ∙ h))

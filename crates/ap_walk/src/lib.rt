@@ -9,6 +9,7 @@ mod counting;
 mod mark;
 mod rule;
 mod step;
+mod walking;
 
 pub use act::{Act, Out, Process, Reason, Stepped};
 pub use ap_list::{NoMemory, Seq};
