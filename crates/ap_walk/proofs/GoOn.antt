@@ -36,6 +36,11 @@ module _ {T : Type 0} where
       ∙ ap (λ l. and_then w (in_order one l)) (sym is)
       ∙ to_come
 
+-- a walk that is added to nothing
+pub alone : {T : Type 0} (one : T → Tally → Walked T) (w : Walked T) (marks : List (Visit T)) (copy task : T) (t : Tally) → marks ≡ [] → copy ≡ task → w ≡ before marks (one copy t) → w ≡ one task t
+alone one w marks copy task t empty same made =
+    made ∙ ap (λ l. before l (one copy t)) empty ∙ ap (λ x. one x t) same
+
 pub each_rest : {T : Type 0} (P : T → Type 0) (items : List T) (task : T) (tasks : List T) → items ≡ task ∷ tasks → Each P items → Each P tasks
 each_rest P items task tasks is each = (subst (λ l. Each P l) is each).1
 

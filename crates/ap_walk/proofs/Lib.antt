@@ -4,3 +4,5 @@ pub mod Trees
 pub mod Goods
 pub mod Stops
 pub mod GoOn
+pub mod Bounds
+pub mod Prefixes

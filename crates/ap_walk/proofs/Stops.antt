@@ -7,7 +7,7 @@ use Rattle.ap_walk.specs.declared.rule.Rule.{Rule}
 use Rattle.ap_walk.specs.declared.rule.End.{End}
 use Rattle.ap_walk.specs.declared.mark.Walked.{Walked}
 use Rattle.ap_walk.specs.Visits.{Visit}
-use Rattle.ap_walk.specs.Tallies.{IsOpen, can_revert, end_at, is_push, is_stop, tally_by, end_by, tally_at, tally_after, end_after}
+use Rattle.ap_walk.specs.Tallies.{IsOpen, can_revert, end_at, is_push, is_stop, tally_by, end_by, tally_at, mark_end, tally_after, end_after}
 use Rattle.ap_walk.specs.Walks.{nothing, and_then, one_mark, cut}
 use Rattle.ap_walk.specs.Laws.{end_when, StopsAt, CountsFrom}
 use Rattle.ap_walk.proofs.Ends.{through_pushes, through_goals}
@@ -141,3 +141,11 @@ opened_after rule t (Out.Stop r) is h = absurd (cc)
 pub opened_by : {T : Type 0} (rule : Rule) (t : Tally) (out : Out T) (next : Tally) (e : End) → IsOpen rule t → next ≡ tally_after out t → e ≡ end_after rule out next → e ≡ End.Through → IsOpen rule next
 opened_by rule t out next e is counted ends h =
     subst (IsOpen rule) (sym counted) (opened_after rule t out is (ap (end_after rule out) (sym counted) ∙ sym ends ∙ h))
+
+-- a walk that goes through a mark from an open tally leaves an open one
+pub opened_mark : {T : Type 0} (rule : Rule) (t : Tally) (m : Visit T) (next : Tally) (e : End) → IsOpen rule t → next ≡ tally_at m t → e ≡ mark_end rule m next → e ≡ End.Through → IsOpen rule next
+opened_mark {T = T} rule t m next e is counted ends h =
+    let u = tally_at m t in
+    subst (IsOpen rule) (sym counted)
+    ((stops_by {T = T} (is_stop m.act.process) rule m.children u [] (next_by rule (is_push m.act.process) t is)).through
+      (ap (mark_end rule m) (sym counted) ∙ sym ends ∙ h))

@@ -6,13 +6,21 @@
 
 mod act;
 mod counting;
+mod cutting;
 mod mark;
 mod rule;
 mod step;
+mod theorems;
 mod walking;
 
 pub use act::{Act, Out, Process, Reason, Stepped};
 pub use ap_list::{NoMemory, Seq};
+pub use cutting::cut_from;
 pub use mark::{Mark, Walked};
 pub use rule::{End, Rule, Tally};
 pub use step::Step;
+pub use theorems::{
+    all_marks_are_own_and_children, cut_again, cut_is_bounded, good_walk_makes_root_good,
+    walk_is_bounded, walk_is_cut, walk_is_visit_and_children,
+};
+pub use walking::serial;

@@ -38,3 +38,32 @@ fn walk_on<S: Step>(
     }
     Ok(())
 }
+
+/// The serial walk of a task from the empty tally. It visits a task and then its children in order, each
+/// with all that is below it. It ends after the first visit at which the attempt stops; or a second task
+/// was pushed, where the walk is the initial one of its attempt and `:otf-flg` isn't set; or the goals
+/// are the limit. The only error is want of memory.
+pub fn serial<S: Step>(
+    alloc: Global,
+    step: &S,
+    task: &S::Task,
+    rule: Rule,
+) -> Result<Walked<S::Task>, NoMemory>
+    ensures walked { IfOk result (λ w. w ≡ walk S.step_of S.depth rule task.now zero_tally) }
+    ensures whole { IfOk result (λ w. w ≡ full S.step_of S.depth rule task.now) }
+    ensures few { IfOk result (λ w. length w.marks ≤ rule.goal_limit) }
+    ensures stops { IfOk result (λ w. StopsAt rule w) }
+    ensures good { IfOk result (λ w. w.end ≡ End.Through → Each S.good (pushed w.marks) → S.good task.now) }
+{
+    let task = step.copy_task(alloc, task)?;
+    let mut so_far = Walked {
+        marks: Seq::new(alloc),
+        tally: Tally {
+            pushes: 0,
+            goals: 0,
+        },
+        end: End::Through,
+    };
+    walk_on(alloc, step, rule, task, &mut so_far)?;
+    Ok(so_far)
+}
