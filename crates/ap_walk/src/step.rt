@@ -1,10 +1,12 @@
 ghost use Rattle.std.specs.Prelude.{◌≡◌, ◌<◌, ◌↔◌, ℕ, List, IsTrue, IfOk};
 ghost use Rattle.ap_list.specs.Lists.{Each};
+ghost use Rattle.ap_names.specs.Names.{Name};
 ghost use Rattle.ap_walk.specs.Visits.{out_children, IsSplit, Tells};
 ghost use Rattle.ap_walk.specs.declared.act.Stepped.{Stepped};
 
 use crate::act::Stepped;
 use ap_list::NoMemory;
+use ap_names::GoalName;
 use std::alloc::Global;
 
 /// The waterfall's step on tasks of one kind. A task holds all that its step depends on: what comes of
@@ -18,6 +20,9 @@ pub trait Step {
 
     /// What a proof of the task establishes.
     ghost good: { Self.Task → Type 0 };
+
+    /// The name of the task's goal.
+    ghost name: { Self.Task → Name };
 
     /// How far the tree below the task may reach.
     ghost depth: { Self.Task → ℕ };
@@ -33,6 +38,10 @@ pub trait Step {
     /// Whether two tasks are equal. Takes no memory.
     fn same_task(&self, a: &Self::Task, b: &Self::Task) -> bool
         ensures { IsTrue result ↔ (a.now ≡ b.now) };
+
+    /// The name of a task's goal.
+    fn name_of(&self, alloc: Global, task: &Self::Task) -> Result<GoalName, NoMemory>
+        ensures { IfOk result (λ printed. printed ≡ name task.now) };
 
     // The process is Push exactly where the task is pushed, and Stop exactly where the attempt stops.
     ghost tells: { (task : Self.Task) → Tells (step_of task).act.process (step_of task).out };
