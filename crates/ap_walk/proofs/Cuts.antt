@@ -1,5 +1,5 @@
 -- The laws of `and_then`, and the cut law: cutting twice is cutting once.
-use Rattle.std.proofs.Common.{◌≡◌, ℕ, List, [], ◌∷◌, ◌++◌, append_assoc, append-nil, refl, arith, sym, ◌∙◌, ap, subst}
+use Rattle.std.proofs.Common.{◌≡◌, ℕ, List, [], ◌∷◌, ◌++◌, length, take, append_assoc, append-nil, refl, arith, sym, ◌∙◌, ap, subst}
 use Rattle.ap_walk.specs.declared.rule.Tally.{Tally}
 use Rattle.ap_walk.specs.declared.rule.Rule.{Rule}
 use Rattle.ap_walk.specs.declared.rule.End.{End}
@@ -86,3 +86,18 @@ module _ {T : Type 0} (rule : Rule) where
       cut_append t (cut rule z xs).marks ys
       ∙ ap (λ w. and_then w (λ u. cut rule u ys)) (cut_again z t xs m)
       ∙ sym (cut_append t xs ys)
+
+  takes_at : (x : Visit T) (xs : List (Visit T)) (t : Tally) (e : End) (f : Tally → Walked T) → (f t).marks ≡ take (length (f t).marks) xs
+    → (and_then (walked (x ∷ []) t e) f).marks ≡ take (length (and_then (walked (x ∷ []) t e) f).marks) (x ∷ xs)
+  takes_at x xs t End.Through f h = ap (λ l. x ∷ l) h
+  takes_at x xs t End.Revert f h = refl
+  takes_at x xs t End.Limit f h = refl
+  takes_at x xs t (End.Stopped r) f h = refl
+
+  -- a cut is a prefix
+  pub cut_takes : (t : Tally) (xs : List (Visit T)) → (cut rule t xs).marks ≡ take (length (cut rule t xs).marks) xs
+  unfolding cut
+  cut_takes t [] = refl
+  cut_takes t (x ∷ xs) =
+      let u = tally_at x t in
+      takes_at x xs u (mark_end rule x u) (λ v. cut rule v xs) (cut_takes u xs)

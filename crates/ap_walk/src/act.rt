@@ -17,6 +17,25 @@ pub enum Reason {
     DoNotInduct,
 }
 
+impl Reason {
+    ghost use Rattle.std.specs.Prelude.{◌≡◌};
+    ghost use Rattle.ap_walk.specs.Visits.{reason_number};
+
+    /// The number of the reason, 1 to 6.
+    pub fn number(self) -> u32
+        ensures { result ≡ reason_number self }
+    {
+        match self {
+            Reason::NoScheme => 1,
+            Reason::EmptyClause => 2,
+            Reason::GoalLimit => 3,
+            Reason::PathDepth => 4,
+            Reason::InductionDepth => 5,
+            Reason::DoNotInduct => 6,
+        }
+    }
+}
+
 /// The process of the waterfall that acted on a goal, in the order of the manual's topic
 /// `hints-and-the-waterfall`; `Push` sends the goal to the pool, and `Stop` ends the attempt.
 #[derive(Clone, Copy, Debug, PartialEq, Eq)]

@@ -1,5 +1,5 @@
 ghost use Rattle.std.specs.Prelude.{◌≡◌, ◌+◌, ◌^◌, ◌<◌};
-ghost use Rattle.ap_walk.specs.Visits.{Tells, out_children, child_count, reason_number, reason_of, visit_of};
+ghost use Rattle.ap_walk.specs.Visits.{Tells, out_children, child_count, reason_of, visit_of};
 ghost use Rattle.ap_walk.specs.Tallies.{can_revert, end_at, end_after, tally_after, tally_at, tally_by, mark_end, is_push, is_stop};
 
 use crate::act::{Act, Out, Process, Reason};
@@ -7,20 +7,6 @@ use crate::mark::Mark;
 use crate::rule::{End, Rule, Tally};
 use ap_list::Seq;
 use std::alloc::Global;
-
-/// The number of a reason, 1 to 6.
-fn number_of(reason: Reason) -> u32
-    ensures { result ≡ reason_number reason }
-{
-    match reason {
-        Reason::NoScheme => 1,
-        Reason::EmptyClause => 2,
-        Reason::GoalLimit => 3,
-        Reason::PathDepth => 4,
-        Reason::InductionDepth => 5,
-        Reason::DoNotInduct => 6,
-    }
-}
 
 /// The reason that has a number, 1 to 6.
 #[tactic(auto, unfolding(crate::specs::Visits::reason_of))]
@@ -132,7 +118,7 @@ fn count_of<T>(out: &Out<T>) -> u32
     match out {
         Out::Split(children) => u32::try_from(children.len()).unwrap_or(u32::MAX),
         Out::Push => 0,
-        Out::Stop(reason) => number_of(*reason),
+        Out::Stop(reason) => reason.number(),
     }
 }
 

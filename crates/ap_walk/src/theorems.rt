@@ -1,5 +1,5 @@
 //! Laws of walks. Each is the contract of a function that does nothing.
-ghost use Rattle.std.specs.Prelude.{◌≡◌, ◌+◌, ◌≤◌, ◌++◌, ◌∷◌, ℕ, List, length};
+ghost use Rattle.std.specs.Prelude.{◌≡◌, ◌+◌, ◌≤◌, ◌++◌, ◌∷◌, ℕ, List, length, take};
 ghost use Rattle.ap_list.specs.Lists.{Each};
 ghost use Rattle.ap_walk.specs.Visits.{Visit, out_children, visit_of};
 ghost use Rattle.ap_walk.specs.Tallies.{AtMost, IsOpen, end_at, tally_at, zero_tally};
@@ -78,10 +78,12 @@ pub fn walk_is_bounded<S: Step>()
 {
 }
 
-/// A cut from an open tally ends where pushes are exactly 2, or goals are exactly the limit, and where it
-/// goes through it leaves an open tally: after a visit from an open tally the tests may be read as
-/// equalities. Each mark counts one goal.
+/// A cut is a prefix of its marks, and each of them counts one goal. From an open tally it ends where
+/// pushes are exactly 2, or goals are exactly the limit, and where it goes through it leaves an open
+/// tally: after a visit from an open tally the tests may be read as equalities.
 pub fn cut_is_bounded<T>()
+    ensures prefix { (rule : Rule) (tally : Tally) (marks : List (Visit T)) →
+        (cut rule tally marks).marks ≡ take (length (cut rule tally marks).marks) marks }
     ensures stops { (rule : Rule) (tally : Tally) (marks : List (Visit T)) →
         IsOpen rule tally → StopsAt rule (cut rule tally marks) }
     ensures tests { (rule : Rule) (tally : Tally) (mark : Visit T) →
