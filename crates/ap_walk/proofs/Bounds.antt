@@ -1,5 +1,5 @@
 -- Where a walk ends, and how many marks it has.
-use Rattle.std.proofs.Common.{◌≡◌, ℕ, ◌+◌, ◌≤◌, List, length, arith, sym, subst}
+use Rattle.std.proofs.Common.{ℕ, ◌+◌, ◌≤◌, List, length, arith, sym, subst}
 use Rattle.ap_walk.specs.declared.act.Stepped.{Stepped}
 use Rattle.ap_walk.specs.declared.rule.Tally.{Tally}
 use Rattle.ap_walk.specs.declared.rule.Rule.{Rule}

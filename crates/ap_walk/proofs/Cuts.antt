@@ -1,5 +1,5 @@
 -- The laws of `and_then`, and the cut law: cutting twice is cutting once.
-use Rattle.std.proofs.Common.{◌≡◌, ℕ, List, [], ◌∷◌, ◌++◌, length, take, append_assoc, append-nil, refl, arith, sym, ◌∙◌, ap, subst}
+use Rattle.std.proofs.Common.{◌≡◌, List, [], ◌∷◌, ◌++◌, length, take, append_assoc, append-nil, refl, sym, ◌∙◌, ap}
 use Rattle.ap_walk.specs.declared.rule.Tally.{Tally}
 use Rattle.ap_walk.specs.declared.rule.Rule.{Rule}
 use Rattle.ap_walk.specs.declared.rule.End.{End}
@@ -64,9 +64,9 @@ module _ {T : Type 0} (rule : Rule) where
 
   -- the cut from the later tally of what the cut from the earlier one keeps, by how the first mark ends there
   kept_at : (z t : Tally) (x : Visit T) (xs : List (Visit T)) (ez : End)
-    → (mark_end rule x (tally_at x t) ≡ End.Through → ez ≡ End.Through)
-    → cut rule (tally_at x t) (cut rule (tally_at x z) xs).marks ≡ cut rule (tally_at x t) xs
-    → cut rule t (and_then (walked (x ∷ []) (tally_at x z) ez) (λ u. cut rule u xs)).marks ≡ cut rule t (x ∷ xs)
+      → (mark_end rule x (tally_at x t) ≡ End.Through → ez ≡ End.Through)
+      → cut rule (tally_at x t) (cut rule (tally_at x z) xs).marks ≡ cut rule (tally_at x t) xs
+      → cut rule t (and_then (walked (x ∷ []) (tally_at x z) ez) (λ u. cut rule u xs)).marks ≡ cut rule t (x ∷ xs)
   unfolding cut
   kept_at z t x xs End.Through earlier h = and_then_same (one_mark rule t x) _ _ (λ _. h)
   kept_at z t x xs End.Revert earlier h = and_then_same (one_mark rule t x) _ _ (λ e. absurd (let ends = earlier e in cc))
@@ -88,7 +88,7 @@ module _ {T : Type 0} (rule : Rule) where
       ∙ sym (cut_append t xs ys)
 
   takes_at : (x : Visit T) (xs : List (Visit T)) (t : Tally) (e : End) (f : Tally → Walked T) → (f t).marks ≡ take (length (f t).marks) xs
-    → (and_then (walked (x ∷ []) t e) f).marks ≡ take (length (and_then (walked (x ∷ []) t e) f).marks) (x ∷ xs)
+      → (and_then (walked (x ∷ []) t e) f).marks ≡ take (length (and_then (walked (x ∷ []) t e) f).marks) (x ∷ xs)
   takes_at x xs t End.Through f h = ap (λ l. x ∷ l) h
   takes_at x xs t End.Revert f h = refl
   takes_at x xs t End.Limit f h = refl

@@ -1,11 +1,11 @@
 -- The tests by which a walk ends: what each says, and that fewer counts pass where more do.
-use Rattle.std.proofs.Common.{◌≡◌, ℕ, ◌+◌, ◌<◌, ◌≤◌, Bool, true, false, ◌&&◌, nat_le, if◌then◌else◌, refl, arith, sym, ◌∙◌, IsTrue}
+use Rattle.std.proofs.Common.{◌≡◌, ℕ, ◌<◌, Bool, true, false, ◌&&◌, nat_le, if◌then◌else◌, arith}
 use Rattle.std.proofs.lemmas.Bool.Decides.{nat_tests}
 use Rattle.ap_walk.specs.declared.rule.Tally.{Tally}
 use Rattle.ap_walk.specs.declared.rule.Rule.{Rule}
 use Rattle.ap_walk.specs.declared.rule.End.{End}
 use Rattle.ap_walk.specs.Visits.{Visit}
-use Rattle.ap_walk.specs.Tallies.{AtMost, IsOpen, can_revert, end_at, tally_at, tally_by, mark_end, end_by}
+use Rattle.ap_walk.specs.Tallies.{AtMost, can_revert, end_at, tally_at, tally_by, mark_end, end_by}
 
 pub at_most_same : (t : Tally) → AtMost t t
 at_most_same t = record { pushes = omega arith; goals = omega arith }

@@ -29,7 +29,7 @@ module _ {T : Type 0} where
 
   -- a walk goes on by the first of the tasks that are left
   pub next_walked : (one : T → Tally → Walked T) (w next done : Walked T) (task : T) (tasks items : List T) → items ≡ task ∷ tasks
-    → next ≡ and_then w (one task) → and_then w (in_order one items) ≡ done → and_then next (in_order one tasks) ≡ done
+      → next ≡ and_then w (one task) → and_then w (in_order one items) ≡ done → and_then next (in_order one tasks) ≡ done
   next_walked one w next done task tasks items is made to_come =
       ap (λ v. and_then v (in_order one tasks)) made
       ∙ and_then_assoc w (one task) (in_order one tasks)
@@ -59,7 +59,7 @@ module _ {T : Type 0} (step : T → Stepped T) (depth : T → ℕ) (tells : (tas
     (deeper : (task : T) → Each (λ c. depth c < depth task) (out_children (step task).out)) (rule : Rule) where
   -- the walk after the visit of a task is the walk of that task once its children are walked
   own_first : (task : T) (w : Walked T) → w.end ≡ End.Through
-    → and_then (before w.marks (first_visit step rule task w.tally)) (walk_all step depth rule (out_children (step task).out)) ≡ and_then w (walk step depth rule task)
+      → and_then (before w.marks (first_visit step rule task w.tally)) (walk_all step depth rule (out_children (step task).out)) ≡ and_then w (walk step depth rule task)
   own_first task w h =
       let children = walk_all step depth rule (out_children (step task).out) in
       and_then_before w.marks (first_visit step rule task w.tally) children
@@ -72,7 +72,7 @@ module _ {T : Type 0} (step : T → Stepped T) (depth : T → ℕ) (tells : (tas
       (v.ended ∙ ap (end_after rule (step task).out) v.tally)
 
   pub visited_first : (task : T) (stepped : Stepped T) → stepped ≡ step task → (earlier so_far : Walked T) → earlier.end ≡ End.Through → Visited rule task stepped earlier so_far
-    → and_then so_far (walk_all step depth rule (out_children stepped.out)) ≡ and_then earlier (walk step depth rule task)
+      → and_then so_far (walk_all step depth rule (out_children stepped.out)) ≡ and_then earlier (walk step depth rule task)
   visited_first task stepped is earlier so_far h v =
       ap (λ s. and_then so_far (walk_all step depth rule (out_children s.out))) is
       ∙ ap (λ w. and_then w (walk_all step depth rule (out_children (step task).out))) (visited_is task earlier so_far (subst (λ s. Visited rule task s earlier so_far) is v))

@@ -1,5 +1,5 @@
 -- A good walk makes its root good; and a path is no longer than the depth of its root.
-use Rattle.std.proofs.Common.{◌≡◌, ℕ, zero, suc, ◌<◌, ◌≤◌, Bool, true, false, ◌⊎◌, inl, inr, List, [], ◌∷◌, ◌++◌, length, refl, arith, sym, ◌∙◌, ap, subst}
+use Rattle.std.proofs.Common.{◌≡◌, ℕ, zero, suc, ◌<◌, ◌≤◌, Bool, true, false, inl, inr, List, [], ◌∷◌, ◌++◌, length, refl, arith, ap, subst}
 use Rattle.ap_list.specs.Lists.{Each, AnyOf}
 use Rattle.ap_walk.specs.declared.act.Process.{Process}
 use Rattle.ap_walk.specs.declared.act.Out.{Out}
@@ -8,8 +8,8 @@ use Rattle.ap_walk.specs.declared.rule.Tally.{Tally}
 use Rattle.ap_walk.specs.declared.rule.Rule.{Rule}
 use Rattle.ap_walk.specs.declared.rule.End.{End}
 use Rattle.ap_walk.specs.declared.mark.Walked.{Walked}
-use Rattle.ap_walk.specs.Visits.{Visit, Tells, IsSplit, visit_of, out_children}
-use Rattle.ap_walk.specs.Tallies.{is_push, tally_after, end_after}
+use Rattle.ap_walk.specs.Visits.{Visit, Tells, IsSplit, out_children}
+use Rattle.ap_walk.specs.Tallies.{is_push, end_after}
 use Rattle.ap_walk.specs.Walks.{before, and_then, in_order, first_visit, walk_to, walk}
 use Rattle.ap_walk.specs.Laws.{with_pushed, pushed, IsPath}
 
@@ -34,8 +34,8 @@ module _ {T : Type 0} where
 
   -- where walks in order go through, each task whose pushed tasks are good is good
   in_order_good : (good : T → Type 0) (f : T → Tally → Walked T) (P : T → Type 0)
-    → ((c : T) (t : Tally) → P c → (f c t).end ≡ End.Through → Each good (pushed (f c t).marks) → good c)
-    → (cs : List T) → Each P cs → (t : Tally) → (in_order f cs t).end ≡ End.Through → Each good (pushed (in_order f cs t).marks) → Each good cs
+      → ((c : T) (t : Tally) → P c → (f c t).end ≡ End.Through → Each good (pushed (f c t).marks) → good c)
+      → (cs : List T) → Each P cs → (t : Tally) → (in_order f cs t).end ≡ End.Through → Each good (pushed (in_order f cs t).marks) → Each good cs
   in_order_good good f P one [] each t h p = tt
   in_order_good good f P one (c ∷ cs) each t h p =
       let through = and_then_through (f c t) (in_order f cs) h in
@@ -43,8 +43,8 @@ module _ {T : Type 0} where
       (one c t each.0 through.0 parts.0, in_order_good good f P one cs each.1 (f c t).tally (subst (λ v. v.end ≡ End.Through) through.1 h) parts.1)
 
   own_good : (good : T → Type 0) (rule : Rule) (task : T) (p : Process) (out : Out T) (t : Tally)
-    → Tells p out → (IsSplit out → Each good (out_children out) → good task)
-    → end_after rule out t ≡ End.Through → Each good (with_pushed (is_push p) task []) → Each good (out_children out) → good task
+      → Tells p out → (IsSplit out → Each good (out_children out) → good task)
+      → end_after rule out t ≡ End.Through → Each good (with_pushed (is_push p) task []) → Each good (out_children out) → good task
   own_good good rule task p (Out.Split cs) t told whole h each children = whole tt children
   own_good good rule task p Out.Push t told whole h each children = (subst (λ b. Each good (with_pushed b task [])) (ap is_push told) each).0
   own_good good rule task p (Out.Stop r) t told whole h each children = absurd (cc)
@@ -69,8 +69,8 @@ module _ {T : Type 0} (step : T → Stepped T) (depth : T → ℕ) (good : T →
       let parts = each_pushed good own.marks (f own.tally).marks (subst (λ v. Each good (pushed v.marks)) through.1 p) in
       own_good good rule task (step task).act.process (step task).out own.tally (tells task) (whole task) through.0 parts.0
       (in_order_good good (walk_to step rule n) (λ c. depth c < depth task)
-        (λ c u below. walk_to_good n c u (omega arith))
-        _ (deeper task) own.tally (subst (λ v. v.end ≡ End.Through) through.1 h) parts.1)
+      (λ c u below. walk_to_good n c u (omega arith))
+      _ (deeper task) own.tally (subst (λ v. v.end ≡ End.Through) through.1 h) parts.1)
 
   -- where a walk goes through and every pushed task is good, its root is good
   pub walk_good : (task : T) (t : Tally) → (walk step depth rule task t).end ≡ End.Through → Each good (pushed (walk step depth rule task t).marks) → good task

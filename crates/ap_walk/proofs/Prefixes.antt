@@ -9,7 +9,7 @@ use Rattle.ap_walk.specs.declared.rule.End.{End}
 use Rattle.ap_walk.specs.declared.mark.Walked.{Walked}
 use Rattle.ap_walk.specs.Visits.{Visit}
 use Rattle.ap_walk.specs.Tallies.{tally_at, mark_end}
-use Rattle.ap_walk.specs.Walks.{nothing, before, and_then, one_mark, cut}
+use Rattle.ap_walk.specs.Walks.{before, one_mark, cut}
 use Rattle.ap_walk.proofs.GoOn.{through, ended}
 
 module _ {T : Type 0} (rule : Rule) where
@@ -17,14 +17,14 @@ module _ {T : Type 0} (rule : Rule) where
   before_before xs ys w = ap (λ l. record { marks = l; tally = w.tally; end = w.end }) (sym (append_assoc xs ys w.marks))
 
   one_more : (t : Tally) (xs ys : List (Visit T)) (m : Visit T) → mark_end rule m (tally_at m t) ≡ End.Through
-    → before xs (cut rule t (m ∷ ys)) ≡ before (xs ++ m ∷ []) (cut rule (tally_at m t) ys)
+      → before xs (cut rule t (m ∷ ys)) ≡ before (xs ++ m ∷ []) (cut rule (tally_at m t) ys)
   unfolding cut
   one_more t xs ys m h =
       ap (before xs) (through (one_mark rule t m) (λ u. cut rule u ys) h)
       ∙ before_before xs (m ∷ []) (cut rule (tally_at m t) ys)
 
   last_one : (t : Tally) (xs ys : List (Visit T)) (m : Visit T) → mark_end rule m (tally_at m t) ≢ End.Through
-    → before xs (cut rule t (m ∷ ys)) ≡ record { marks = xs ++ m ∷ []; tally = tally_at m t; end = mark_end rule m (tally_at m t) }
+      → before xs (cut rule t (m ∷ ys)) ≡ record { marks = xs ++ m ∷ []; tally = tally_at m t; end = mark_end rule m (tally_at m t) }
   unfolding cut
   last_one t xs ys m h = ap (before xs) (ended (one_mark rule t m) (λ u. cut rule u ys) h)
 
@@ -35,7 +35,7 @@ module _ {T : Type 0} (rule : Rule) where
     at_place =
         so_far
         ∙ ap (λ l. before (take place marks) (cut rule t l))
-          (drop-cons marks place m within ∙ ap (λ x. x ∷ drop (suc place) marks) (sym is) ∙ ap (λ n. m ∷ drop n marks) (sym (add-one place)))
+        (drop-cons marks place m within ∙ ap (λ x. x ∷ drop (suc place) marks) (sym is) ∙ ap (λ n. m ∷ drop n marks) (sym (add-one place)))
 
     taken : take (place + 1) marks ≡ take place marks ++ m ∷ []
     taken = take_more marks place m within ∙ ap (λ x. take place marks ++ x ∷ []) (sym is)
@@ -62,11 +62,11 @@ module _ {T : Type 0} (rule : Rule) where
 
   -- where no mark ends it the cut keeps them all
   pub all_passed : (start t : Tally) (marks : List (Visit T)) (place : ℕ) → length marks ≤ place
-    → cut rule start marks ≡ before (take place marks) (cut rule t (drop place marks))
-    → cut rule start marks ≡ record { marks = take (length marks) marks; tally = t; end = End.Through }
+      → cut rule start marks ≡ before (take place marks) (cut rule t (drop place marks))
+      → cut rule start marks ≡ record { marks = take (length marks) marks; tally = t; end = End.Through }
   unfolding cut
   all_passed start t marks place past so_far =
       so_far
       ∙ ap (λ l. before (take place marks) (cut rule t l)) (drop_of_length-le marks past)
       ∙ ap (λ l. record { marks = l; tally = t; end = End.Through })
-        (append-nil (take place marks) ∙ take_all place marks past ∙ sym (take-length marks))
+      (append-nil (take place marks) ∙ take_all place marks past ∙ sym (take-length marks))

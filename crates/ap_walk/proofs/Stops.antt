@@ -1,5 +1,5 @@
 -- A cut that begins at an open tally ends where a count is what the rule says; each mark counts a goal.
-use Rattle.std.proofs.Common.{◌≡◌, ℕ, suc, ◌+◌, ◌<◌, ◌≤◌, Bool, true, false, ◌&&◌, nat_le, nat_eq, if◌then◌else◌, IsTrue, List, [], ◌∷◌, ◌++◌, length, length-append, add_assoc, add-zero, refl, arith, sym, ◌∙◌, ap, subst}
+use Rattle.std.proofs.Common.{◌≡◌, ℕ, ◌+◌, ◌≤◌, Bool, true, false, ◌&&◌, nat_le, nat_eq, if◌then◌else◌, List, [], ◌∷◌, length-append, refl, arith, sym, ◌∙◌, ap, subst}
 use Rattle.std.proofs.lemmas.Bool.Decides.{nat_tests}
 use Rattle.ap_walk.specs.declared.act.Out.{Out}
 use Rattle.ap_walk.specs.declared.rule.Tally.{Tally}
@@ -8,7 +8,7 @@ use Rattle.ap_walk.specs.declared.rule.End.{End}
 use Rattle.ap_walk.specs.declared.mark.Walked.{Walked}
 use Rattle.ap_walk.specs.Visits.{Visit}
 use Rattle.ap_walk.specs.Tallies.{IsOpen, can_revert, end_at, is_push, is_stop, tally_by, end_by, tally_at, mark_end, tally_after, end_after}
-use Rattle.ap_walk.specs.Walks.{nothing, and_then, one_mark, cut}
+use Rattle.ap_walk.specs.Walks.{nothing, and_then, cut}
 use Rattle.ap_walk.specs.Laws.{end_when, StopsAt, CountsFrom}
 use Rattle.ap_walk.proofs.Ends.{through_pushes, through_goals}
 
@@ -68,13 +68,15 @@ stops_tested rule t ms next = record {
     goals = through_goals rule t h;
     pushes = through_pushes rule t h;
   };
-  revert = λ h. (reverts_only (can_revert rule) t.pushes t.goals rule.goal_limit h,
+  revert = λ h. (
+    reverts_only (can_revert rule) t.pushes t.goals rule.goal_limit h,
     let past = reverts_past (can_revert rule) t.pushes t.goals rule.goal_limit h in
-    let few = next.pushes (reverts_only (can_revert rule) t.pushes t.goals rule.goal_limit h) in
-    omega arith);
+        let few = next.pushes (reverts_only (can_revert rule) t.pushes t.goals rule.goal_limit h) in
+        omega arith,
+  );
   limit = λ h.
-    let past = limits_past (can_revert rule) t.pushes t.goals rule.goal_limit h in
-    omega (arith, next.goals);
+      let past = limits_past (can_revert rule) t.pushes t.goals rule.goal_limit h in
+      omega (arith, next.goals);
   within = next.goals;
 }
 
@@ -148,4 +150,4 @@ opened_mark {T = T} rule t m next e is counted ends h =
     let u = tally_at m t in
     subst (IsOpen rule) (sym counted)
     ((stops_by {T = T} (is_stop m.act.process) rule m.children u [] (next_by rule (is_push m.act.process) t is)).through
-      (ap (mark_end rule m) (sym counted) ∙ sym ends ∙ h))
+    (ap (mark_end rule m) (sym counted) ∙ sym ends ∙ h))

@@ -1,5 +1,5 @@
 -- The walk of a tree of tasks is the cut of all its marks, and so of its full marks.
-use Rattle.std.proofs.Common.{◌≡◌, ◌≢◌, ℕ, zero, suc, ◌<◌, ◌≤◌, Bool, true, false, List, [], ◌∷◌, ◌++◌, refl, arith, sym, ◌∙◌, ap}
+use Rattle.std.proofs.Common.{◌≡◌, ◌≢◌, ℕ, zero, suc, ◌<◌, ◌≤◌, Bool, false, List, [], ◌∷◌, ◌++◌, refl, arith, sym, ◌∙◌, ap}
 use Rattle.ap_list.specs.Lists.{Each}
 use Rattle.ap_walk.specs.declared.act.Reason.{Reason}
 use Rattle.ap_walk.specs.declared.act.Process.{Process}
@@ -12,7 +12,7 @@ use Rattle.ap_walk.specs.declared.rule.End.{End}
 use Rattle.ap_walk.specs.declared.mark.Walked.{Walked}
 use Rattle.ap_walk.specs.Visits.{Visit, Tells, visit_of, out_children, reason_number, reason_of}
 use Rattle.ap_walk.specs.Tallies.{zero_tally, is_push, is_stop, tally_by, end_by, tally_after, end_after}
-use Rattle.ap_walk.specs.Walks.{nothing, and_then, in_order, first_visit, walk_to, walk, walk_all, join_each, marks_to, all_marks, one_mark, cut, full, full_marks}
+use Rattle.ap_walk.specs.Walks.{and_then, in_order, first_visit, walk_to, walk, walk_all, join_each, marks_to, all_marks, one_mark, cut, full, full_marks}
 use Rattle.ap_walk.proofs.Cuts.{and_then_same, and_then_nothing, cut_append, cut_again}
 
 pub reason_back : (r : Reason) → reason_of (reason_number r) ≡ r
@@ -43,8 +43,8 @@ module _ {T : Type 0} where
 
   -- what a step tells a walk is what its mark tells a cut
   visit_is_mark : (rule : Rule) (task : T) (t : Tally) (act : Act) (out : Out T) → Tells act.process out
-    → record { marks = visit_of task (record { act = act; out = out }) ∷ []; tally = tally_after out t; end = end_after rule out (tally_after out t) }
-    ≡ one_mark rule t (visit_of task (record { act = act; out = out }))
+      → record { marks = visit_of task (record { act = act; out = out }) ∷ []; tally = tally_after out t; end = end_after rule out (tally_after out t) }
+      ≡ one_mark rule t (visit_of task (record { act = act; out = out }))
   visit_is_mark rule task t act (Out.Split cs) told = sym (counted_as rule _ t (not_push act.process told.0) (not_stop act.process told.1))
   visit_is_mark rule task t act Out.Push told = sym (counted_as rule _ t (ap is_push told) (ap is_stop told))
   visit_is_mark rule task t act (Out.Stop r) told =
@@ -81,7 +81,7 @@ module _ {T : Type 0} (step : T → Stepped T) (tells : (task : T) → Tells (st
       let children = out_children (step task).out in
       ap (λ w. and_then w (in_order (walk_to step rule n) children)) (first_is_mark task t)
       ∙ and_then_same (one_mark rule t (visit_of task (step task))) (in_order (walk_to step rule n) children) (λ u. cut rule u (join_each (marks_to step n) children))
-        (λ _. in_order_is_cut rule (walk_to step rule n) (marks_to step n) (walk_to_is_cut n) children _)
+      (λ _. in_order_is_cut rule (walk_to step rule n) (marks_to step n) (walk_to_is_cut n) children _)
 
 module _ {T : Type 0} (step : T → Stepped T) (depth : T → ℕ) (deeper : (task : T) → Each (λ c. depth c < depth task) (out_children (step task).out)) where
   -- any number of levels from the depth on gives all marks
@@ -100,7 +100,7 @@ module _ {T : Type 0} (step : T → Stepped T) (depth : T → ℕ) (deeper : (ta
   all_marks_is task =
       marks_enough (depth task) (suc (depth task)) task (omega arith) (omega arith)
       ∙ ap (λ l. visit_of task (step task) ∷ l)
-        (join_same (marks_to step (depth task)) (all_marks step depth) (λ c. depth c < depth task) _ (deeper task) (λ c below. marks_enough (depth task) (depth c) c (omega arith) (omega arith)))
+      (join_same (marks_to step (depth task)) (all_marks step depth) (λ c. depth c < depth task) _ (deeper task) (λ c below. marks_enough (depth task) (depth c) c (omega arith) (omega arith)))
 
 module _ {T : Type 0} (step : T → Stepped T) (depth : T → ℕ) (tells : (task : T) → Tells (step task).act.process (step task).out) (rule : Rule) where
   pub walk_is_cut_of_all : (task : T) (t : Tally) → walk step depth rule task t ≡ cut rule t (all_marks step depth task)
@@ -119,7 +119,7 @@ module _ {T : Type 0} (step : T → Stepped T) (depth : T → ℕ) (tells : (tas
 
   -- a walk is its own visit, and then the walks of the children
   pub walk_is : (deeper : (task : T) → Each (λ c. depth c < depth task) (out_children (step task).out)) (task : T) (t : Tally)
-    → walk step depth rule task t ≡ and_then (first_visit step rule task t) (walk_all step depth rule (out_children (step task).out))
+      → walk step depth rule task t ≡ and_then (first_visit step rule task t) (walk_all step depth rule (out_children (step task).out))
   unfolding cut
   walk_is deeper task t =
       let children = out_children (step task).out in
@@ -127,5 +127,5 @@ module _ {T : Type 0} (step : T → Stepped T) (depth : T → ℕ) (tells : (tas
       walk_is_cut_of_all task t
       ∙ ap (cut rule t) (all_marks_is step depth deeper task)
       ∙ and_then_same (one_mark rule t mark) (λ u. cut rule u (join_each (all_marks step depth) children)) (walk_all step depth rule children)
-        (λ _. sym (in_order_is_cut rule (walk step depth rule) (all_marks step depth) walk_is_cut_of_all children _))
+      (λ _. sym (in_order_is_cut rule (walk step depth rule) (all_marks step depth) walk_is_cut_of_all children _))
       ∙ ap (λ w. and_then w (walk_all step depth rule children)) (sym (first_is_mark step tells rule task t))

@@ -1,6 +1,6 @@
 -- The serial walk of a task, the list of all its marks, and the cut of such a list. A tree of tasks is
 -- given by `step`, and is no deeper at a task than `depth` says.
-use Rattle.std.specs.Prelude.{◌≡◌, ℕ, zero, suc, Bool, true, false, List, [], ◌∷◌, ◌++◌}
+use Rattle.std.specs.Prelude.{ℕ, zero, suc, List, [], ◌∷◌, ◌++◌}
 use Rattle.ap_walk.specs.declared.act.Stepped.{Stepped}
 use Rattle.ap_walk.specs.declared.rule.Tally.{Tally}
 use Rattle.ap_walk.specs.declared.rule.Rule.{Rule}
@@ -39,7 +39,7 @@ first_visit step rule task tally =
     record {
       marks = visit_of task (step task) ∷ [];
       tally = tally_after out tally;
-      end = end_after rule out (tally_after out tally)
+      end = end_after rule out (tally_after out tally);
     }
 
 -- the walk of a task down to some depth: its own visit, and then its children in order

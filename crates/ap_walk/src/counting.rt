@@ -50,7 +50,11 @@ fn counted(tally: Tally, pushed: bool) -> Tally
     requires goals { tally.goals + 1 < 2 ^ 32 }
     ensures { result ≡ tally_by pushed tally }
 {
-    let pushes = if pushed { tally.pushes + 1 } else { tally.pushes };
+    let pushes = if pushed {
+        tally.pushes + 1
+    } else {
+        tally.pushes
+    };
     Tally {
         pushes,
         goals: tally.goals + 1,

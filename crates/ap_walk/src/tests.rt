@@ -38,13 +38,14 @@ impl Step for Trees {
     type Task = Tree;
 
     ghost step_of = { elim [
-        Empty ↦ record { act = record { process = Process.Simplify; missed = false; limited = false }; out = Out.Split [] }
+      | Empty ↦ record { act = record { process = Process.Simplify; missed = false; limited = false }; out = Out.Split [] }
       | Left ↦ record { act = record { process = Process.Push; missed = true; limited = false }; out = Out.Push }
       | Right ↦ record { act = record { process = Process.Push; missed = true; limited = false }; out = Out.Push }
       | Pair ↦ record { act = record { process = Process.Simplify; missed = false; limited = false }; out = Out.Split (Left ∷ Right ∷ []) }
       | Halt ↦ record { act = record { process = Process.Stop; missed = true; limited = false }; out = Out.Stop Reason.EmptyClause }
       | Over ↦ record { act = record { process = Process.Simplify; missed = false; limited = false }; out = Out.Split (Halt ∷ []) }
-      | Deep ↦ record { act = record { process = Process.Simplify; missed = false; limited = false }; out = Out.Split (Over ∷ Left ∷ []) } ] };
+      | Deep ↦ record { act = record { process = Process.Simplify; missed = false; limited = false }; out = Out.Split (Over ∷ Left ∷ []) }
+    ] };
 
     ghost good = { λ _. Unit {0} };
 
@@ -53,13 +54,24 @@ impl Step for Trees {
     ghost depth = { elim [ Empty ↦ 0 | Left ↦ 0 | Right ↦ 0 | Pair ↦ 1 | Halt ↦ 0 | Over ↦ 1 | Deep ↦ 2 ] };
 
     ghost tells = { elim [
-        Empty ↦ ((λ e. Prim.cc), (λ e. Prim.cc)) | Left ↦ Prim.search rules | Right ↦ Prim.search rules
-      | Pair ↦ ((λ e. Prim.cc), (λ e. Prim.cc)) | Halt ↦ Prim.search rules
-      | Over ↦ ((λ e. Prim.cc), (λ e. Prim.cc)) | Deep ↦ ((λ e. Prim.cc), (λ e. Prim.cc)) ] };
+      | Empty ↦ ((λ e. Prim.cc), (λ e. Prim.cc))
+      | Left ↦ Prim.search rules
+      | Right ↦ Prim.search rules
+      | Pair ↦ ((λ e. Prim.cc), (λ e. Prim.cc))
+      | Halt ↦ Prim.search rules
+      | Over ↦ ((λ e. Prim.cc), (λ e. Prim.cc))
+      | Deep ↦ ((λ e. Prim.cc), (λ e. Prim.cc))
+    ] };
 
     ghost deeper = { elim [
-        Empty ↦ tt | Left ↦ tt | Right ↦ tt | Pair ↦ (Prim.omega arith, (Prim.omega arith, tt)) | Halt ↦ tt
-      | Over ↦ (Prim.omega arith, tt) | Deep ↦ (Prim.omega arith, (Prim.omega arith, tt)) ] };
+      | Empty ↦ tt
+      | Left ↦ tt
+      | Right ↦ tt
+      | Pair ↦ (Prim.omega arith, (Prim.omega arith, tt))
+      | Halt ↦ tt
+      | Over ↦ (Prim.omega arith, tt)
+      | Deep ↦ (Prim.omega arith, (Prim.omega arith, tt))
+    ] };
 
     ghost whole = { λ _ _ _. tt };
 
@@ -121,7 +133,11 @@ fn missed(process: Process, out: Out<Tree>) -> Stepped<Tree>
     }
 }
 
-const BOTH: [(Tree, u32); 3] = [(Tree::Pair, 2), (Tree::Left, 0), (Tree::Right, 0)];
+const BOTH: &[(Tree, u32)] = &[(Tree::Pair, 2), (Tree::Left, 0), (Tree::Right, 0)];
+
+const STOPPED: &[(Tree, u32)] = &[(Tree::Deep, 2), (Tree::Over, 1), (Tree::Halt, 2)];
+
+const EMPTY: &[(Tree, u32)] = &[(Tree::Empty, 0)];
 
 /// A rule with a limit that is far off.
 fn wide(initial: bool, otf: bool) -> Rule
@@ -162,24 +178,27 @@ fn expect_walk(
         assert_eq!(rt; (mark.task, mark.children), *wanted, "a mark");
     }
     assert_eq!(rt; walked.tally.pushes, pushes, "pushes");
-    assert_eq!(rt; (walked.tally.goals as usize).checked_sub(before), Some(marks.len()), "goals");
+    assert_eq!(rt;
+        (walked.tally.goals as usize).checked_sub(before),
+        Some(marks.len()),
+        "goals"
+    );
     assert_eq!(rt; walked.end, end, "the end");
 }
 
 #[test]
 fn walks_end_at_a_stop_a_second_push_and_the_limit(rt: HostRuntime) -> Result<(), Fail> {
-    let stopped = End::Stopped(Reason::EmptyClause);
-    let deep = [(Tree::Deep, 2), (Tree::Over, 1), (Tree::Halt, 2)].as_slice();
+    let stop = End::Stopped(Reason::EmptyClause);
     let rows = [
-        (Tree::Pair, wide(true, false), BOTH.as_slice(), 2, End::Revert),
-        (Tree::Pair, wide(false, false), BOTH.as_slice(), 2, End::Through),
-        (Tree::Pair, wide(true, true), BOTH.as_slice(), 2, End::Through),
-        (Tree::Deep, wide(true, false), deep, 0, stopped),
-        (Tree::Deep, narrow(3), deep, 0, stopped),
+        (Tree::Pair, wide(true, false), BOTH, 2, End::Revert),
+        (Tree::Pair, wide(false, false), BOTH, 2, End::Through),
+        (Tree::Pair, wide(true, true), BOTH, 2, End::Through),
+        (Tree::Deep, wide(true, false), STOPPED, 0, stop),
+        (Tree::Deep, narrow(3), STOPPED, 0, stop),
         (Tree::Pair, narrow(1), &BOTH[..1], 0, End::Limit),
         (Tree::Pair, narrow(2), &BOTH[..2], 1, End::Limit),
-        (Tree::Pair, narrow(3), BOTH.as_slice(), 2, End::Revert),
-        (Tree::Empty, narrow(2), [(Tree::Empty, 0)].as_slice(), 0, End::Through),
+        (Tree::Pair, narrow(3), BOTH, 2, End::Revert),
+        (Tree::Empty, narrow(2), EMPTY, 0, End::Through),
     ];
     for (root, rule, marks, pushes, end) in rows {
         let walked = serial(rt.alloc(), &Trees, &root, rule)?;

@@ -16,16 +16,14 @@ pub fn walk_is_visit_and_children<S: Step>()
     ensures { (rule : Rule) (task : S.Task) (tally : Tally) →
         walk S.step_of S.depth rule task tally
         ≡ and_then (first_visit S.step_of rule task tally) (walk_all S.step_of S.depth rule (out_children (S.step_of task).out)) }
-{
-}
+{}
 
 /// All marks of a task are its own mark, and then all marks of each child in order.
 pub fn all_marks_are_own_and_children<S: Step>()
     ensures { (task : S.Task) →
         all_marks S.step_of S.depth task
         ≡ visit_of task (S.step_of task) ∷ join_each (all_marks S.step_of S.depth) (out_children (S.step_of task).out) }
-{
-}
+{}
 
 /// The cut law: from any tally the walk of a task is the cut of its full marks, and so of all its marks,
 /// and the walk of siblings is the cut of their full marks joined in order. From the empty tally the walk
@@ -39,8 +37,7 @@ pub fn walk_is_cut<S: Step>()
         walk_all S.step_of S.depth rule tasks tally ≡ cut rule tally (full_marks S.step_of S.depth rule tasks) }
     ensures zero { (rule : Rule) (task : S.Task) →
         walk S.step_of S.depth rule task zero_tally ≡ full S.step_of S.depth rule task }
-{
-}
+{}
 
 /// Cutting twice is cutting once, where the first cut counts from a tally that isn't above the second's,
 /// also where more marks follow. The cut of joined marks is the cut of the first ones, and then of the
@@ -52,8 +49,7 @@ pub fn cut_again<T>()
         AtMost early late → cut rule late ((cut rule early marks).marks ++ more) ≡ cut rule late (marks ++ more) }
     ensures joined { (rule : Rule) (tally : Tally) (marks more : List (Visit T)) →
         cut rule tally (marks ++ more) ≡ and_then (cut rule tally marks) (λ next. cut rule next more) }
-{
-}
+{}
 
 /// A good walk makes its root good: where a walk ends through and every pushed task is good, the root is
 /// good.
@@ -61,8 +57,7 @@ pub fn good_walk_makes_root_good<S: Step>()
     ensures { (rule : Rule) (task : S.Task) (tally : Tally) →
         (walk S.step_of S.depth rule task tally).end ≡ End.Through →
         Each S.good (pushed (walk S.step_of S.depth rule task tally).marks) → S.good task }
-{
-}
+{}
 
 /// A walk from an open tally, as the empty one, ends where pushes are exactly 2, or goals are exactly the
 /// limit, and where it goes through it leaves an open tally. It has no more marks than goals are left. No
@@ -75,8 +70,7 @@ pub fn walk_is_bounded<S: Step>()
         IsOpen rule tally → tally.goals + length (walk S.step_of S.depth rule task tally).marks ≤ rule.goal_limit }
     ensures path { (task : S.Task) (path : List S.Task) →
         IsPath S.step_of task path → length path ≤ S.depth task }
-{
-}
+{}
 
 /// A cut is a prefix of its marks, and each of them counts one goal. From an open tally it ends where
 /// pushes are exactly 2, or goals are exactly the limit, and where it goes through it leaves an open
@@ -90,5 +84,4 @@ pub fn cut_is_bounded<T>()
         IsOpen rule tally → end_at rule (tally_at mark tally) ≡ end_when rule (tally_at mark tally) }
     ensures counts { (rule : Rule) (tally : Tally) (marks : List (Visit T)) →
         CountsFrom tally (cut rule tally marks) }
-{
-}
+{}

@@ -10,11 +10,11 @@ returns-in_default g c =
 pub loop-place-preserved : goal.loop-place-preserved
 loop-place-preserved g c = record {
   opened =
-    opened_mark c.args.rule c.loop-place.tally c.index-marks-place.result _ _ c.loop-place.invariant.opened c.counted_mark-tally.ensures
-    c.end_of_mark-end.ensures c.in-Through.is;
+      opened_mark c.args.rule c.loop-place.tally c.index-marks-place.result _ _ c.loop-place.invariant.opened c.counted_mark-tally.ensures
+      c.end_of_mark-end.ensures c.in-Through.is;
   to_come =
-    mark_passed c.args.rule c.args.start c.loop-place.tally c.args.marks.now c.loop-place.place c.index-marks-place.result c.loop-place-test.true
-    c.index-marks-place.is c.loop-place.invariant.to_come _ _ c.counted_mark-tally.ensures c.end_of_mark-end.ensures c.in-Through.is;
+      mark_passed c.args.rule c.args.start c.loop-place.tally c.args.marks.now c.loop-place.place c.index-marks-place.result c.loop-place-test.true
+      c.index-marks-place.is c.loop-place.invariant.to_come _ _ c.counted_mark-tally.ensures c.end_of_mark-end.ensures c.in-Through.is;
 }
 
 pub returns : goal.returns

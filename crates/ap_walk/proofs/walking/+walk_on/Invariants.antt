@@ -16,6 +16,6 @@ invariant-loop-child g l = record {
   opened : l.so_far.end ≡ End.Through → IsOpen l.rule l.so_far.tally;
   below : Each (λ c. g.S.Step.depth c < g.S.Step.depth l.fn.task) (into_iter_items l.child-iterator);
   to_come :
-    and_then l.so_far (walk_all g.S.Step.step_of g.S.Step.depth l.rule (into_iter_items l.child-iterator))
-    ≡ and_then l.initial.so_far (walk_all g.S.Step.step_of g.S.Step.depth l.rule (into_iter_items l.initial.child-iterator));
+      and_then l.so_far (walk_all g.S.Step.step_of g.S.Step.depth l.rule (into_iter_items l.child-iterator))
+      ≡ and_then l.initial.so_far (walk_all g.S.Step.step_of g.S.Step.depth l.rule (into_iter_items l.initial.child-iterator));
 }

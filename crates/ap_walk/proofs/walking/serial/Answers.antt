@@ -25,5 +25,5 @@ returns g c =
       few = subst (λ w. length w.marks ≤ rule.goal_limit) (sym is) (walk_few_from_zero step depth tells rule task);
       stops = subst (StopsAt rule) (sym is) (walk_stops step depth tells rule task zero_tally (zero_open rule));
       good = subst (λ w. w.end ≡ End.Through → Each g.S.Step.good (pushed w.marks) → g.S.Step.good task) (sym is)
-        (walk_good step depth g.S.Step.good tells g.met.S.Step.deeper g.met.S.Step.whole rule task zero_tally);
+          (walk_good step depth g.S.Step.good tells g.met.S.Step.deeper g.met.S.Step.whole rule task zero_tally);
     }
