@@ -35,20 +35,20 @@ same_tested false p g l few small = grind (arith, nat_tests)
 
 -- what one more goal, and maybe one more push, does to an open tally
 record Next (rule : Rule) (t : Tally) : Type 0 where
-  pushed : t.pushes ≤ t.goals
-  goals : t.goals ≤ rule.goal_limit
-  pushes : can_revert rule ≡ true → t.pushes ≤ 2
+  in_goals : t.pushes ≤ t.goals
+  in_limit : t.goals ≤ rule.goal_limit
+  in_two : can_revert rule ≡ true → t.pushes ≤ 2
 
 next_by : (rule : Rule) (b : Bool) (t : Tally) → IsOpen rule t → Next rule (tally_by b t)
 next_by rule true t is = record {
-  pushed = omega (arith, is.pushed);
-  goals = omega (arith, is.goals);
-  pushes = λ e. omega (arith, is.pushes e);
+  in_goals = omega (arith, is.in_goals);
+  in_limit = omega (arith, is.below_limit);
+  in_two = λ e. omega (arith, is.below_two e);
 }
 next_by rule false t is = record {
-  pushed = omega (arith, is.pushed);
-  goals = omega (arith, is.goals);
-  pushes = λ e. omega (arith, is.pushes e);
+  in_goals = omega (arith, is.in_goals);
+  in_limit = omega (arith, is.below_limit);
+  in_two = λ e. omega (arith, is.below_two e);
 }
 
 -- the tests by order and those by equality are the same after one visit from an open tally
@@ -57,27 +57,27 @@ unfolding end_at end_when
 tests_same rule t mark is =
     let next = next_by rule (is_push mark.act.process) t is in
     let u = tally_at mark t in
-    same_tested (can_revert rule) u.pushes u.goals rule.goal_limit next.pushes next.goals
+    same_tested (can_revert rule) u.pushes u.goals rule.goal_limit next.in_two next.in_limit
 
 -- a tally after one visit from an open one, by how the walk ends there
 stops_tested : {T : Type 0} (rule : Rule) (t : Tally) (ms : List (Visit T)) → Next rule t → StopsAt rule (record { marks = ms; tally = t; end = end_at rule t })
 unfolding end_at
 stops_tested rule t ms next = record {
   through = λ h. record {
-    pushed = next.pushed;
-    goals = through_goals rule t h;
-    pushes = through_pushes rule t h;
+    in_goals = next.in_goals;
+    below_limit = through_goals rule t h;
+    below_two = through_pushes rule t h;
   };
   revert = λ h. (
     reverts_only (can_revert rule) t.pushes t.goals rule.goal_limit h,
     let past = reverts_past (can_revert rule) t.pushes t.goals rule.goal_limit h in
-        let few = next.pushes (reverts_only (can_revert rule) t.pushes t.goals rule.goal_limit h) in
+        let few = next.in_two (reverts_only (can_revert rule) t.pushes t.goals rule.goal_limit h) in
         omega arith,
   );
   limit = λ h.
       let past = limits_past (can_revert rule) t.pushes t.goals rule.goal_limit h in
-      omega (arith, next.goals);
-  within = next.goals;
+      omega (arith, next.in_limit);
+  within = next.in_limit;
 }
 
 stops_by : {T : Type 0} (b : Bool) (rule : Rule) (children : ℕ) (t : Tally) (ms : List (Visit T)) → Next rule t → StopsAt rule (record { marks = ms; tally = t; end = end_by b rule children t })
@@ -85,7 +85,7 @@ stops_by true rule children t ms next = record {
   through = λ h. absurd (cc);
   revert = λ h. absurd (cc);
   limit = λ h. absurd (cc);
-  within = next.goals;
+  within = next.in_limit;
 }
 stops_by false rule children t ms next = stops_tested rule t ms next
 
@@ -99,7 +99,7 @@ module _ {T : Type 0} where
     through = λ h. is;
     revert = λ h. absurd (cc);
     limit = λ h. absurd (cc);
-    within = omega (arith, is.goals);
+    within = omega (arith, is.below_limit);
   }
 
   stops_then_at : (rule : Rule) (ms : List (Visit T)) (t : Tally) (e : End) (f : Tally → Walked T) → let w : Walked T = record { marks = ms; tally = t; end = e } in StopsAt rule w → (IsOpen rule t → StopsAt rule (f t)) → StopsAt rule (and_then w f)

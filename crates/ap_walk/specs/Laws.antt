@@ -9,6 +9,7 @@ use Rattle.ap_walk.specs.declared.mark.Walked.{Walked}
 use Rattle.ap_walk.specs.Visits.{Visit, out_children}
 use Rattle.ap_walk.specs.Tallies.{IsOpen, can_revert, is_push}
 
+-- the task stands before the others where it was pushed
 abbrev pub with_pushed : {T : Type 0} → Bool → T → List T → List T
 with_pushed true task tasks = task ∷ tasks
 with_pushed false task tasks = tasks

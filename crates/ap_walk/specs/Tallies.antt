@@ -17,17 +17,18 @@ can_revert rule = rule.initial && not rule.otf
 
 -- a walk under this rule may go on from this tally
 pub record IsOpen (rule : Rule) (tally : Tally) : Type 0 where
-  pub pushed : tally.pushes ≤ tally.goals
-  pub goals : tally.goals < rule.goal_limit
-  pub pushes : IsTrue (can_revert rule) → tally.pushes < 2
+  pub in_goals : tally.pushes ≤ tally.goals
+  pub below_limit : tally.goals < rule.goal_limit
+  pub below_two : IsTrue (can_revert rule) → tally.pushes < 2
 
 -- neither count of the first tally is above that of the second
 pub record AtMost (low high : Tally) : Type 0 where
   pub pushes : low.pushes ≤ high.pushes
   pub goals : low.goals ≤ high.goals
 
--- how a walk that didn't stop goes on from a tally: pushes are 2 where the rule reverts, or else goals
--- are the limit, or else it goes through
+-- how a walk that didn't stop goes on from a tally: it reverts where the rule does and pushes are 2, or
+-- else it ends where goals are the limit. (From an open tally no count comes past its bound, so that the
+-- tests by order are those by equality: `end_when`.)
 unfoldable pub end_at : Rule → Tally → End
 end_at rule tally =
     if can_revert rule && nat_le 2 tally.pushes then End.Revert
@@ -46,26 +47,30 @@ end_after rule (Out.Split children) tally = end_at rule tally
 end_after rule Out.Push tally = end_at rule tally
 end_after rule (Out.Stop reason) tally = End.Stopped reason
 
+-- the mark is that of a task that was pushed
 abbrev pub is_push : Process → Bool
 is_push Process.Push = true
 is_push _ = false
 
+-- the mark is that of a task at which the attempt stopped
 abbrev pub is_stop : Process → Bool
 is_stop Process.Stop = true
 is_stop _ = false
 
+-- one goal more, and one push more where there was one
 abbrev pub tally_by : Bool → Tally → Tally
 tally_by true tally = record { pushes = tally.pushes + 1; goals = tally.goals + 1 }
 tally_by false tally = record { pushes = tally.pushes; goals = tally.goals + 1 }
 
--- the same as a mark alone tells it: one goal more, and one push more where its process is Push
+-- the tally after a visit, as its mark alone tells it
 abbrev pub tally_at : {T : Type 0} → Visit T → Tally → Tally
 tally_at mark tally = tally_by (is_push mark.act.process) tally
 
+-- a stop is tested first, and its reason is known by its number
 abbrev pub end_by : Bool → Rule → ℕ → Tally → End
 end_by true rule children tally = End.Stopped (reason_of children)
 end_by false rule children tally = end_at rule tally
 
--- the same as a mark alone tells it, whose visit left this tally
+-- how a walk ends at a visit that left this tally, as its mark alone tells it
 abbrev pub mark_end : {T : Type 0} → Rule → Visit T → Tally → End
 mark_end rule mark tally = end_by (is_stop mark.act.process) rule mark.children tally

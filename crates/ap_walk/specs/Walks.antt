@@ -17,6 +17,7 @@ nothing tally = record { marks = []; tally = tally; end = End.Through }
 abbrev pub before : {T : Type 0} → List (Visit T) → Walked T → Walked T
 before marks w = record { marks = marks ++ w.marks; tally = w.tally; end = w.end }
 
+-- what follows a walk, by how the walk ended
 abbrev pub continued : {T : Type 0} → End → Walked T → (Tally → Walked T) → Walked T
 continued End.Through w next = before w.marks (next w.tally)
 continued End.Revert w next = w
@@ -42,7 +43,8 @@ first_visit step rule task tally =
       end = end_after rule out (tally_after out tally);
     }
 
--- the walk of a task down to some depth: its own visit, and then its children in order
+-- the walk of a task down to some depth: its own visit, and then its children in order. A task whose
+-- depth is 0 has no children.
 unfoldable pub walk_to : {T : Type 0} → (T → Stepped T) → Rule → ℕ → T → Tally → Walked T
 walk_to step rule zero task tally = first_visit step rule task tally
 walk_to step rule (suc n) task tally =

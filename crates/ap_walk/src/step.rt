@@ -41,7 +41,7 @@ pub trait Step {
 
     /// The name of a task's goal.
     fn name_of(&self, alloc: Global, task: &Self::Task) -> Result<GoalName, NoMemory>
-        ensures { IfOk result (λ printed. printed ≡ name task.now) };
+        ensures { IfOk result (λ given. given ≡ name task.now) };
 
     // The process is Push exactly where the task is pushed, and Stop exactly where the attempt stops.
     ghost tells: { (task : Self.Task) → Tells (step_of task).act.process (step_of task).out };
