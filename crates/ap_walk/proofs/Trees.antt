@@ -129,3 +129,18 @@ module _ {T : Type 0} (step : T → Stepped T) (depth : T → ℕ) (tells : (tas
       ∙ and_then_same (one_mark rule t mark) (λ u. cut rule u (join_each (all_marks step depth) children)) (walk_all step depth rule children)
       (λ _. sym (in_order_is_cut rule (walk step depth rule) (all_marks step depth) walk_is_cut_of_all children _))
       ∙ ap (λ w. and_then w (walk_all step depth rule children)) (sym (first_is_mark step tells rule task t))
+
+  -- a walk is the cut of the root's own mark and then the full marks of its children
+  pub walk_is_cut_of_family : (deeper : (task : T) → Each (λ c. depth c < depth task) (out_children (step task).out)) (task : T) (t : Tally)
+      → walk step depth rule task t ≡ cut rule t (visit_of task (step task) ∷ full_marks step depth rule (out_children (step task).out))
+  unfolding cut
+  walk_is_cut_of_family deeper task t =
+      let children = out_children (step task).out in
+      let mark = visit_of task (step task) in
+      walk_is deeper task t
+      ∙ ap (λ w. and_then w (walk_all step depth rule children)) (first_is_mark step tells rule task t)
+      ∙ and_then_same (one_mark rule t mark) (walk_all step depth rule children) (λ u. cut rule u (full_marks step depth rule children)) (λ _. walks_are_cut children _)
+
+  pub full_is_cut_of_family : (deeper : (task : T) → Each (λ c. depth c < depth task) (out_children (step task).out)) (task : T)
+      → full step depth rule task ≡ cut rule zero_tally (visit_of task (step task) ∷ full_marks step depth rule (out_children (step task).out))
+  full_is_cut_of_family deeper task = sym (walk_from_zero task) ∙ walk_is_cut_of_family deeper task zero_tally

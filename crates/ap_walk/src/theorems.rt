@@ -11,11 +11,19 @@ ghost use Rattle.ap_walk.specs.declared.rule.Tally.{Tally};
 use crate::rule::End;
 use crate::step::Step;
 
-/// A walk is the visit of its root, and then the walks of the children in order.
+/// A walk is the visit of its root, and then the walks of the children in order. So it is the cut of the
+/// root's own mark and then the full marks of the children, and the full walk is that cut from the empty
+/// tally.
 pub fn walk_is_visit_and_children<S: Step>()
-    ensures { (rule : Rule) (task : S.Task) (tally : Tally) →
+    ensures walks { (rule : Rule) (task : S.Task) (tally : Tally) →
         walk S.step_of S.depth rule task tally
         ≡ and_then (first_visit S.step_of rule task tally) (walk_all S.step_of S.depth rule (out_children (S.step_of task).out)) }
+    ensures cuts { (rule : Rule) (task : S.Task) (tally : Tally) →
+        walk S.step_of S.depth rule task tally
+        ≡ cut rule tally (visit_of task (S.step_of task) ∷ full_marks S.step_of S.depth rule (out_children (S.step_of task).out)) }
+    ensures full { (rule : Rule) (task : S.Task) →
+        full S.step_of S.depth rule task
+        ≡ cut rule zero_tally (visit_of task (S.step_of task) ∷ full_marks S.step_of S.depth rule (out_children (S.step_of task).out)) }
 {}
 
 /// All marks of a task are its own mark, and then all marks of each child in order.
