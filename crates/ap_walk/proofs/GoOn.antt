@@ -44,16 +44,28 @@ alone one w marks copy task t empty same made =
 pub each_rest : {T : Type 0} (P : T → Type 0) (items : List T) (task : T) (tasks : List T) → items ≡ task ∷ tasks → Each P items → Each P tasks
 each_rest P items task tasks is each = (subst (λ l. Each P l) is each).1
 
--- the walk so far once the visit of a task that took this step is added to an earlier one
-pub record Visited {T : Type 0} (rule : Rule) (task : T) (stepped : Stepped T) (earlier so_far : Walked T) : Type 0 where
-  pub marks : so_far.marks ≡ earlier.marks ++ visit_of task stepped ∷ []
-  pub tally : so_far.tally ≡ tally_after stepped.out earlier.tally
-  pub ended : so_far.end ≡ end_after rule stepped.out so_far.tally
-
 walked_same : {T : Type 0} (a b : Walked T) → a.marks ≡ b.marks → a.tally ≡ b.tally → a.end ≡ b.end → a ≡ b
 walked_same {T = T} a b marks tally ended =
     let made : List (Visit T) → Tally → End → Walked T = λ m t e. record { marks = m; tally = t; end = e } in
     ap (λ m. made m a.tally a.end) marks ∙ ap (λ t. made b.marks t a.end) tally ∙ ap (λ e. made b.marks b.tally e) ended
+
+-- the children of a task, as they pass from its step to the loop over them
+pub record Passed {T : Type 0} (step : T → Stepped T) (task : T) (stepped : Stepped T) (children vec items : List T) : Type 0 where
+  pub taken : stepped ≡ step task
+  pub split : children ≡ out_children stepped.out
+  pub moved : vec ≡ children
+  pub given : items ≡ vec
+
+-- the walk so far once the visit of a task is added to an earlier one that went through
+pub record Visited {T : Type 0} (rule : Rule) (task : T) (stepped : Stepped T) (earlier so_far : Walked T) (mark : Visit T) : Type 0 where
+  pub began : earlier.end ≡ End.Through
+  pub told : mark ≡ visit_of task stepped
+  pub marks : so_far.marks ≡ earlier.marks ++ mark ∷ []
+  pub tally : so_far.tally ≡ tally_after stepped.out earlier.tally
+  pub ended : so_far.end ≡ end_after rule stepped.out so_far.tally
+
+items_are : {T : Type 0} (step : T → Stepped T) (task : T) (stepped : Stepped T) (children vec items : List T) → Passed step task stepped children vec items → items ≡ out_children (step task).out
+items_are step task stepped children vec items p = p.given ∙ p.moved ∙ p.split ∙ ap (λ s. out_children s.out) p.taken
 
 module _ {T : Type 0} (step : T → Stepped T) (depth : T → ℕ) (tells : (task : T) → Tells (step task).act.process (step task).out)
     (deeper : (task : T) → Each (λ c. depth c < depth task) (out_children (step task).out)) (rule : Rule) where
@@ -66,19 +78,30 @@ module _ {T : Type 0} (step : T → Stepped T) (depth : T → ℕ) (tells : (tas
       ∙ ap (before w.marks) (sym (walk_is step depth tells rule deeper task w.tally))
       ∙ sym (through w (walk step depth rule task) h)
 
-  visited_is : (task : T) (earlier so_far : Walked T) → Visited rule task (step task) earlier so_far → so_far ≡ before earlier.marks (first_visit step rule task earlier.tally)
-  visited_is task earlier so_far v =
-      walked_same so_far (before earlier.marks (first_visit step rule task earlier.tally)) v.marks v.tally
-      (v.ended ∙ ap (end_after rule (step task).out) v.tally)
+  visited_is : (task : T) (earlier so_far : Walked T) (mark : Visit T) → Visited rule task (step task) earlier so_far mark → so_far ≡ before earlier.marks (first_visit step rule task earlier.tally)
+  visited_is task earlier so_far mark v =
+      walked_same so_far (before earlier.marks (first_visit step rule task earlier.tally))
+      (v.marks ∙ ap (λ m. earlier.marks ++ m ∷ []) v.told) v.tally (v.ended ∙ ap (end_after rule (step task).out) v.tally)
 
-  pub visited_first : (task : T) (stepped : Stepped T) → stepped ≡ step task → (earlier so_far : Walked T) → earlier.end ≡ End.Through → Visited rule task stepped earlier so_far
-      → and_then so_far (walk_all step depth rule (out_children stepped.out)) ≡ and_then earlier (walk step depth rule task)
-  visited_first task stepped is earlier so_far h v =
-      ap (λ s. and_then so_far (walk_all step depth rule (out_children s.out))) is
-      ∙ ap (λ w. and_then w (walk_all step depth rule (out_children (step task).out))) (visited_is task earlier so_far (subst (λ s. Visited rule task s earlier so_far) is v))
-      ∙ own_first task earlier h
+  module _ (task : T) (stepped : Stepped T) (children vec items : List T) (p : Passed step task stepped children vec items) where
+    -- the children have less depth
+    pub passed_below : Each (λ c. depth c < depth task) items
+    passed_below = subst (λ l. Each (λ c. depth c < depth task) l) (sym (items_are step task stepped children vec items p)) (deeper task)
 
-  -- the children of the step that was taken have less depth
-  pub children_below : (task : T) (stepped : Stepped T) (items : List T) → stepped ≡ step task → items ≡ out_children stepped.out → Each (λ c. depth c < depth task) items
-  children_below task stepped items is same =
-      subst (λ l. Each (λ c. depth c < depth task) l) (sym (same ∙ ap (λ s. out_children s.out) is)) (deeper task)
+    module _ (earlier so_far : Walked T) (mark : Visit T) (v : Visited rule task stepped earlier so_far mark) where
+      to_come : and_then so_far (walk_all step depth rule items) ≡ and_then earlier (walk step depth rule task)
+      to_come =
+          ap (λ l. and_then so_far (walk_all step depth rule l)) (items_are step task stepped children vec items p)
+          ∙ ap (λ w. and_then w (walk_all step depth rule (out_children (step task).out)))
+          (visited_is task earlier so_far mark (subst (λ s. Visited rule task s earlier so_far mark) p.taken v))
+          ∙ own_first task earlier v.began
+
+      module _ (now : Walked T) (left : List T) (kept : and_then now (walk_all step depth rule left) ≡ and_then so_far (walk_all step depth rule items)) where
+        -- the task is walked where no child is left
+        pub all_walked : left ≡ [] → now ≡ and_then earlier (walk step depth rule task)
+        all_walked none =
+            sym (and_then_nothing now) ∙ ap (λ l. and_then now (walk_all step depth rule l)) (sym none) ∙ kept ∙ to_come
+
+        -- and where a child's walk has ended
+        pub walk_ended : now.end ≢ End.Through → now ≡ and_then earlier (walk step depth rule task)
+        walk_ended other = sym (ended now (walk_all step depth rule left) other) ∙ kept ∙ to_come
