@@ -1,7 +1,8 @@
-//! The serial waterfall over tasks of any kind: it visits a task and then its children in order, depth
-//! first, and ends at the first visit that stops the attempt, reverts it to the original goal, or
-//! reaches the limit on goals. The same visits are a cut of the list of all marks, which lets walks of
-//! siblings that were made apart be put together.
+//! The serial waterfall of "Computer-Aided Reasoning" (2000) over tasks of any kind: it visits a task and
+//! then its children in order, depth first, and ends at the first visit that stops the attempt, reverts
+//! it to the original goal, or reaches the limit on goals. The same visits are a cut of the list of all
+//! marks, so that walks of siblings that were made apart, as Rager, Hunt and Kaufmann (ITP 2013) make
+//! them, can be put together.
 #![tactic(auto)]
 
 mod act;

@@ -27,11 +27,11 @@ pub trait Step {
     /// How far the tree below the task may reach.
     ghost depth: { Self.Task → ℕ };
 
-    /// Takes one step of a task.
+    /// Takes one step of a task. The only error is want of memory.
     fn step(&self, alloc: Global, task: &Self::Task) -> Result<Stepped<Self::Task>, NoMemory>
         ensures { IfOk result (λ stepped. stepped ≡ step_of task.now) };
 
-    /// A copy of a task.
+    /// A copy of a task. The only error is want of memory.
     fn copy_task(&self, alloc: Global, task: &Self::Task) -> Result<Self::Task, NoMemory>
         ensures { IfOk result (λ copy. copy ≡ task.now) };
 
@@ -39,7 +39,8 @@ pub trait Step {
     fn same_task(&self, a: &Self::Task, b: &Self::Task) -> bool
         ensures { IsTrue result ↔ (a.now ≡ b.now) };
 
-    /// The name of a task's goal.
+    /// The name of a task's goal, as the manual's topic `goal-spec` gives it. The only error is want of
+    /// memory.
     fn name_of(&self, alloc: Global, task: &Self::Task) -> Result<GoalName, NoMemory>
         ensures { IfOk result (λ given. given ≡ name task.now) };
 

@@ -41,8 +41,8 @@ fn walk_on<S: Step>(
 
 /// The serial walk of a task from the empty tally. It visits a task and then its children in order, each
 /// with all that is below it. It ends after the first visit at which the attempt stops; or a second task
-/// was pushed, where the walk is the initial one of its attempt and `:otf-flg` isn't set; or the goals
-/// are the limit. The only error is want of memory.
+/// was pushed, where the walk is the initial one of its attempt and `:otf-flg` isn't set (the manual's
+/// topic `otf-flg`); or the goals are the limit. The only error is want of memory.
 pub fn serial<S: Step>(
     alloc: Global,
     step: &S,
