@@ -1,0 +1,4 @@
+pub mod Visits
+pub mod Tallies
+pub mod Walks
+pub mod Laws
