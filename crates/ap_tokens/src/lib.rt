@@ -1,0 +1,9 @@
+//! Tokens of a book's text: what stands between blanks and comments, lent from the text and never
+//! copied. The grammar is that of the ACL2 reader on this fragment.
+#![tactic(auto)]
+
+mod bytes;
+mod scan;
+mod token;
+
+pub use token::{FaultKind, Kind, Token, TokenFault};
