@@ -1,2 +1,4 @@
 pub mod Bytes
 pub mod Scans
+pub mod Gaps
+pub mod Hashes

@@ -3,6 +3,8 @@
 #![tactic(auto)]
 
 mod bytes;
+mod gap;
+mod hash;
 mod scan;
 mod token;
 
