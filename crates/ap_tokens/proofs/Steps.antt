@@ -1,6 +1,8 @@
 -- One step of each scan, at what is left of a text.
-use Rattle.std.proofs.Common.{◌≡◌, ℕ, ◌+◌, ◌<◌, ◌≤◌, Bool, List, [], ◌∷◌, length, get_or, drop, Option, Some, None, refl, ap, arith}
+use Rattle.std.proofs.Common.{◌≡◌, ℕ, ◌+◌, ◌<◌, ◌≤◌, Bool, true, List, [], ◌∷◌, length, get_or, drop, Option, Some, None, refl, ap, arith}
 use Rattle.std.proofs.lemmas.List.{at_drop_more, at_drop_all}
+use Rattle.ap_tokens.specs.declared.hash.Base.{Base}
+use Rattle.ap_tokens.specs.Hashes.{digits_of}
 use Rattle.ap_tokens.specs.Scans.{more, line_len, run_len, string_len, comment_len, atom_len}
 
 pub more_more : (a b : ℕ) (o : Option ℕ) → more a (more b o) ≡ more (a + b) o
@@ -31,4 +33,10 @@ atom_more bar taken t n d h = at_drop_more (atom_len bar taken) t n d h
 pub atom_all : (bar taken : Bool) (t : List ℕ) (n : ℕ) → length t ≤ n → atom_len bar taken (drop n t) ≡ atom_len bar taken []
 atom_all bar taken t n h = at_drop_all (atom_len bar taken) t n h
 
-pub ruleset steps = (more_more, line_more, line_all, run_more, run_all, string_more, string_all, atom_more, atom_all)
+pub digits_more : (base : Base) (t : List ℕ) (n d : ℕ) → n < length t → digits_of base (drop n t) ≡ digits_of base (get_or t n d ∷ drop (n + 1) t)
+digits_more base t n d h = at_drop_more (digits_of base) t n d h
+
+pub digits_all : (base : Base) (t : List ℕ) (n : ℕ) → length t ≤ n → digits_of base (drop n t) ≡ true
+digits_all base t n h = at_drop_all (digits_of base) t n h
+
+pub ruleset steps = (digits_more, digits_all, more_more, line_more, line_all, run_more, run_all, string_more, string_all, atom_more, atom_all)

@@ -65,4 +65,4 @@ gap inside p [] = Ok (at p [])
 gap (suc inside) p (c ∷ t) = gap inside (p + 1) t
 gap zero p (c ∷ t) =
     at_step (step_of (c ∷ t)) (λ n. gap (n - 1) (p + 1) t) (Ok (at p (c ∷ t)))
-        (Err (record { place = p; kind = faults.OpenComment }))
+    (Err (record { place = p; kind = faults.OpenComment }))

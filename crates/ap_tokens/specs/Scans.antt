@@ -47,7 +47,7 @@ comment_len deep [] = None
 comment_len deep (c ∷ []) = None
 comment_len deep (c ∷ d ∷ t) =
     at_mark (mark_of (c ∷ d ∷ t)) (if deep == 0 then Some 2 else more 2 (comment_len (deep - 1) t))
-        (more 2 (comment_len (deep + 1) t)) (more 1 (comment_len deep (d ∷ t)))
+    (more 2 (comment_len (deep + 1) t)) (more 1 (comment_len deep (d ∷ t)))
 
 -- what a byte is to an atom; `bar`: it stands within bars
 abbrev pub part_by : Bool → Bool → Bool → Part
