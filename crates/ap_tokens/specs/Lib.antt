@@ -2,3 +2,4 @@ pub mod Bytes
 pub mod Scans
 pub mod Gaps
 pub mod Hashes
+pub mod Tokens

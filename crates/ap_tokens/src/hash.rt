@@ -1,4 +1,4 @@
-ghost use Rattle.std.specs.Prelude.{◌≡◌, ◌+◌, ◌≤◌, length, IfOk};
+ghost use Rattle.std.specs.Prelude.{◌≡◌, ◌+◌, ◌<◌, ◌≤◌, length, IfOk};
 ghost use Rattle.ap_tokens.specs.Hashes.{hash_of, is_digit_of, digits_of, some_digits_of, is_number_of, same_letters, char_name, character_of, based_of, hashed_of};
 
 use crate::scan::run_len;
@@ -111,6 +111,7 @@ pub fn char_named(name: &[u8]) -> Option<u8>
 fn character_from(text: &[u8]) -> Result<(Kind, usize), FaultKind>
     ensures value { result ≡ character_of text.now }
     ensures within { IfOk result (λ token. token.1 ≤ 2 + length text.now) }
+    ensures some { IfOk result (λ token. 0 < token.1) }
 {
     let Some((_, rest)) = text.split_first() else {
         return Err(FaultKind::BadHash);
@@ -127,6 +128,7 @@ fn character_from(text: &[u8]) -> Result<(Kind, usize), FaultKind>
 fn number_from(base: Base, text: &[u8]) -> Result<(Kind, usize), FaultKind>
     ensures value { result ≡ based_of base text.now }
     ensures within { IfOk result (λ token. token.1 ≤ 2 + length text.now) }
+    ensures some { IfOk result (λ token. 0 < token.1) }
 {
     let n = run_len(text);
     if is_number_of(base, &text[..n]) {
@@ -141,6 +143,7 @@ fn number_from(base: Base, text: &[u8]) -> Result<(Kind, usize), FaultKind>
 pub fn hashed_from(text: &[u8]) -> Result<(Kind, usize), FaultKind>
     ensures value { result ≡ hashed_of text.now }
     ensures within { IfOk result (λ token. token.1 ≤ 1 + length text.now) }
+    ensures some { IfOk result (λ token. 0 < token.1) }
 {
     match hash_at(text) {
         Hash::Character => character_from(&text[1..]),

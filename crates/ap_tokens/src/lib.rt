@@ -7,5 +7,8 @@ mod gap;
 mod hash;
 mod scan;
 mod token;
+mod tokens;
 
+pub use hash::char_named;
 pub use token::{FaultKind, Kind, Token, TokenFault};
+pub use tokens::{Tokens, over};
