@@ -1,9 +1,8 @@
 -- One step over a blank or a comment.
-use Rattle.std.proofs.Common.{◌≡◌, ℕ, ◌+◌, ◌-◌, ◌<◌, ◌≤◌, List, [], ◌∷◌, length, drop, Option, Some, None, Result, Ok, Err, zero, suc, refl, sym, ap, ◌∙◌, arith}
+use Rattle.std.proofs.Common.{◌≡◌, ℕ, ◌+◌, ◌-◌, ◌≤◌, List, [], ◌∷◌, length, drop, Ok, Err, zero, suc, refl, ap, ◌∙◌, arith}
 use Rattle.ap_tokens.specs.declared.token.FaultKind.TheVariants as faults
-use Rattle.ap_tokens.specs.declared.token.TokenFault.{TokenFault}
 use Rattle.ap_tokens.specs.declared.gap.Step.TheVariants.{Pass, Stay, Open}
-use Rattle.ap_tokens.specs.Gaps.{At, at, step_of, at_step, gap}
+use Rattle.ap_tokens.specs.Gaps.{at, step_of, at_step, gap}
 
 -- the bytes that are still of a comment are passed over
 pub gap_inside : (k p : ℕ) (t : List ℕ) → k ≤ length t → gap k p t ≡ gap 0 (p + k) (drop k t)

@@ -3,7 +3,7 @@ use Rattle.std.proofs.Common.{◌≡◌, ℕ, ◌+◌, ◌<◌, ◌≤◌, Bool,
 use Rattle.std.proofs.lemmas.List.{at_drop_more, at_drop_all}
 use Rattle.ap_tokens.specs.declared.hash.Base.{Base}
 use Rattle.ap_tokens.specs.Hashes.{digits_of}
-use Rattle.ap_tokens.specs.Scans.{more, line_len, run_len, string_len, comment_len, atom_len}
+use Rattle.ap_tokens.specs.Scans.{more, line_len, run_len, string_len, atom_len}
 
 pub more_more : (a b : ℕ) (o : Option ℕ) → more a (more b o) ≡ more (a + b) o
 more_more a b None = refl

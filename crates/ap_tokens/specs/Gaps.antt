@@ -1,5 +1,5 @@
 -- What stands between tokens: blanks and comments.
-use Rattle.std.specs.Prelude.{◌≡◌, ℕ, ◌+◌, ◌-◌, ◌≤◌, Bool, true, false, ◌&&◌, ◌==◌, List, [], ◌∷◌, length, drop, Option, Some, None, Result, Ok, Err, zero, suc}
+use Rattle.std.specs.Prelude.{ℕ, ◌+◌, ◌-◌, ◌≤◌, Bool, true, false, ◌&&◌, ◌==◌, List, [], ◌∷◌, drop, Option, Some, None, Result, Ok, Err, zero, suc}
 use Rattle.ap_tokens.specs.declared.token.TokenFault.{TokenFault}
 use Rattle.ap_tokens.specs.declared.token.FaultKind.TheVariants as faults
 use Rattle.ap_tokens.specs.declared.gap.Start.{Start}

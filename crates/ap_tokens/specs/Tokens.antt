@@ -1,5 +1,5 @@
 -- Tokens: the grammar of the reader, by cases on what a text begins with.
-use Rattle.std.specs.Prelude.{◌≡◌, ℕ, ◌+◌, Bool, true, false, ◌&&◌, ◌==◌, if◌then◌else◌, List, [], ◌∷◌, take, drop, Option, Some, None, Result, Ok, Err}
+use Rattle.std.specs.Prelude.{◌≡◌, ℕ, ◌+◌, false, ◌&&◌, ◌==◌, if◌then◌else◌, List, [], ◌∷◌, take, drop, Option, Some, None, Result, Ok, Err}
 use Rattle.ap_tokens.specs.declared.token.Kind.{Kind}
 use Rattle.ap_tokens.specs.declared.token.Kind.TheVariants as kinds
 use Rattle.ap_tokens.specs.declared.token.FaultKind.{FaultKind}

@@ -12,3 +12,6 @@ mod tokens;
 pub use hash::char_named;
 pub use token::{FaultKind, Kind, Token, TokenFault};
 pub use tokens::{Tokens, over};
+
+#[cfg(test)]
+mod tests;

@@ -1,4 +1,4 @@
-use Rattle.std.proofs.Common.{◌≡◌, length, drop, sym, ap, ◌∙◌, arith}
+use Rattle.std.proofs.Common.{◌≡◌, drop, sym, ap, ◌∙◌, arith}
 use Rattle.std.proofs.lemmas.List.{take_rest}
 use Rattle.ap_tokens.specs.declared.scan.Mark.TheVariants.{Close, Open, Byte}
 use Rattle.ap_tokens.specs.Scans.{mark_of}
