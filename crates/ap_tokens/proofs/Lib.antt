@@ -1,3 +1,4 @@
 pub mod Steps
 pub mod Comments
 pub mod Passes
+pub mod Sound

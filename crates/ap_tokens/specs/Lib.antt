@@ -3,3 +3,4 @@ pub mod Scans
 pub mod Gaps
 pub mod Hashes
 pub mod Tokens
+pub mod Grammar
