@@ -2,3 +2,4 @@ pub mod Steps
 pub mod Comments
 pub mod Passes
 pub mod Sound
+pub mod Gapped

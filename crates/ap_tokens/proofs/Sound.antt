@@ -8,19 +8,19 @@ use Rattle.ap_tokens.specs.declared.scan.Mark.TheVariants.{Close, Open, Byte}
 use Rattle.ap_tokens.specs.Scans.{more, line_len, comment_len, mark_of, mark_by, at_mark}
 use Rattle.ap_tokens.specs.Grammar.{Line, last_line, line_feed, line_byte, Comment, comment_end, comment_close, comment_open, comment_byte}
 
-same : (a b : ℕ) → (a == b) ≡ true → a ≡ b
+pub same : (a b : ℕ) → (a == b) ≡ true → a ≡ b
 same a b e = (Decides-eqb a b).0 e
 
-differ : (a b : ℕ) → (a == b) ≡ false → a ≢ b
+pub differ : (a b : ℕ) → (a == b) ≡ false → a ≢ b
 differ a b e h = let t : (a == b) ≡ true = (Decides-eqb a b).1 h in cc
 
-drop_first : (n c : ℕ) (t : List ℕ) → drop (1 + n) (c ∷ t) ≡ drop n t
+pub drop_first : (n c : ℕ) (t : List ℕ) → drop (1 + n) (c ∷ t) ≡ drop n t
 drop_first n c t = let z : 1 + n ≡ suc n = omega arith in ap (λ k. drop k (c ∷ t)) z
 
-drop_second : (n c d : ℕ) (t : List ℕ) → drop (2 + n) (c ∷ d ∷ t) ≡ drop n t
+pub drop_second : (n c d : ℕ) (t : List ℕ) → drop (2 + n) (c ∷ d ∷ t) ≡ drop n t
 drop_second n c d t = let z : 2 + n ≡ suc (suc n) = omega arith in ap (λ k. drop k (c ∷ d ∷ t)) z
 
-more_some : (k : ℕ) (o : Option ℕ) (n : ℕ) → more k o ≡ Some n → (m : ℕ) × ((o ≡ Some m) × (n ≡ k + m))
+pub more_some : (k : ℕ) (o : Option ℕ) (n : ℕ) → more k o ≡ Some n → (m : ℕ) × ((o ≡ Some m) × (n ≡ k + m))
 more_some k None n e = absurd cc
 more_some k (Some m) n e = let h : k + m ≡ n = cc in (m, (refl, sym h))
 
@@ -33,7 +33,7 @@ line_sound (c ∷ t) = by_test (c == 10) refl (line_sound t)
     by_test false e rest = subst (λ u. Line (c ∷ t) u) (sym (drop_first (line_len t) c t)) (line_byte c t (drop (line_len t) t) (differ c 10 e) rest)
 
 -- what each mark says of the two bytes
-and_both : (a b : Bool) → (a && b) ≡ true → (a ≡ true) × (b ≡ true)
+pub and_both : (a b : Bool) → (a && b) ≡ true → (a ≡ true) × (b ≡ true)
 and_both true true e = (refl, refl)
 and_both true false e = absurd cc
 and_both false b e = absurd cc
@@ -90,3 +90,34 @@ comment_sound deep [] n e = absurd cc
 comment_sound deep (c ∷ []) n e = absurd cc
 comment_sound deep (c ∷ d ∷ t) n e =
     comment_step (mark_of (c ∷ d ∷ t)) deep c d t n (marked c d t) (λ k m h. comment_sound k t m h) (λ m h. comment_sound deep (d ∷ t) m h) e
+
+pub line_within : (t : List ℕ) → line_len t ≤ length t
+line_within [] = omega arith
+line_within (c ∷ t) = by_test (c == 10) (line_within t)
+  where
+    by_test : (b : Bool) → line_len t ≤ length t → (if b then 1 else 1 + line_len t) ≤ length (c ∷ t)
+    by_test true h = omega arith
+    by_test false h = omega arith
+
+within_step : (m : Mark) (deep c d : ℕ) (t : List ℕ) (n : ℕ)
+    → ((deep m : ℕ) → comment_len deep t ≡ Some m → m ≤ length t)
+    → ((m : ℕ) → comment_len deep (d ∷ t) ≡ Some m → m ≤ length (d ∷ t))
+    → (b : Bool) → at_mark m (if b then Some 2 else more 2 (comment_len (deep - 1) t)) (more 2 (comment_len (deep + 1) t)) (more 1 (comment_len deep (d ∷ t))) ≡ Some n
+    → n ≤ length (c ∷ d ∷ t)
+within_step Close deep c d t n later next true e = let h : 2 ≡ n = cc in omega arith
+within_step Close deep c d t n later next false e =
+    let (m, (o, s)) = more_some 2 (comment_len (deep - 1) t) n e in
+    omega (arith, later (deep - 1) m o, s)
+within_step Open deep c d t n later next b e =
+    let (m, (o, s)) = more_some 2 (comment_len (deep + 1) t) n e in
+    omega (arith, later (deep + 1) m o, s)
+within_step Byte deep c d t n later next b e =
+    let (m, (o, s)) = more_some 1 (comment_len deep (d ∷ t)) n e in
+    let h : m ≤ length (d ∷ t) = next m o in
+    omega (arith, h, s)
+
+pub comment_within : (deep : ℕ) (t : List ℕ) (n : ℕ) → comment_len deep t ≡ Some n → n ≤ length t
+comment_within deep [] n e = absurd cc
+comment_within deep (c ∷ []) n e = absurd cc
+comment_within deep (c ∷ d ∷ t) n e =
+    within_step (mark_of (c ∷ d ∷ t)) deep c d t n (λ k m h. comment_within k t m h) (λ m h. comment_within deep (d ∷ t) m h) (deep == 0) e

@@ -3,7 +3,8 @@
 use Rattle.std.specs.Prelude.{◌≡◌, ◌≢◌, ℕ, ◌+◌, List, [], ◌∷◌, ◌++◌, length, Option, None, Ok, Err, true}
 use Rattle.std.proofs.Common.{zero, suc}
 use Rattle.ap_tokens.specs.Bytes.{is_blank}
-use Rattle.ap_tokens.specs.Gaps.{At, at, gap}
+use Rattle.ap_tokens.specs.declared.gap.Start.TheVariants as start
+use Rattle.ap_tokens.specs.Gaps.{At, start_of}
 
 -- to the end of a line
 pub data Line : List ℕ → List ℕ → Type 0 where
@@ -24,3 +25,11 @@ pub data Between : List ℕ → List ℕ → Type 0 where
   blank : (c : ℕ) (t u : List ℕ) → is_blank c ≡ true → Between t u → Between (c ∷ t) u
   line : (t u v : List ℕ) → Line t u → Between u v → Between (59 ∷ t) v
   block : (t u v : List ℕ) → Comment zero t u → Between u v → Between (35 ∷ 124 ∷ t) v
+
+-- From place p and text t on, blanks and whole comments lead to a, where neither begins. They are a slice of the text.
+pub record Passes (p : ℕ) (t : List ℕ) (a : At) : Type 0 where
+  pub between : Between t a.rest
+  pub gone : List ℕ
+  pub slice : t ≡ gone ++ a.rest
+  pub place : a.place ≡ p + length gone
+  pub here : start_of a.rest ≡ start.Other
