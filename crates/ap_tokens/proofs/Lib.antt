@@ -3,3 +3,4 @@ pub mod Comments
 pub mod Passes
 pub mod Sound
 pub mod Gapped
+pub mod Within
