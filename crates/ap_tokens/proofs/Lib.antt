@@ -4,3 +4,4 @@ pub mod Passes
 pub mod Sound
 pub mod Gapped
 pub mod Within
+pub mod Found

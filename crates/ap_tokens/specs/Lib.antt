@@ -4,3 +4,4 @@ pub mod Gaps
 pub mod Hashes
 pub mod Tokens
 pub mod Grammar
+pub mod Laws

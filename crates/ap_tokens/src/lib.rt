@@ -5,11 +5,13 @@
 mod bytes;
 mod gap;
 mod hash;
+mod laws;
 mod scan;
 mod token;
 mod tokens;
 
 pub use hash::char_named;
+pub use laws::next_law;
 pub use token::{FaultKind, Kind, Token, TokenFault};
 pub use tokens::{Tokens, over};
 
