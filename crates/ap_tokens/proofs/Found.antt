@@ -1,24 +1,25 @@
 -- The next token and what lies before it.
-use Rattle.std.proofs.Common.{◌≡◌, ℕ, ◌+◌, ◌<◌, ◌≤◌, List, [], ◌∷◌, ◌++◌, length, take, drop, Option, Some, None, Result, Ok, Err, refl, sym, ap, subst, ◌∙◌, arith}
+use Rattle.std.proofs.Common.{◌≡◌, ℕ, ◌+◌, List, [], ◌∷◌, length, take, drop, Option, Some, None, Result, Ok, Err, refl, sym, ap, subst, ◌∙◌, arith}
 use Rattle.std.proofs.lemmas.List.{take-append-drop, length-take-le}
 use Rattle.ap_tokens.specs.declared.token.Kind.{Kind}
 use Rattle.ap_tokens.specs.declared.token.FaultKind.{FaultKind}
 use Rattle.ap_tokens.specs.declared.token.TokenFault.{TokenFault}
 use Rattle.ap_tokens.specs.Gaps.{At, at, gap}
-use Rattle.ap_tokens.specs.Grammar.{Between, Passes}
+use Rattle.ap_tokens.specs.Grammar.{Between, Passes, Spells}
 use Rattle.ap_tokens.specs.Tokens.{Seen, token_of, cut, token_here, then_token, next_of}
 use Rattle.ap_tokens.specs.Laws.{Found}
 use Rattle.ap_tokens.proofs.Gapped.{passes}
+use Rattle.ap_tokens.proofs.Lexemes.{token_spelled}
 use Rattle.ap_tokens.proofs.Within.{Fits, token_fits}
 
 abbrev Next : Type 0
 Next = Result (Option (Seen × At)) TokenFault
 
 cut_found : (a h b : At) (s : Seen) (c : ℕ) (t : List ℕ) (r : Result (Kind × ℕ) FaultKind) → Passes a.place a.rest h → h.rest ≡ c ∷ t
-    → ((k : Kind) (n : ℕ) → r ≡ Ok (k, n) → Fits (c ∷ t) n) → ◌≡◌ {A = Next} (cut h.place (c ∷ t) r) (Ok (Some (s, b))) → Found a s b
+    → ((k : Kind) (n : ℕ) → r ≡ Ok (k, n) → Fits (c ∷ t) n × Spells k (c ∷ t) (drop n (c ∷ t))) → ◌≡◌ {A = Next} (cut h.place (c ∷ t) r) (Ok (Some (s, b))) → Found a s b
 cut_found a h b s c t (Err f) p w fits e = absurd cc
 cut_found a h b s c t (Ok (k, n)) p w fits e =
-    let u = fits k n refl in
+    let (u, v) = fits k n refl in
     let token : Seen = record { start = h.place; text = take n (c ∷ t); kind = k } in
     let after : At = at (h.place + n) (drop n (c ∷ t)) in
     let same : ◌≡◌ {A = Seen × At} (token, after) (s, b) = cc in
@@ -29,13 +30,14 @@ cut_found a h b s c t (Ok (k, n)) p w fits e =
       start = refl;
       slice = w ∙ sym (take-append-drop n (c ∷ t));
       place = ap (λ m. h.place + m) (sym length_is);
+      spelled = subst (λ x. Spells k x (drop n (c ∷ t))) (sym w) v;
       some = omega (arith, length_is, u.0);
     } in
     subst (λ (z : Seen × At). Found a z.0 z.1) same here
 
 here_found : (a h b : At) (s : Seen) (t : List ℕ) → h.rest ≡ t → Passes a.place a.rest h → ◌≡◌ {A = Next} (token_here h.place t) (Ok (Some (s, b))) → Found a s b
 here_found a h b s [] w p e = absurd cc
-here_found a h b s (c ∷ t) w p e = cut_found a h b s c t (token_of c t) p w (λ k n f. token_fits c t k n f) e
+here_found a h b s (c ∷ t) w p e = cut_found a h b s c t (token_of c t) p w (λ k n f. (token_fits c t k n f, token_spelled c t k n f)) e
 
 pub found : (a b : At) (s : Seen) → next_of a ≡ Ok (Some (s, b)) → Found a s b
 unfolding next_of

@@ -1,5 +1,5 @@
 -- What `gap` passes are blanks and whole comments, and a slice of the text.
-use Rattle.std.proofs.Common.{◌≡◌, ◌≢◌, ℕ, ◌+◌, ◌-◌, ◌<◌, ◌≤◌, ◌==◌, ◌&&◌, Bool, true, false, List, [], ◌∷◌, ◌++◌, length, take, drop, Option, Some, None, Result, Ok, Err, zero, suc, refl, sym, ap, subst, ◌∙◌, arith, append_assoc, length-append}
+use Rattle.std.proofs.Common.{◌≡◌, ℕ, ◌+◌, ◌<◌, ◌≤◌, ◌==◌, ◌&&◌, Bool, true, false, List, [], ◌∷◌, ◌++◌, length, take, drop, Option, Some, None, Result, Ok, zero, suc, refl, sym, ap, subst, ◌∙◌, arith, append_assoc, length-append}
 use Rattle.std.proofs.lemmas.List.{take-append-drop, length-take-le, length-drop}
 use Rattle.ap_tokens.specs.declared.token.TokenFault.{TokenFault}
 use Rattle.ap_tokens.specs.declared.gap.Start.{Start}
@@ -9,11 +9,11 @@ use Rattle.ap_tokens.specs.declared.gap.Step.TheVariants.{Pass, Stay, Open}
 use Rattle.ap_tokens.specs.Bytes.{is_blank}
 use Rattle.ap_tokens.specs.Scans.{line_len, comment_len}
 use Rattle.ap_tokens.specs.Gaps.{At, at, begins, start_by, start_of, block_step, step_by, step_of, gap}
-use Rattle.ap_tokens.specs.Grammar.{Line, Comment, Between, nothing, blank, line, block, Passes}
+use Rattle.ap_tokens.specs.Grammar.{Between, nothing, blank, line, block, Passes}
 use Rattle.ap_tokens.proofs.Passes.{gap_pass, gap_stay, gap_open}
 use Rattle.ap_tokens.proofs.Sound.{same, and_both, drop_first, drop_second, line_sound, comment_sound, line_within, comment_within}
 
-begins_is : (b : ℕ) (t : List ℕ) → begins b t ≡ true → (u : List ℕ) × (t ≡ b ∷ u)
+pub begins_is : (b : ℕ) (t : List ℕ) → begins b t ≡ true → (u : List ℕ) × (t ≡ b ∷ u)
 begins_is b [] e = absurd cc
 begins_is b (c ∷ t) e = (t, ap (λ x. x ∷ t) (same c b e))
 
@@ -73,7 +73,7 @@ pub passes_more : (most p : ℕ) (t : List ℕ) (a : At) → length t < most →
 passes_more zero p t a h e = absurd (omega arith)
 passes_more (suc most) p t a h e =
     by_step (step_of t) refl (extends t a.rest)
-        (λ n low high s. passes_more most (p + n) (drop n t) a (omega (arith, length-drop n t)) (sym (gap_pass n p t s low high) ∙ e))
+    (λ n low high s. passes_more most (p + n) (drop n t) a (omega (arith, length-drop n t)) (sym (gap_pass n p t s low high) ∙ e))
   where
     by_step : (s : Step) → step_of t ≡ s → Extends t a.rest s → ((n : ℕ) → 1 ≤ n → n ≤ length t → step_of t ≡ Pass n → Passes (p + n) (drop n t) a) → Passes p t a
     by_step (Pass n) s x later =

@@ -4,4 +4,6 @@ pub mod Passes
 pub mod Sound
 pub mod Gapped
 pub mod Within
+pub mod Lexemes
 pub mod Found
+pub mod Spelled

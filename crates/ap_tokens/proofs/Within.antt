@@ -1,5 +1,5 @@
 -- A token has a byte, and no more than there are.
-use Rattle.std.proofs.Common.{◌≡◌, ℕ, ◌+◌, ◌<◌, ◌≤◌, ◌==◌, ◌&&◌, ◌||◌, not, Bool, true, false, List, [], ◌∷◌, length, take, Option, Some, None, Result, Ok, Err, zero, suc, refl, sym, ap, ◌∙◌, arith}
+use Rattle.std.proofs.Common.{◌≡◌, ℕ, ◌+◌, ◌<◌, ◌≤◌, ◌==◌, ◌&&◌, ◌||◌, not, Bool, true, false, List, [], ◌∷◌, length, take, Option, Some, None, Result, Ok, refl, ap, arith}
 use Rattle.std.specs.Prelude.{if◌then◌else◌, is_some}
 use Rattle.ap_tokens.specs.declared.token.Kind.{Kind}
 use Rattle.ap_tokens.specs.declared.token.Kind.TheVariants as kinds
@@ -7,16 +7,15 @@ use Rattle.ap_tokens.specs.declared.token.FaultKind.{FaultKind}
 use Rattle.ap_tokens.specs.declared.token.FaultKind.TheVariants as faults
 use Rattle.ap_tokens.specs.declared.scan.Part.{Part}
 use Rattle.ap_tokens.specs.declared.scan.Part.TheVariants.{Escape, Bar, Stop, Plain}
-use Rattle.ap_tokens.specs.declared.hash.Base.{Base}
 use Rattle.ap_tokens.specs.declared.hash.Hash.{Hash}
 use Rattle.ap_tokens.specs.declared.hash.Hash.TheVariants as hash
 use Rattle.ap_tokens.specs.declared.tokens.Lead.{Lead}
 use Rattle.ap_tokens.specs.declared.tokens.Lead.TheVariants as lead
 use Rattle.ap_tokens.specs.Bytes.{ends_atom}
 use Rattle.ap_tokens.specs.Scans.{more, run_len, string_len, atom_len, part_of, at_part}
-use Rattle.ap_tokens.specs.Hashes.{hash_of, char_name, is_number_of, where_true, character_of, based_of, hashed_by, hashed_of}
+use Rattle.ap_tokens.specs.Hashes.{hash_of, char_name, is_number_of, where_true, hashed_by, hashed_of}
 use Rattle.ap_tokens.specs.Gaps.{begins}
-use Rattle.ap_tokens.specs.Tokens.{lead_of, comma_of, text_by, text_of, atom_by, atom_of, token_by, token_of}
+use Rattle.ap_tokens.specs.Tokens.{lead_of, text_by, atom_by, token_by, token_of}
 use Rattle.ap_tokens.proofs.Sound.{more_some}
 
 -- a length that isn't 0 nor past the end
@@ -46,7 +45,7 @@ string_within false (c ∷ t) n e = by_test (c == 34) (c == 92) e (λ b m h. str
         let (m, (o, s)) = more_some 1 (string_len b t) n h in
         omega (arith, later b m o, s)
 
-atom_within : (bar taken : Bool) (t : List ℕ) (n : ℕ) → atom_len bar taken t ≡ Some n → n ≤ length t
+pub atom_within : (bar taken : Bool) (t : List ℕ) (n : ℕ) → atom_len bar taken t ≡ Some n → n ≤ length t
 atom_within bar taken [] n e = by_test (bar || taken) e
   where
     by_test : (b : Bool) → (if b then None else Some 0) ≡ Some n → n ≤ 0
@@ -72,7 +71,7 @@ atom_within bar false (c ∷ t) n e = by_part (part_of bar c) e (λ a b m h. ato
         omega (arith, later bar false m o, s)
 
 -- an answer's parts
-parts : (k l : Kind) (m n : ℕ) → ◌≡◌ {A = Result (Kind × ℕ) FaultKind} (Ok (k, m)) (Ok (l, n)) → (k ≡ l) × (m ≡ n)
+pub parts : (k l : Kind) (m n : ℕ) → ◌≡◌ {A = Result (Kind × ℕ) FaultKind} (Ok (k, m)) (Ok (l, n)) → (k ≡ l) × (m ≡ n)
 parts k l m n e =
     let h : ◌≡◌ {A = Kind × ℕ} (k, m) (l, n) = cc in
     (ap (λ z. z.0) h, ap (λ z. z.1) h)

@@ -12,5 +12,4 @@ ghost use Rattle.ap_tokens.specs.Laws.{Found};
 pub fn next_law()
     ensures found { (a b : At) (s : Seen) → next_of a ≡ Ok (Some (s, b)) → Found a s b }
     ensures none { (a : At) → next_of a ≡ Ok None → Between a.rest [] }
-{
-}
+{}
