@@ -7,3 +7,4 @@ pub mod Within
 pub mod Lexemes
 pub mod Found
 pub mod Spelled
+pub mod Complete
