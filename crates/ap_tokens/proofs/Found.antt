@@ -7,7 +7,8 @@ use Rattle.ap_tokens.specs.declared.token.TokenFault.{TokenFault}
 use Rattle.ap_tokens.specs.Gaps.{At, at, gap}
 use Rattle.ap_tokens.specs.Grammar.{Between, Passes, Spells}
 use Rattle.ap_tokens.specs.Tokens.{Seen, token_of, cut, token_here, then_token, next_of}
-use Rattle.ap_tokens.specs.Laws.{Found}
+use Rattle.ap_tokens.specs.Laws.{Found, Stands, Answered}
+use Rattle.ap_tokens.proofs.Unique.{Finds, gap_complete, spells_finds}
 use Rattle.ap_tokens.proofs.Gapped.{passes}
 use Rattle.ap_tokens.proofs.Lexemes.{token_spelled}
 use Rattle.ap_tokens.proofs.Within.{Fits, token_fits}
@@ -62,3 +63,30 @@ none_left a e = by_gap (gap 0 a.place a.rest) refl e
     by_gap : (r : Result At TokenFault) → gap 0 a.place a.rest ≡ r → ◌≡◌ {A = Next} (then_token r) (Ok None) → Between a.rest []
     by_gap (Err f) g e = absurd cc
     by_gap (Ok h) g e = subst (λ u. Between a.rest u) (here_none h.place h.rest e) (passes a.place a.rest h g).between
+
+-- the token of the grammar is answered
+finds_here : (a : At) (k : Kind) (t u : List ℕ) (q : ℕ) → gap 0 a.place a.rest ≡ Ok (at q t) → Finds k t u → Answered a k u
+unfolding next_of
+finds_here a k [] u q g h = absurd h
+finds_here a k (c ∷ t) u q g (n, (e, s)) = record {
+  token = record { start = q; text = take n (c ∷ t); kind = k };
+  after = at (q + n) (drop n (c ∷ t));
+  answer = ap then_token g ∙ ap (cut q (c ∷ t)) e;
+  kind = refl;
+  rest = s;
+}
+
+pub answered : (a : At) (k : Kind) (t u : List ℕ) → Stands a k t u → Answered a k u
+answered a k t u h =
+    let (q, g) = gap_complete h.between h.here a.place in
+    finds_here a k t u q g (spells_finds h.spelled)
+
+pub none_answered : (a : At) → Between a.rest [] → next_of a ≡ Ok None
+unfolding next_of
+none_answered a h = let (q, g) = gap_complete h refl a.place in ap then_token g
+
+pub no_token : (a : At) (f : TokenFault) (k : Kind) (t u : List ℕ) → next_of a ≡ Err f → Stands a k t u → ⊥
+no_token a f k t u e h =
+    let w = answered a k t u h in
+    let z : ◌≡◌ {A = Next} (Ok (Some (w.token, w.after))) (Err f) = sym w.answer ∙ e in
+    cc

@@ -59,7 +59,7 @@ extends : (t u : List ℕ) → Extends t u (step_of t)
 extends [] u = tt
 extends (c ∷ t) u = step_extends (start_of (c ∷ t)) c t u (started c t)
 
-stays : (s : Start) (t : List ℕ) → step_by s t ≡ Stay → s ≡ start.Other
+pub stays : (s : Start) (t : List ℕ) → step_by s t ≡ Stay → s ≡ start.Other
 stays start.Block t e = by_len (comment_len 0 (drop 2 t)) e
   where
     by_len : (o : Option ℕ) → block_step o ≡ Stay → start.Block ≡ start.Other

@@ -5,6 +5,7 @@ pub mod Sound
 pub mod Gapped
 pub mod Within
 pub mod Lexemes
-pub mod Found
 pub mod Spelled
 pub mod Complete
+pub mod Unique
+pub mod Found

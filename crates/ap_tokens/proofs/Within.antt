@@ -22,7 +22,7 @@ use Rattle.ap_tokens.proofs.Sound.{more_some}
 abbrev pub Fits : List ℕ → ℕ → Type 0
 Fits t n = (0 < n) × (n ≤ length t)
 
-run_within : (t : List ℕ) → run_len t ≤ length t
+pub run_within : (t : List ℕ) → run_len t ≤ length t
 run_within [] = omega arith
 run_within (c ∷ t) = by_test (ends_atom c) (run_within t)
   where

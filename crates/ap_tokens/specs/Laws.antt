@@ -1,8 +1,10 @@
 -- What the grammar says of the next token.
-use Rattle.std.specs.Prelude.{◌≡◌, ◌+◌, ◌<◌, ◌++◌, length}
-use Rattle.ap_tokens.specs.Gaps.{At}
-use Rattle.ap_tokens.specs.Grammar.{Passes, Spells}
-use Rattle.ap_tokens.specs.Tokens.{Seen}
+use Rattle.std.specs.Prelude.{◌≡◌, ℕ, ◌+◌, ◌<◌, List, [], ◌++◌, length, Ok, Some}
+use Rattle.ap_tokens.specs.declared.token.Kind.{Kind}
+use Rattle.ap_tokens.specs.declared.gap.Start.TheVariants as start
+use Rattle.ap_tokens.specs.Gaps.{At, start_of}
+use Rattle.ap_tokens.specs.Grammar.{Between, Passes, Spells}
+use Rattle.ap_tokens.specs.Tokens.{Seen, next_of}
 
 -- Only blanks and whole comments lie between a and the token, which begins with none of them and is spelled as its kind is. Its bytes are a slice of the text, at the place where it begins and up to b.
 pub record Found (a : At) (s : Seen) (b : At) : Type 0 where
@@ -13,3 +15,17 @@ pub record Found (a : At) (s : Seen) (b : At) : Type 0 where
   pub place : b.place ≡ s.start + length s.text
   pub spelled : Spells s.kind before.rest b.rest
   pub some : 0 < length s.text
+
+-- From a on, blanks and whole comments lead to t, which begins with neither and with a token of kind k, after which u comes.
+pub record Stands (a : At) (k : Kind) (t u : List ℕ) : Type 0 where
+  pub between : Between a.rest t
+  pub here : start_of t ≡ start.Other
+  pub spelled : Spells k t u
+
+-- That token is answered.
+pub record Answered (a : At) (k : Kind) (u : List ℕ) : Type 0 where
+  pub token : Seen
+  pub after : At
+  pub answer : next_of a ≡ Ok (Some (token, after))
+  pub kind : token.kind ≡ k
+  pub rest : after.rest ≡ u
