@@ -1,13 +1,10 @@
 -- What the grammar says is what the scans find.
-use Rattle.std.proofs.Common.{◌≡◌, ◌≢◌, ℕ, ◌+◌, ◌-◌, ◌<◌, ◌≤◌, ◌==◌, ◌&&◌, ◌||◌, ◌⊎◌, inl, inr, not, Bool, true, false, cond, List, [], ◌∷◌, ◌++◌, length, take, drop, Option, Some, None, Result, Ok, Err, zero, suc, refl, sym, ap, subst, ◌∙◌, arith}
+use Rattle.std.proofs.Common.{◌≡◌, ◌≢◌, ℕ, ◌+◌, ◌-◌, ◌==◌, ◌&&◌, not, Bool, true, false, List, ◌∷◌, drop, Option, Some, suc, refl, ap, ◌∙◌, arith}
 use Rattle.std.specs.Prelude.{if◌then◌else◌}
-use Rattle.std.proofs.lemmas.Bool.Decides.{Decides-eqb, nat_tests}
-use Rattle.ap_tokens.specs.declared.scan.Mark.TheVariants.{Close, Open, Byte}
-use Rattle.ap_tokens.specs.declared.scan.Part.TheVariants.{Escape, Bar, Stop, Plain}
-use Rattle.ap_tokens.specs.declared.gap.Start.{Start}
-use Rattle.ap_tokens.specs.declared.gap.Start.TheVariants as start
-use Rattle.ap_tokens.specs.declared.gap.Step.TheVariants.{Pass, Stay}
-use Rattle.ap_tokens.specs.Bytes.{is_blank, ends_atom}
+use Rattle.std.proofs.lemmas.Bool.Decides.{nat_tests}
+use Rattle.ap_tokens.specs.declared.scan.Mark.TheVariants.{Byte}
+use Rattle.ap_tokens.specs.declared.scan.Part.TheVariants.{Stop, Plain}
+use Rattle.ap_tokens.specs.Bytes.{ends_atom}
 use Rattle.ap_tokens.specs.Scans.{more, line_len, run_len, string_len, comment_len, mark_of, mark_by, at_mark, atom_len, part_by, part_of, at_part}
 use Rattle.ap_tokens.specs.Grammar.{Line, last_line, line_feed, line_byte, Comment, comment_end, comment_close, comment_open, comment_byte, Quoted, quote_end, quote_taken, quote_byte, Named, name_end, name_stop, name_taken, name_bar, name_byte, Run, run_end, run_stop, run_byte}
 use Rattle.ap_tokens.proofs.Sound.{same, drop_first, drop_second}
@@ -67,7 +64,7 @@ comment_complete (comment_close deep t u r) =
 comment_complete (comment_open deep t u r) =
     let y : deep + 1 ≡ suc deep = omega arith in
     as_scanned (comment_len deep (35 ∷ 124 ∷ t)) (more 2 (comment_len (suc deep) t)) (35 ∷ 124 ∷ t) u (ap (λ k. more 2 (comment_len k t)) y)
-        (two_more (comment_len (suc deep) t) 35 124 t u (comment_complete r))
+    (two_more (comment_len (suc deep) t) 35 124 t u (comment_complete r))
 comment_complete (comment_byte deep c d t u p q r) =
     let m : mark_of (c ∷ d ∷ t) ≡ Byte = ap (λ a. mark_by a (c == 35 && d == 124)) (not_both c d 124 35 p) ∙ ap (mark_by false) (not_both c d 35 124 q) in
     let e = ap (λ k. at_mark k (if deep == 0 then Some 2 else more 2 (comment_len (deep - 1) t)) (more 2 (comment_len (deep + 1) t)) (more 1 (comment_len deep (d ∷ t)))) m in

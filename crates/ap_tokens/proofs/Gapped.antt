@@ -17,13 +17,13 @@ pub begins_is : (b : ℕ) (t : List ℕ) → begins b t ≡ true → (u : List �
 begins_is b [] e = absurd cc
 begins_is b (c ∷ t) e = (t, ap (λ x. x ∷ t) (same c b e))
 
-abbrev Started : Start → ℕ → List ℕ → Type 0
+abbrev pub Started : Start → ℕ → List ℕ → Type 0
 Started start.Block c t = (c ≡ 35) × ((u : List ℕ) × (t ≡ 124 ∷ u))
 Started start.Line c t = c ≡ 59
 Started start.Blank c t = is_blank c ≡ true
 Started start.Other c t = Unit {0}
 
-started : (c : ℕ) (t : List ℕ) → Started (start_of (c ∷ t)) c t
+pub started : (c : ℕ) (t : List ℕ) → Started (start_of (c ∷ t)) c t
 started c t = by_test (c == 35 && begins 124 t) refl (c == 59) refl (is_blank c) refl
   where
     by_test : (a : Bool) → (c == 35 && begins 124 t) ≡ a → (b : Bool) → (c == 59) ≡ b → (d : Bool) → is_blank c ≡ d → Started (start_by a b d) c t
@@ -33,7 +33,7 @@ started c t = by_test (c == 35 && begins 124 t) refl (c == 59) refl (is_blank c)
     by_test false e false f false g = tt
 
 -- what one step passes, before more of the same
-abbrev Extends : List ℕ → List ℕ → Step → Type 0
+abbrev pub Extends : List ℕ → List ℕ → Step → Type 0
 Extends t u (Pass n) = (n ≤ length t) × ((1 ≤ n) × (Between (drop n t) u → Between t u))
 Extends t u Stay = Unit {0}
 Extends t u Open = Unit {0}
@@ -55,7 +55,7 @@ step_extends start.Line c t u p =
 step_extends start.Blank c t u p = (omega arith, (omega arith, λ h. blank c t u p h))
 step_extends start.Other c t u p = tt
 
-extends : (t u : List ℕ) → Extends t u (step_of t)
+pub extends : (t u : List ℕ) → Extends t u (step_of t)
 extends [] u = tt
 extends (c ∷ t) u = step_extends (start_of (c ∷ t)) c t u (started c t)
 

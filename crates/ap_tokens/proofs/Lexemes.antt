@@ -23,7 +23,7 @@ use Rattle.ap_tokens.proofs.Gapped.{begins_is}
 use Rattle.ap_tokens.proofs.Spelled.{run_sound, string_sound, NamedAfter, atom_sound}
 
 -- what a first byte is, by what it leads to
-abbrev Led : Lead → ℕ → Type 0
+abbrev pub Led : Lead → ℕ → Type 0
 Led lead.LeftParen c = c ≡ 40
 Led lead.RightParen c = c ≡ 41
 Led lead.Quote c = c ≡ 39
@@ -33,7 +33,7 @@ Led lead.Text c = c ≡ 34
 Led lead.Hash c = c ≡ 35
 Led lead.Atom c = Unit {0}
 
-led : (c : ℕ) → Led (lead_of c) c
+pub led : (c : ℕ) → Led (lead_of c) c
 unfolding lead_of
 led c = first (c == 40) refl
   where
@@ -84,12 +84,12 @@ text_spelled (Some m) t l n s e =
     as_answered kinds.Text l (1 + m) n (34 ∷ t) e (subst (λ u. Spells kinds.Text (34 ∷ t) u) (sym (drop_first m 34 t)) (spells.text t (drop m t) (string_sound false t m s)))
 
 -- what the byte after a `#` is
-abbrev Hashed : Hash → ℕ → Type 0
+abbrev pub Hashed : Hash → ℕ → Type 0
 Hashed hash.Character c = c ≡ 92
 Hashed (hash.Number b) c = hash_of (c ∷ []) ≡ hash.Number b
 Hashed hash.Bad c = Unit {0}
 
-hashed : (h : Hash) (c : ℕ) → hash_of (c ∷ []) ≡ h → Hashed h c
+pub hashed : (h : Hash) (c : ℕ) → hash_of (c ∷ []) ≡ h → Hashed h c
 hashed hash.Character c e = by_test (c == 92) refl (c == 120 || c == 88) (c == 111 || c == 79) (c == 98 || c == 66) e
   where
     by_test : (a : Bool) → (c == 92) ≡ a → (x y z : Bool) → hash_by a x y z ≡ hash.Character → c ≡ 92

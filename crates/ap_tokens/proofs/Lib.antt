@@ -9,3 +9,4 @@ pub mod Spelled
 pub mod Complete
 pub mod Unique
 pub mod Found
+pub mod Faulted

@@ -1,31 +1,26 @@
 -- The grammar has one token at each place, and `next_of` finds it.
-use Rattle.std.proofs.Common.{◌≡◌, ◌≢◌, ℕ, ◌+◌, ◌-◌, ◌<◌, ◌≤◌, ◌==◌, ◌&&◌, ◌||◌, ◌⊎◌, inl, inr, Bool, true, false, List, [], ◌∷◌, ◌++◌, length, take, drop, Option, Some, None, Result, Ok, Err, zero, suc, refl, sym, ap, subst, ◌∙◌, arith, length-append}
+use Rattle.std.proofs.Common.{◌≡◌, ◌≢◌, ℕ, ◌+◌, ◌==◌, ◌&&◌, ◌||◌, ◌⊎◌, inl, inr, Bool, true, false, List, [], ◌∷◌, ◌++◌, length, take, drop, Some, Ok, suc, refl, sym, ap, ◌∙◌, arith, length-append}
 use Rattle.std.specs.Prelude.{if◌then◌else◌, is_some, IsTrue}
-use Rattle.std.proofs.lemmas.List.{take-append-drop, length-drop, take_at}
+use Rattle.std.proofs.lemmas.List.{length-drop}
 use Rattle.ap_tokens.specs.declared.token.Kind.{Kind}
 use Rattle.ap_tokens.specs.declared.token.Kind.TheVariants as kinds
-use Rattle.ap_tokens.specs.declared.token.FaultKind.{FaultKind}
 use Rattle.ap_tokens.specs.declared.token.FaultKind.TheVariants as faults
-use Rattle.ap_tokens.specs.declared.token.TokenFault.{TokenFault}
 use Rattle.ap_tokens.specs.declared.gap.Start.TheVariants as start
-use Rattle.ap_tokens.specs.declared.gap.Step.{Step}
-use Rattle.ap_tokens.specs.declared.gap.Step.TheVariants.{Pass, Stay}
 use Rattle.ap_tokens.specs.declared.hash.Base.{Base}
-use Rattle.ap_tokens.specs.declared.hash.Hash.{Hash}
 use Rattle.ap_tokens.specs.declared.hash.Hash.TheVariants as hash
 use Rattle.ap_tokens.specs.declared.tokens.Lead.{Lead}
 use Rattle.ap_tokens.specs.declared.tokens.Lead.TheVariants as lead
 use Rattle.ap_tokens.specs.Bytes.{is_blank}
 use Rattle.ap_tokens.specs.Scans.{run_len, string_len, comment_len, atom_len}
-use Rattle.ap_tokens.specs.Hashes.{hash_of, char_name, is_number_of, where_true, character_of, based_of, hashed_by, hashed_of}
-use Rattle.ap_tokens.specs.Gaps.{At, at, begins, start_by, start_of, block_step, step_by, step_of, gap}
-use Rattle.ap_tokens.specs.Tokens.{lead_of, comma_of, text_by, text_of, atom_by, atom_of, token_by, token_of}
+use Rattle.ap_tokens.specs.Hashes.{hash_of, char_name, is_number_of, where_true, hashed_by, hashed_of}
+use Rattle.ap_tokens.specs.Gaps.{at, begins, start_by, start_of, block_step, step_by, gap}
+use Rattle.ap_tokens.specs.Tokens.{lead_of, text_by, atom_by, token_by, token_of}
 use Rattle.ap_tokens.specs.Grammar.{Line, Comment, Between, nothing, blank, line, block, Run, Named, Spells}
 use Rattle.ap_tokens.specs.Grammar as spells
 use Rattle.ap_tokens.proofs.Sound.{same, drop_first, drop_second, line_within, comment_within}
 use Rattle.ap_tokens.proofs.Passes.{gap_pass, gap_stay}
 use Rattle.ap_tokens.proofs.Within.{run_within, atom_within}
-use Rattle.ap_tokens.proofs.Complete.{unequal, Ends, line_complete, run_complete, string_complete, comment_complete, atom_complete}
+use Rattle.ap_tokens.proofs.Complete.{unequal, line_complete, run_complete, string_complete, comment_complete, atom_complete}
 
 -- a blank begins no comment
 blank_starts : (c : ℕ) (t : List ℕ) → is_blank c ≡ true → start_of (c ∷ t) ≡ start.Blank
@@ -97,8 +92,8 @@ character_finds c name u r h =
     let test : (run_len t == 0 || is_some (char_name (take (1 + run_len t) (c ∷ t)))) ≡ true = or_true (run_len t == 0) (is_some (char_name (take (1 + run_len t) (c ∷ t)))) (either h n first) in
     let y : 3 + run_len t ≡ suc (suc (suc (length name))) = omega (arith, n) in
     found_by lead.Hash kinds.Character 35 (3 + run_len t) (92 ∷ c ∷ t) u refl
-        (ap (λ b. where_true b kinds.Character (3 + run_len t) faults.BadCharName) test)
-        (ap (λ k. drop k (35 ∷ 92 ∷ c ∷ t)) y ∙ drop_part name u)
+    (ap (λ b. where_true b kinds.Character (3 + run_len t) faults.BadCharName) test)
+    (ap (λ k. drop k (35 ∷ 92 ∷ c ∷ t)) y ∙ drop_part name u)
   where
     either : (name ≡ []) ⊎ IsTrue (is_some (char_name (c ∷ name))) → run_len (name ++ u) ≡ length name → take (1 + run_len (name ++ u)) (c ∷ (name ++ u)) ≡ c ∷ name
         → ((run_len (name ++ u) == 0) ≡ true) ⊎ (is_some (char_name (take (1 + run_len (name ++ u)) (c ∷ (name ++ u)))) ≡ true)
@@ -114,8 +109,8 @@ based_finds b c digits u w r h =
     let test : is_number_of b (take (run_len t) t) ≡ true = ap (is_number_of b) whole ∙ h in
     let y : 2 + run_len t ≡ suc (suc (length digits)) = omega (arith, n) in
     found_by lead.Hash kinds.Based 35 (2 + run_len t) (c ∷ t) u refl
-        (ap (λ x. hashed_by x t) w ∙ ap (λ x. where_true x kinds.Based (2 + run_len t) faults.BadHash) test)
-        (ap (λ k. drop k (35 ∷ c ∷ t)) y ∙ drop_part digits u)
+    (ap (λ x. hashed_by x t) w ∙ ap (λ x. where_true x kinds.Based (2 + run_len t) faults.BadHash) test)
+    (ap (λ k. drop k (35 ∷ c ∷ t)) y ∙ drop_part digits u)
 
 dot_finds : (u : List ℕ) → Named false u u → Finds kinds.Dot (46 ∷ u) u
 unfolding lead_of
@@ -131,24 +126,24 @@ taken_finds c t u h =
     let y : 1 + (1 + n) ≡ 2 + n = omega arith in
     let f : atom_len false true (c ∷ t) ≡ Some (1 + n) = ap (Rattle.ap_tokens.specs.Scans.more 1) e in
     found_by lead.Atom kinds.Atom 92 (1 + (1 + n)) (c ∷ t) u refl
-        (ap (atom_by 92) f ∙ ap (λ b. if b then Ok (kinds.Dot, 1) else Ok (kinds.Atom, 1 + (1 + n))) (and_false (1 + n == 0) (92 == 46) refl))
-        (ap (λ k. drop k (92 ∷ c ∷ t)) y ∙ (drop_second n 92 c t ∙ s))
+    (ap (atom_by 92) f ∙ ap (λ b. if b then Ok (kinds.Dot, 1) else Ok (kinds.Atom, 1 + (1 + n))) (and_false (1 + n == 0) (92 == 46) refl))
+    (ap (λ k. drop k (92 ∷ c ∷ t)) y ∙ (drop_second n 92 c t ∙ s))
 
 barred_finds : (t u : List ℕ) → Named true t u → Finds kinds.Atom (124 ∷ t) u
 unfolding lead_of
 barred_finds t u h =
     let (n, (e, s)) = atom_complete h in
     found_by lead.Atom kinds.Atom 124 (1 + n) t u refl
-        (ap (atom_by 124) e ∙ ap (λ b. if b then Ok (kinds.Dot, 1) else Ok (kinds.Atom, 1 + n)) (and_false (n == 0) (124 == 46) refl))
-        (drop_first n 124 t ∙ s)
+    (ap (atom_by 124) e ∙ ap (λ b. if b then Ok (kinds.Dot, 1) else Ok (kinds.Atom, 1 + n)) (and_false (n == 0) (124 == 46) refl))
+    (drop_first n 124 t ∙ s)
 
 atom_finds : (c : ℕ) (t u : List ℕ) → lead_of c ≡ lead.Atom → c ≢ 92 → c ≢ 124 → (c ≡ 46 → t ≢ u) → Named false t u → Finds kinds.Atom (c ∷ t) u
 atom_finds c t u d p q w h =
     let (n, (e, s)) = atom_complete h in
     let f : atom_len (c == 124) (c == 92) t ≡ Some n = ap (λ a. atom_len a (c == 92) t) (unequal c 124 q) ∙ (ap (λ b. atom_len false b t) (unequal c 92 p) ∙ e) in
     found_by lead.Atom kinds.Atom c (1 + n) t u d
-        (ap (atom_by c) f ∙ ap (λ b. if b then Ok (kinds.Dot, 1) else Ok (kinds.Atom, 1 + n)) (not_dot n s (n == 0) refl (c == 46) refl))
-        (drop_first n c t ∙ s)
+    (ap (atom_by c) f ∙ ap (λ b. if b then Ok (kinds.Dot, 1) else Ok (kinds.Atom, 1 + n)) (not_dot n s (n == 0) refl (c == 46) refl))
+    (drop_first n c t ∙ s)
   where
     not_dot : (n : ℕ) → drop n t ≡ u → (a : Bool) → (n == 0) ≡ a → (b : Bool) → (c == 46) ≡ b → (a && b) ≡ false
     not_dot n s true x true y = absurd (w (same c 46 y) (ap (λ k. drop k t) (sym (same n 0 x)) ∙ s))

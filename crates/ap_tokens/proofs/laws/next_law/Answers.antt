@@ -1,4 +1,5 @@
 use Rattle.ap_tokens.proofs.Found.{found, answered, none_left, none_answered, no_token}
+use Rattle.ap_tokens.proofs.Faulted.{faulted}
 use Rattle.ap_tokens.proofs.laws.next_law.Goals as goal
 
 pub returns : goal.returns
@@ -7,5 +8,6 @@ returns c = record {
   only = answered;
   none = none_left;
   only_none = none_answered;
-  fault = no_token;
+  fault = faulted;
+  no_token = no_token;
 }
