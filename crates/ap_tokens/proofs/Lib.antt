@@ -1,0 +1,12 @@
+pub mod Steps
+pub mod Comments
+pub mod Passes
+pub mod Sound
+pub mod Gapped
+pub mod Within
+pub mod Lexemes
+pub mod Spelled
+pub mod Complete
+pub mod Unique
+pub mod Found
+pub mod Faulted
