@@ -8,3 +8,6 @@ mod term;
 pub use ap_value::{Boxed, Bytes, NoMemory, Seq, Symbol, Value};
 pub use steps::{Spent, Steps};
 pub use term::{Clause, Subst, Term, copy_symbols, copy_term, copy_terms, same_term, size};
+
+#[cfg(test)]
+mod tests;
