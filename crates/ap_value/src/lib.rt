@@ -8,3 +8,6 @@ mod value;
 pub use ap_list::{Boxed, Bytes, NoMemory, Seq};
 pub use symbol::{BookName, Symbol, copy_bytes, copy_symbol, same_bytes, same_symbol};
 pub use value::{Value, acl2_count, copy, nodes, same};
+
+#[cfg(test)]
+mod tests;

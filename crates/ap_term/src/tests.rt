@@ -1,0 +1,60 @@
+use crate::{
+    Bytes, NoMemory, Seq, Steps, Symbol, Term, Value, copy_symbols, copy_term, copy_terms,
+    same_term, size,
+};
+use std::alloc::Global;
+use std::test::Fail;
+
+fn symbol(alloc: Global, name: &[u8]) -> Result<Symbol, NoMemory> {
+    let name = Bytes::from_slice(alloc, name)?;
+    Ok(Symbol {
+        keyword: false,
+        name,
+    })
+}
+
+/// `(f x 'n)`
+fn call(alloc: Global, f: &[u8], n: i128) -> Result<Term, NoMemory> {
+    let mut arguments = Seq::new(alloc);
+    arguments.push(Term::Var(symbol(alloc, b"X")?))?;
+    arguments.push(Term::Quote(Value::Int(n)))?;
+    Ok(Term::Call(symbol(alloc, f)?, arguments))
+}
+
+#[test]
+fn terms_are_copied_compared_and_counted(rt: HostRuntime) -> Result<(), Fail> {
+    let alloc = rt.alloc();
+    let text = Value::Str(Bytes::from_slice(alloc, b"abc")?);
+    let terms = [
+        (Term::Var(symbol(alloc, b"X")?), 1),
+        (Term::Quote(text), 4),
+        (call(alloc, b"CONS", 1)?, 3),
+        (call(alloc, b"EQUAL", 1)?, 3),
+        (call(alloc, b"CONS", 2)?, 3),
+    ];
+    for (i, (t, count)) in terms.iter().enumerate() {
+        let t_again = copy_term(alloc, t)?;
+        assert_eq!(rt; size(&t_again), Some(*count));
+        for (j, (other, _)) in terms.iter().enumerate() {
+            assert_eq!(rt; same_term(&t_again, other), i == j, "at {i} and {j}");
+        }
+    }
+    let pair = [call(alloc, b"CONS", 1)?, Term::Var(symbol(alloc, b"Y")?)];
+    let terms = copy_terms(alloc, pair.as_slice())?;
+    assert_eq!(rt; terms.len(), 2);
+    assert!(rt;
+        terms
+            .as_slice()
+            .iter()
+            .zip(pair.iter())
+            .all(|(a, b)| same_term(a, b))
+    );
+    let names = [symbol(alloc, b"X")?, symbol(alloc, b"Y")?];
+    let symbols = copy_symbols(alloc, names.as_slice())?;
+    assert!(rt; symbols.as_slice() == names.as_slice());
+    let mut steps = Steps { left: 1 };
+    assert!(rt; steps.tick().is_ok());
+    assert!(rt; steps.tick().is_err());
+    assert_eq!(rt; steps.left, 0);
+    Ok(())
+}
