@@ -36,28 +36,25 @@ fn function(alloc: Global) -> Result<Function, NoMemory> {
     })
 }
 
-#[test]
-fn entries_are_copied(rt: HostRuntime) -> Result<(), Fail> {
-    let alloc = rt.alloc();
-    match copy_entry(alloc, &Entry::Function(function(alloc)?))? {
-        Entry::Function(f) => {
-            assert!(rt; f.name == symbol(alloc, b"F")?);
-            assert!(rt; matches!(f.body, Term::Var(_)));
-            assert!(rt; matches!(&f.measure, Some(Measure(m)) if m.len() == 1));
-            assert_eq!(rt; f.cases.len(), 1);
-            assert_eq!(rt; f.mask.0, 5);
-        }
-        _ => assert!(rt; false),
-    }
+fn copied_function(alloc: Global) -> Result<Entry, NoMemory> {
+    copy_entry(alloc, &Entry::Function(function(alloc)?))
+}
+
+fn copied_theorem(alloc: Global) -> Result<Entry, NoMemory> {
     let theorem = Theorem {
         name: symbol(alloc, b"U")?,
         term: Term::Quote(Value::Int(1)),
         classes: Seq::new(alloc),
     };
-    match copy_entry(alloc, &Entry::Theorem(theorem))? {
-        Entry::Theorem(u) => assert!(rt; matches!(u.term, Term::Quote(Value::Int(1)))),
-        _ => assert!(rt; false),
-    }
+    copy_entry(alloc, &Entry::Theorem(theorem))
+}
+
+#[test]
+fn entries_are_copied(rt: HostRuntime) -> Result<(), Fail> {
+    let f = copied_function(rt.alloc())?;
+    assert!(rt; matches!(&f, Entry::Function(g) if g.mask.0 == 5 && g.cases.len() == 1));
+    let u = copied_theorem(rt.alloc())?;
+    assert!(rt; matches!(&u, Entry::Theorem(v) if v.classes.is_empty()));
     Ok(())
 }
 
