@@ -11,6 +11,8 @@ mod events;
 mod reader;
 mod report;
 mod start;
+#[cfg(test)]
+mod tests;
 mod texts;
 
 use ap_list::NoMemory;

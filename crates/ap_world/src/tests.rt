@@ -1,6 +1,6 @@
 use crate::{
-    AddError, Bytes, Case, Entry, EntryRef, Function, Mask, Measure, NoMemory, Rune, Seq, Symbol,
-    Term, Theorem, Theory, Value, World, copy_entry, copy_rune, copy_theory,
+    AddError, Bytes, Entry, EntryRef, NoMemory, Rune, Seq, Symbol, Term, Theorem, Theory, Value,
+    World, copy_entry, copy_theory,
 };
 use std::alloc::Global;
 use std::test::Fail;
@@ -13,76 +13,60 @@ fn symbol(alloc: Global, name: &[u8]) -> Result<Symbol, NoMemory> {
     })
 }
 
-/// The list of the variable `X`.
-fn variable(alloc: Global) -> Result<Seq<Term>, NoMemory> {
-    let mut terms = Seq::new(alloc);
-    terms.push(Term::Var(symbol(alloc, b"X")?))?;
-    Ok(terms)
-}
-
-/// A function that is its own argument, with a measure and a case.
-fn function(alloc: Global) -> Result<Function, NoMemory> {
-    let mut cases = Seq::new(alloc);
-    let tests = variable(alloc)?;
-    let calls = Seq::new(alloc);
-    cases.push(Case { tests, calls })?;
-    Ok(Function {
-        name: symbol(alloc, b"F")?,
-        formals: Seq::new(alloc),
-        body: Term::Var(symbol(alloc, b"X")?),
-        measure: Some(Measure(variable(alloc)?)),
-        cases,
-        mask: Mask(5),
-    })
-}
-
-fn copied_function(alloc: Global) -> Result<Entry, NoMemory> {
-    copy_entry(alloc, &Entry::Function(function(alloc)?))
-}
-
-fn copied_theorem(alloc: Global) -> Result<Entry, NoMemory> {
-    let theorem = Theorem {
-        name: symbol(alloc, b"U")?,
-        term: Term::Quote(Value::Int(1)),
-        classes: Seq::new(alloc),
-    };
-    copy_entry(alloc, &Entry::Theorem(theorem))
+/// Adds a constant of this name, and answers whether it was taken.
+fn is_added(alloc: Global, world: &mut World, name: &[u8]) -> Result<bool, NoMemory> {
+    let name = symbol(alloc, name)?;
+    match world.add_constant(alloc, name, Value::Int(7)) {
+        Ok(()) => Ok(true),
+        Err(AddError::NameTaken) => Ok(false),
+        Err(AddError::NoMemory) => Err(std::alloc::AllocError),
+    }
 }
 
 #[test]
-fn entries_are_copied(rt: HostRuntime) -> Result<(), Fail> {
-    let f = copied_function(rt.alloc())?;
-    assert!(rt; matches!(&f, Entry::Function(g) if g.mask.0 == 5 && g.cases.len() == 1));
-    let u = copied_theorem(rt.alloc())?;
-    assert!(rt; matches!(&u, Entry::Theorem(v) if v.classes.is_empty()));
+fn a_name_is_added_once_and_a_primitives_never(rt: HostRuntime) -> Result<(), Fail> {
+    let mut world = World::bare(rt.alloc());
+    for (name, added) in [
+        (b"*C*".as_slice(), true),
+        (b"*C*".as_slice(), false),
+        (b"CAR".as_slice(), false),
+    ] {
+        assert_eq!(rt; is_added(rt.alloc(), &mut world, name)?, added);
+    }
     Ok(())
 }
 
 #[test]
-fn a_world_answers_what_was_added(rt: HostRuntime) -> Result<(), Fail> {
-    let alloc = rt.alloc();
-    let mut world = World::bare(alloc);
-    let c = symbol(alloc, b"*C*")?;
-    assert!(rt; !world.has(&c));
-    let name = symbol(alloc, b"*C*")?;
-    assert!(rt; world.add_constant(alloc, name, Value::Int(7)).is_ok());
-    for taken in [b"*C*".as_slice(), b"CAR".as_slice()] {
-        let name = symbol(alloc, taken)?;
-        assert!(rt; world.has(&name));
-        let again = world.add_constant(alloc, name, Value::Int(8));
-        assert!(rt; matches!(again, Err(AddError::NameTaken)));
-    }
-    let rune = Rune::Rewrite(symbol(alloc, b"F")?);
-    let mut disabled = Seq::new(alloc);
-    disabled.push(copy_rune(alloc, &rune)?)?;
-    world.set_theory(copy_theory(alloc, &Theory { disabled })?);
-    let world = world.copy_world(alloc)?;
-    assert!(rt; matches!(world.lookup_const(&c), Some(Value::Int(7))));
-    assert!(rt; world.lookup_fun(&c).is_none());
-    assert!(rt; world.lookup_thm(&c).is_none());
+fn a_copy_answers_what_was_added(rt: HostRuntime) -> Result<(), Fail> {
+    let mut world = World::bare(rt.alloc());
+    assert!(rt; is_added(rt.alloc(), &mut world, b"*C*")?);
+    let world = world.copy_world(rt.alloc())?;
+    let name = symbol(rt.alloc(), b"*C*")?;
+    assert!(rt; matches!(world.lookup_const(&name), Some(Value::Int(7))));
     assert!(rt; matches!(world.entry(0), Some(EntryRef::Constant(_, Value::Int(7)))));
-    assert!(rt; world.entry(1).is_none());
-    assert!(rt; !world.enabled(&rune));
-    assert!(rt; world.enabled(&Rune::Definition(symbol(alloc, b"F")?)));
+    assert!(rt; world.lookup_fun(&name).is_none() && world.lookup_thm(&name).is_none());
+    Ok(())
+}
+
+#[test]
+fn a_theory_disables_its_runes_alone(rt: HostRuntime) -> Result<(), Fail> {
+    let mut world = World::bare(rt.alloc());
+    let mut disabled = Seq::new(rt.alloc());
+    disabled.push(Rune::Rewrite(symbol(rt.alloc(), b"F")?))?;
+    world.set_theory(copy_theory(rt.alloc(), &Theory { disabled })?);
+    assert!(rt; !world.enabled(&Rune::Rewrite(symbol(rt.alloc(), b"F")?)));
+    assert!(rt; world.enabled(&Rune::Definition(symbol(rt.alloc(), b"F")?)));
+    Ok(())
+}
+
+#[test]
+fn an_entry_is_copied(rt: HostRuntime) -> Result<(), Fail> {
+    let theorem = Theorem {
+        name: symbol(rt.alloc(), b"U")?,
+        term: Term::Quote(Value::Int(1)),
+        classes: Seq::new(rt.alloc()),
+    };
+    let copied = copy_entry(rt.alloc(), &Entry::Theorem(theorem))?;
+    assert!(rt; matches!(&copied, Entry::Theorem(u) if u.name.name.as_slice() == b"U".as_slice()));
     Ok(())
 }
