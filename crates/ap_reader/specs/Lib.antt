@@ -1,0 +1,9 @@
+pub mod Faults
+pub mod Numbers
+pub mod Names
+pub mod Strings
+pub mod Leaves
+pub mod Heads
+pub mod Reading
+pub mod Grammar
+pub mod Breaks
