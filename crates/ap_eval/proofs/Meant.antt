@@ -1,5 +1,5 @@
 -- What running gives is what the meaning gives.
-use Rattle.std.proofs.Common.{◌≡◌, ℕ, zero, suc, ◌-◌, Bool, true, false, cond, nat_eq, nat_lt, List, [], ◌∷◌, map, length, zip, Option, Some, None, unwrap_or, refl, ap, sym, ◌∙◌, subst}
+use Rattle.std.proofs.Common.{◌≡◌, ℕ, zero, suc, ◌-◌, Bool, true, false, cond, nat_eq, nat_lt, List, [], ◌∷◌, map, length, zip, Option, Some, None, unwrap_or, Result, Ok, Err, IfOk, refl, ap, sym, ◌∙◌, subst}
 use Rattle.std.proofs.Math.ListN.{length-map}
 use Rattle.ap_list.specs.Lists.{Each, with_first, all_some, lookup_by}
 use Rattle.ap_value.specs.declared.symbol.Symbol.{Symbol}
@@ -16,6 +16,8 @@ use Rattle.ap_world.specs.Meaning.{Env, value_at, Defs, Calls, if_of, applied, p
 use Rattle.ap_world.specs.Units.{nil_constant, Outcome, gives, wide, spent, large, after, Assigned, meant_by, found_at, most_nodes, sized, charged, prim_value, Run, Runs, in_order, chosen, settled, is_choice, head_run, entered, run, body_run, calls_run, metered}
 use Rattle.ap_world.proofs.Equations.{val_of_nil}
 use Rattle.ap_world.proofs.Fuel.{meaning_var, meaning_quote, meaning_call}
+use Rattle.ap_eval.specs.declared.stop.EvalStop.{EvalStop}
+use Rattle.ap_eval.specs.Answers.{Answers}
 use Rattle.ap_eval.proofs.PrimitivesMean.{prim_means}
 use Rattle.ap_eval.proofs.Runs.{run_var, run_quote, run_call}
 
@@ -159,3 +161,8 @@ calls_mean (suc d) D f vs n m v h = body_means (calls_run d D) (calls d D) (call
 -- a value that running gives is the term's value
 pub metered_means : (D : Defs) (u : Term) (e : Assigned) (n m : ℕ) (v : Value) → metered D u e n ≡ gives v m → HasValue D u (meant_by e) (val_of v)
 metered_means D u e n m v h = (n, run_means (calls_run n D) (calls n D) (calls_mean n D) u e n m v h)
+
+-- and so is the evaluator's answer
+pub answers_mean : (D : Defs) (u : Term) (e : Assigned) (n m : ℕ) (r : Result Value EvalStop) → Answers r m (metered D u e n) → IfOk r (λ v. HasValue D u (meant_by e) (val_of v))
+answers_mean D u e n m (Ok v) h = metered_means D u e n m v h
+answers_mean D u e n m (Err s) h = tt

@@ -1,5 +1,5 @@
 // Running terms.
-ghost use Rattle.std.specs.Prelude.{◌≡◌, ◌≤◌, ℕ, [], ◌∷◌, map, IsTrue};
+ghost use Rattle.std.specs.Prelude.{◌≡◌, ◌≤◌, ℕ, [], ◌∷◌, map, IsTrue, IfOk};
 ghost use Rattle.ap_value.specs.Values.{val_of};
 ghost use Rattle.ap_world.specs.Primitives.{prim_of};
 ghost use Rattle.ap_world.specs.Meaning.{HasValue};
@@ -181,6 +181,7 @@ pub fn eval(
 ) -> Result<Value, EvalStop>
     requires { IsTrue (known (function_of w.now.entries) t.now) }
     ensures is { (left : ℕ) × Answers result left (metered (function_of w.now.entries) t.now env.now.0 units) }
+    ensures meant { IfOk result (λ v. HasValue (function_of w.now.entries) t.now (meant_by env.now.0) (val_of v)) }
 {
     let mut left = units;
     run_term(alloc, w, units, t, &Bindings::Given(env), &mut left)
