@@ -3,6 +3,7 @@
 
 mod bindings;
 mod kinds;
+mod knowing;
 mod parts;
 mod primitives;
 mod running;
@@ -14,5 +15,6 @@ pub use ap_list::{NoMemory, Seq};
 pub use ap_value::{Symbol, Value};
 pub use ap_world::{Term, World};
 pub use bindings::Env;
+pub use knowing::is_known;
 pub use running::eval;
 pub use stop::EvalStop;
