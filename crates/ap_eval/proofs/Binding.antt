@@ -1,5 +1,5 @@
 -- Formals beside their arguments, one place after another.
-use Rattle.std.proofs.Common.{◌≡◌, ℕ, zero, suc, ◌+◌, ◌<◌, ◌≤◌, min, Bool, true, false, cond, List, [], ◌∷◌, length, drop, zip, get_or, Option, Some, None, refl, ap, sym, ◌∙◌, arith}
+use Rattle.std.proofs.Common.{◌≡◌, ℕ, zero, suc, ◌+◌, ◌-◌, ◌<◌, ◌≤◌, min, Bool, true, false, cond, List, [], ◌∷◌, length, drop, take, zip, get_or, Option, Some, None, refl, ap, sym, ◌∙◌, arith}
 use Rattle.std.proofs.Math.Seq.{drop-cons}
 use Rattle.ap_list.specs.Lists.{lookup_by}
 use Rattle.ap_value.specs.declared.symbol.Symbol.{Symbol}
@@ -11,6 +11,17 @@ pub from_item : {A : Type 0} (xs : List A) (i : ℕ) (x : A) → i < length xs �
 from_item xs i x h e =
     let more : suc i ≡ i + 1 = omega arith in
     drop-cons xs i x h ∙ (λ k. sym e k ∷ drop (more k) xs)
+
+take_all : {A : Type 0} (xs : List A) → take (length xs) xs ≡ xs
+take_all [] = refl
+take_all (x ∷ xs) = ap (λ ys. x ∷ ys) (take_all xs)
+
+-- a list that isn't empty is its first item and the others
+pub first_and_rest : {A : Type 0} (xs : List A) (x : A) → 0 < length xs → x ≡ get_or xs 0 x → xs ≡ x ∷ take (length xs - 1) (drop 1 xs)
+first_and_rest [] x h e = absurd (omega arith)
+first_and_rest (y ∷ xs) x h e =
+    let less : suc (length xs) - 1 ≡ length xs = omega arith in
+    λ k. sym e k ∷ sym (ap (λ n. take n xs) less ∙ take_all xs) k
 
 later : (i : ℕ) (xs : List Symbol) (vs : List Value) (x y : Symbol) → i < length xs → i < length vs → y ≡ get_or xs i y → symbol_eq x y ≡ false
     → lookup_by symbol_eq (zip (drop i xs) (drop i vs)) x ≡ lookup_by symbol_eq (zip (drop (suc i) xs) (drop (suc i) vs)) x

@@ -4,3 +4,4 @@ pub mod Runs
 pub mod PrimitivesMean
 pub mod Meant
 pub mod Binding
+pub mod Steps

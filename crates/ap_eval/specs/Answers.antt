@@ -18,7 +18,7 @@ abbrev pub Answers : {A : Type 0} → Result A EvalStop → ℕ → Outcome A �
 Answers (Ok a) n o = o ≡ gives a n
 Answers (Err e) n o = Stopped e o
 
--- the assignment that is lent
+-- the assignment that variables are bound by
 abbrev pub assigned : Bindings → Assigned
 assigned (Given e) = e.now.0
-assigned (Bound names values) = zip names.now values.now
+assigned (Bound names values) = zip names.now values

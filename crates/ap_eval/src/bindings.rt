@@ -12,11 +12,11 @@ use ap_value::{Symbol, Value};
 #[derive(Debug, Drop)]
 pub struct Env(pub Seq<(Symbol, Value)>);
 
-/// An assignment, lent: as pairs, or as formals beside their arguments.
-#[derive(Clone, Copy)]
+/// What variables are bound to: the pairs of an assignment, or formals beside their arguments.
+#[derive(Drop)]
 pub(crate) enum Bindings<'a> {
     Given(&'a Env),
-    Bound(&'a [Symbol], &'a [Value]),
+    Bound(&'a [Symbol], Seq<Value>),
 }
 
 /// A variable's value in a list of pairs.
@@ -45,11 +45,11 @@ fn bound<'a>(names: &'a [Symbol], values: &'a [Value], x: &Symbol) -> Option<&'a
 }
 
 /// A variable's value, if it has one.
-pub(crate) fn value_in<'a>(bindings: &Bindings<'a>, x: &Symbol) -> Option<&'a Value>
+pub(crate) fn value_in<'b>(bindings: &'b Bindings<'_>, x: &Symbol) -> Option<&'b Value>
     ensures { option_copied result ≡ lookup_by symbol_eq (assigned bindings.now) x.now }
 {
-    match *bindings {
+    match bindings {
         Bindings::Given(env) => paired(env.0.as_slice(), x),
-        Bindings::Bound(names, values) => bound(names, values, x),
+        Bindings::Bound(names, values) => bound(names, values.as_slice(), x),
     }
 }

@@ -6,6 +6,7 @@ mod kinds;
 mod knowing;
 mod parts;
 mod primitives;
+mod machine;
 mod running;
 mod spending;
 mod stop;

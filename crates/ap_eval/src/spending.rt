@@ -1,5 +1,5 @@
 // What the parts of a term spend.
-ghost use Rattle.std.specs.Prelude.{◌≡◌, ◌+◌, ◌<◌, ◌≤◌, nat_lt, MatchBool};
+ghost use Rattle.std.specs.Prelude.{◌≡◌, ◌+◌, ◌<◌, nat_lt, MatchBool, OnOk};
 ghost use Rattle.ap_value.specs.Counts.{node_count};
 ghost use Rattle.ap_world.specs.Units.{most_nodes, charged, found_at, settled, prim_value};
 ghost use Rattle.ap_eval.specs.Answers.{Answers, assigned};
@@ -48,7 +48,7 @@ fn spend(v: &Value, units: &mut u32) -> bool
 /// A variable's or a constant's value, which spends its nodes.
 pub(crate) fn charge(alloc: Global, v: &Value, units: &mut u32) -> Result<Value, EvalStop>
     ensures is { Answers result units.new (charged v.now units.old) }
-    ensures left { units.new ≤ units.old }
+    ensures left { OnOk result (units.new < units.old) }
 {
     if !spend(v, units) {
         return Err(EvalStop::Spent);
@@ -67,7 +67,7 @@ pub(crate) fn charge_variable(
     units: &mut u32,
 ) -> Result<Value, EvalStop>
     ensures is { Answers result units.new (charged (found_at (assigned bindings.now) x.now) units.old) }
-    ensures left { units.new ≤ units.old }
+    ensures left { OnOk result (units.new < units.old) }
 {
     match value_in(bindings, x) {
         Some(value) => charge(alloc, value, units),
