@@ -4,12 +4,14 @@
 mod bindings;
 mod kinds;
 mod knowing;
+mod machine;
 mod parts;
 mod primitives;
-mod machine;
 mod running;
 mod spending;
 mod stop;
+#[cfg(test)]
+mod tests;
 mod texts;
 
 pub use ap_list::{NoMemory, Seq};

@@ -255,11 +255,7 @@ fn go_on<'a>(
 }
 
 /// Runs a state to its end.
-fn run_state<'a>(
-    alloc: Global,
-    w: &'a World,
-    start: State<'a>,
-) -> Result<Value, EvalStop>
+fn run_state<'a>(alloc: Global, w: &'a World, start: State<'a>) -> Result<Value, EvalStop>
     ensures { (left : ℕ) × Answers result left (whole (function_of w.now.entries) start.entry) }
 {
     let mut state = start;

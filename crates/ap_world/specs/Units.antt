@@ -1,13 +1,13 @@
 -- What evaluation gives and what it costs: the meaning of terms, run on the values that a program holds, with
 -- units that each part spends.
-use Rattle.std.specs.Prelude.{ℕ, zero, suc, ◌+◌, ◌-◌, ◌^◌, ◌%◌, Bool, true, false, cond, ℤ, pos, negsuc, ◌+ℤ◌, ◌*ℤ◌, neg_ℤ, int_lt, nat_lt, nat_eq, List, [], ◌∷◌, map, length, zip, Option, Some, None, unwrap_or}
+use Rattle.std.specs.Prelude.{ℕ, zero, suc, ◌-◌, ◌^◌, ◌%◌, Bool, true, false, cond, ℤ, pos, negsuc, ◌+ℤ◌, ◌*ℤ◌, neg_ℤ, int_lt, nat_lt, nat_eq, List, [], ◌∷◌, map, length, zip, Option, Some, None, unwrap_or}
 use Rattle.ap_list.specs.Lists.{lookup_by}
 use Rattle.ap_value.specs.declared.symbol.Symbol.{Symbol}
 use Rattle.ap_value.specs.declared.value.Value.{Value, out-Value}
 use Rattle.ap_value.specs.declared.value.Value.TheVariants.{Int, Chr, Str, Sym, Cons as Pair}
 use Rattle.ap_value.specs.declared.value.Value.TheOpen.{Value-F}
 use Rattle.ap_value.specs.Counts.{node_count}
-use Rattle.ap_value.specs.Values.{Byte, V, val_of, symbol_eq, value_eq}
+use Rattle.ap_value.specs.Values.{Byte, val_of, symbol_eq, value_eq}
 use Rattle.ap_term.specs.declared.term.Term.{Term, para-Term, Call}
 use Rattle.ap_term.specs.declared.term.Term.TheOpen.{Term-F}
 use Rattle.ap_world.specs.declared.entry.Function.{Function}

@@ -19,5 +19,6 @@ returns-in-len3-clause-follows c =
 
 pub returns-clause-follows : goal.returns-clause-follows
 returns-clause-follows c = elim c.in_default.branch [
-    in_default-via-then-terms-lt3 w ↦ few_chosen (calls_run c.args.machine.depth (function_of c.args.w.now.entries)) c.args.terms.now (assigned c.args.machine.bindings) c.args.machine.units (search rules)
-    | in_default-via-else-terms-lt3+else-terms-lt4 w ↦ many_chosen (calls_run c.args.machine.depth (function_of c.args.w.now.entries)) c.args.terms.now (assigned c.args.machine.bindings) c.args.machine.units (search rules) ]
+  | in_default-via-then-terms-lt3 w ↦ few_chosen (calls_run c.args.machine.depth (function_of c.args.w.now.entries)) c.args.terms.now (assigned c.args.machine.bindings) c.args.machine.units (search rules)
+  | in_default-via-else-terms-lt3+else-terms-lt4 w ↦ many_chosen (calls_run c.args.machine.depth (function_of c.args.w.now.entries)) c.args.terms.now (assigned c.args.machine.bindings) c.args.machine.units (search rules)
+]
