@@ -8,3 +8,4 @@ pub mod Recursion
 pub mod Sound
 pub mod World
 pub mod Laws
+pub mod Units
