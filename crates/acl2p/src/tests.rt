@@ -49,7 +49,7 @@ const ROWS: [Row; 15] = [
     },
     Row {
         words: &["case"],
-        book: Some(b"(IN-package \"ACL2\")(DefThm T1 nil:Rule-Classes NIL)"),
+        book: Some(b"(IN-package \"ACL2\")(DefThm same nil:Rule-Classes NIL)"),
         failing: NONE,
         status: Status::NotCertified,
         text: b"Book case\nNot yet\nBook case not certified\n",
@@ -57,11 +57,11 @@ const ROWS: [Row; 15] = [
     Row {
         words: &["case"],
         book: Some(
-            b"(IN-package \"ACL2\")(DefThm T1 (EQUAL(if x t NIL)(If X T nil)):Rule-Classes NIL)",
+            b"(IN-package \"ACL2\")(DefThm same (EQUAL(if x t NIL)(If X T nil)):Rule-Classes NIL)",
         ),
         failing: NONE,
         status: Status::Certified,
-        text: b"Book case\nDEFTHM T1\nGoal simplify 0\nDEFTHM T1 proved\nBook case certified\n",
+        text: b"Book case\nDEFTHM SAME\nGoal simplify 0\nDEFTHM SAME proved\nBook case certified\n",
     },
     Row {
         words: &["a"],
