@@ -1,0 +1,5 @@
+pub mod Faults
+pub mod Numbers
+pub mod Names
+pub mod Texts
+pub mod Leaves

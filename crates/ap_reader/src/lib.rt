@@ -1,0 +1,13 @@
+//! The forms of a book's text: lists, quotes, numbers, characters, strings and symbols, each with its
+//! place. The grammar is that of the ACL2 reader on this fragment.
+#![tactic(auto)]
+
+mod fault;
+mod form;
+mod leaf;
+mod name;
+mod number;
+mod texts;
+
+pub use fault::{ReadError, ReadKind};
+pub use form::{Body, Form};
