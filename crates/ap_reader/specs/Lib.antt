@@ -3,3 +3,7 @@ pub mod Numbers
 pub mod Names
 pub mod Texts
 pub mod Leaves
+pub mod Heads
+pub mod Reading
+pub mod Grammar
+pub mod Breaks

@@ -7,6 +7,7 @@ mod form;
 mod leaf;
 mod name;
 mod number;
+mod reading;
 mod texts;
 
 pub use fault::{ReadError, ReadKind};
