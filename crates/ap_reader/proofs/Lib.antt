@@ -6,3 +6,4 @@ pub mod Sound
 pub mod Complete
 pub mod Whole
 pub mod Loops
+pub mod Answered

@@ -55,3 +55,8 @@ Fails (errors.Fault p k) read = read ≡ Err (fault p k)
 abbrev pub Gives : {X Y : Type 0} → (X → Y) → Result X ReadError → Result Y ReadFault → Type 0
 Gives view (Ok x) read = read ≡ Ok (view x)
 Gives view (Err e) read = Fails e read
+
+-- P holds of the fault, if it is one
+abbrev pub OnFault : ReadError → (ReadFault → Type 0) → Type 0
+OnFault errors.NoMemory P = Unit {0}
+OnFault (errors.Fault p k) P = P (fault p k)

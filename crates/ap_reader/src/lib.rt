@@ -4,6 +4,7 @@
 
 mod fault;
 mod form;
+mod text;
 mod leaf;
 mod name;
 mod number;
@@ -12,3 +13,7 @@ mod texts;
 
 pub use fault::{ReadError, ReadKind};
 pub use form::{Body, Form};
+pub use text::{forms, one_answer};
+
+
+
