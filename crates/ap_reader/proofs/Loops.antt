@@ -68,11 +68,11 @@ items_form n some p xs s a b c f whole t i q e =
     let less : length c.rest ≤ length b.rest = form_less n s b c f q in
     let bound : length a.rest ≡ suc (length a.rest - 1) = omega arith in
     let same : items_by (form_of n) true (length a.rest) p c ≡ items_of n true p c =
-        ap (λ k. items_by (form_of n) true k p c) bound ∙ items_same n true p (length a.rest - 1) (length c.rest) c (omega arith) (omega arith) in
+    ap (λ k. items_by (form_of n) true k p c) bound ∙ items_same n true p (length a.rest - 1) (length c.rest) c (omega arith) (omega arith) in
     with_more xs f (items_of n true p c)
     ∙ (ap (λ (o : PartsRead). with_forms xs (with_forms (f ∷ []) o)) (sym same)
     ∙ (ap (λ (o : PartsRead). with_forms xs o) (sym (items_step n some p (length a.rest) s a b items.Form w i
-        ∙ ap (λ (o : FormRead). o >>= λ x. with_forms (x.0 ∷ []) (items_by (form_of n) true (length a.rest) p x.1)) q)) ∙ e))
+    ∙ ap (λ (o : FormRead). o >>= λ x. with_forms (x.0 ∷ []) (items_by (form_of n) true (length a.rest) p x.1)) q)) ∙ e))
 
 -- a fault on the way is the list's
 pub items_token_fails : (n : ℕ) (some : Bool) (p : ℕ) (xs : List Form) (a : At) (whole : PartsRead) (e : ReadError) → Fails e (token_in p (next_of a))
@@ -132,11 +132,11 @@ forms_form xs s a b c f whole t q e =
     let less : length c.rest ≤ length b.rest = form_less 400 s b c f q in
     let bound : length a.rest ≡ suc (length a.rest - 1) = omega arith in
     let same : forms_by (length a.rest) c ≡ forms_from c =
-        ap (λ k. forms_by k c) bound ∙ forms_same (length a.rest - 1) (length c.rest) c (omega arith) (omega arith) in
+    ap (λ k. forms_by k c) bound ∙ forms_same (length a.rest - 1) (length c.rest) c (omega arith) (omega arith) in
     front_more xs f (forms_from c)
     ∙ (ap (λ (o : FormsRead). with_front xs (with_front (f ∷ []) o)) (sym same)
     ∙ (ap (λ (o : FormsRead). with_front xs o) (sym (forms_step (length a.rest) s a b w
-        ∙ ap (λ (o : FormRead). o >>= λ x. with_front (x.0 ∷ []) (forms_by (length a.rest) x.1)) q)) ∙ e))
+    ∙ ap (λ (o : FormRead). o >>= λ x. with_front (x.0 ∷ []) (forms_by (length a.rest) x.1)) q)) ∙ e))
 
 pub forms_token_fails : (xs : List Form) (a : At) (whole : FormsRead) (e : ReadError) → Fails e (token_at (next_of a)) → with_front xs (forms_from a) ≡ whole → Fails e whole
 forms_token_fails xs a whole errors.NoMemory t e = tt

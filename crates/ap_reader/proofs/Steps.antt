@@ -4,7 +4,7 @@ use Rattle.std.proofs.lemmas.List.{at_drop_more, at_drop_all, append_assoc}
 use Rattle.ap_reader.specs.declared.name.Letter.{Letter}
 use Rattle.ap_reader.specs.Numbers.{past_digits, is_dots, worth, value_after, signed}
 use Rattle.ap_reader.specs.Names.{letters_of, has_colon}
-use Rattle.ap_reader.specs.Texts.{unquoted}
+use Rattle.ap_reader.specs.Strings.{unquoted}
 
 pub digits_more : (t : List ℕ) (n d : ℕ) → n < length t → past_digits (drop n t) ≡ past_digits (get_or t n d ∷ drop (n + 1) t)
 digits_more t n d h = at_drop_more past_digits t n d h

@@ -11,7 +11,7 @@ use Rattle.ap_reader.specs.declared.leaf.Leaf.{Leaf}
 use Rattle.ap_reader.specs.declared.leaf.Leaf.TheVariants as leaves
 use Rattle.ap_reader.specs.Numbers.{shape_of, integer_of}
 use Rattle.ap_reader.specs.Names.{symbol_of}
-use Rattle.ap_reader.specs.Texts.{unquoted, code_of}
+use Rattle.ap_reader.specs.Strings.{unquoted, code_of}
 
 -- an integer, where it fits
 abbrev pub fitted : Option ℤ → Result Body ReadKind

@@ -1,7 +1,7 @@
 pub mod Faults
 pub mod Numbers
 pub mod Names
-pub mod Texts
+pub mod Strings
 pub mod Leaves
 pub mod Heads
 pub mod Reading

@@ -7,7 +7,7 @@ use crate::fault::{ReadError, ReadKind, fault_at};
 use crate::form::Body;
 use crate::name::symbol;
 use crate::number::{Shape, integer, shape_at};
-use crate::texts::{code, unquoted};
+use crate::strings::{code, unquoted};
 use std::alloc::Global;
 
 /// A token that is a form alone.

@@ -4,16 +4,16 @@
 
 mod fault;
 mod form;
-mod text;
 mod leaf;
 mod name;
 mod number;
 mod reading;
-mod texts;
+mod strings;
+mod text;
 
 pub use fault::{ReadError, ReadKind};
 pub use form::{Body, Form};
 pub use text::{forms, one_answer};
 
-
-
+#[cfg(test)]
+mod tests;

@@ -1,6 +1,6 @@
 ghost use Rattle.std.specs.Prelude.{◌≡◌, false, IfOk};
 ghost use Rattle.ap_reader.specs.Faults.{Gives, at_place};
-ghost use Rattle.ap_reader.specs.Texts.{unquoted, code_of};
+ghost use Rattle.ap_reader.specs.Strings.{unquoted, code_of};
 
 use crate::fault::{ReadError, ReadKind, fault_at};
 use ap_tokens::char_named;

@@ -1,6 +1,6 @@
 use Rattle.std.proofs.Common.{◌≡◌, ◌-◌, ◌≤◌, ◌++◌, false, length, drop}
-use Rattle.ap_reader.specs.Texts.{unquoted}
-use Rattle.ap_reader.proofs.texts.unquoted.Given as goal
+use Rattle.ap_reader.specs.Strings.{unquoted}
+use Rattle.ap_reader.proofs.strings.unquoted.Given as goal
 
 -- the bytes so far, and those that are left, are all
 abbrev pub invariant-loop-n : goal.invariant-loop-n
