@@ -7,3 +7,4 @@ pub mod Complete
 pub mod Whole
 pub mod Loops
 pub mod Answered
+pub mod Nexts
