@@ -4,6 +4,7 @@ use Rattle.std.proofs.lemmas.List.{append_assoc}
 use Rattle.ap_tokens.specs.declared.token.TokenFault.{TokenFault}
 use Rattle.ap_tokens.specs.Gaps.{At}
 use Rattle.ap_tokens.specs.Tokens.{Seen, next_of}
+use Rattle.ap_tokens.proofs.Found.{found}
 use Rattle.ap_reader.specs.declared.fault.ReadError.{ReadError}
 use Rattle.ap_reader.specs.declared.fault.ReadError.TheVariants as errors
 use Rattle.ap_reader.specs.declared.form.Form.{Form}
@@ -127,7 +128,7 @@ forms_done xs a whole t e = sym e ∙ (ap (λ (r : FormsRead). with_front xs r) 
 pub forms_form : (xs : List Form) (s : Seen) (a b c : At) (f : Form) (whole : FormsRead) → ◌≡◌ {A = NextRead} (token_at (next_of a)) (Ok (Some (s, b)))
     → ◌≡◌ {A = FormRead} (form_of 400 s b) (Ok (f, c)) → with_front xs (forms_from a) ≡ whole → with_front (xs ++ f ∷ []) (forms_from c) ≡ whole
 forms_form xs s a b c f whole t q e =
-    let w : Comes a s b = next_token a (Some (s, b)) t in
+    let w : Comes a s b = found a b s (next_token a (Some (s, b)) t) in
     let fewer : length b.rest < length a.rest = comes_less a b s w in
     let less : length c.rest ≤ length b.rest = form_less 400 s b c f q in
     let bound : length a.rest ≡ suc (length a.rest - 1) = omega arith in
@@ -146,7 +147,7 @@ pub forms_form_fails : (xs : List Form) (s : Seen) (a b : At) (whole : FormsRead
     → Fails e (form_of 400 s b) → with_front xs (forms_from a) ≡ whole → Fails e whole
 forms_form_fails xs s a b whole errors.NoMemory t q e = tt
 forms_form_fails xs s a b whole (errors.Fault d k) t q e =
-    sym e ∙ ap (λ (r : FormsRead). with_front xs r) (forms_step (length a.rest) s a b (next_token a (Some (s, b)) t)
+    sym e ∙ ap (λ (r : FormsRead). with_front xs r) (forms_step (length a.rest) s a b (found a b s (next_token a (Some (s, b)) t))
     ∙ ap (λ (o : FormRead). o >>= λ x. with_front (x.0 ∷ []) (forms_by (length a.rest) x.1)) q)
 
 pub ruleset loops = (items_close, items_dot, items_form, items_token_fails, items_dot_fails, items_form_fails, forms_done, forms_form, forms_token_fails, forms_form_fails)

@@ -10,6 +10,8 @@ use Rattle.ap_reader.specs.Grammar.{Comes, Spells, Reads}
 use Rattle.ap_reader.specs.Grammar as spells
 use Rattle.ap_reader.specs.Breaks.{Breaks, Faults}
 use Rattle.ap_reader.specs.Breaks as breaks
+use Rattle.ap_tokens.proofs.Found.{found, none_left, none_answered}
+use Rattle.ap_reader.proofs.Nexts.{found_next}
 use Rattle.ap_reader.proofs.Tokens.{comes_less}
 use Rattle.ap_reader.proofs.Sound.{FormIs, form_sound}
 use Rattle.ap_reader.proofs.Complete.{form_less, form_complete, form_breaks}
@@ -40,13 +42,15 @@ forms_sound (suc most) a room = by_next (next_of a) refl (λ c h. forms_sound mo
     by_next : (r : Result (Option (Seen × At)) TokenFault) → next_of a ≡ r → ((c : At) → length c.rest < most → ReadsIs c (forms_by most c))
         → ReadsIs a (token_at r >>= λ o. at_end o (Ok []) (λ s b. form_of 400 s b >>= λ x. with_front (x.0 ∷ []) (forms_by most x.1)))
     by_next (Err f) q rest = breaks.token a f q
-    by_next (Ok None) q rest = spells.end a q
-    by_next (Ok (Some t)) q rest = forms_with t.0 a t.1 most q (omega (arith, comes_less a t.1 t.0 q)) rest (form_of 400 t.0 t.1) (form_sound 400 t.0 t.1)
+    by_next (Ok None) q rest = spells.end a (none_left a q)
+    by_next (Ok (Some t)) q rest =
+        let w : Comes a t.0 t.1 = found a t.1 t.0 q in
+        forms_with t.0 a t.1 most w (omega (arith, comes_less a t.1 t.0 w)) rest (form_of 400 t.0 t.1) (form_sound 400 t.0 t.1)
 
 pub forms_step : (m : ℕ) (s : Seen) (a b : At) → Comes a s b → forms_by (suc m) a ≡ (form_of 400 s b >>= λ x. with_front (x.0 ∷ []) (forms_by m x.1))
 unfolding forms_by
 forms_step m s a b w =
-    ap (λ (r : Result (Option (Seen × At)) TokenFault). token_at r >>= λ o. at_end o (Ok []) (λ s b. form_of 400 s b >>= λ x. with_front (x.0 ∷ []) (forms_by m x.1))) w
+    ap (λ (r : Result (Option (Seen × At)) TokenFault). token_at r >>= λ o. at_end o (Ok []) (λ s b. form_of 400 s b >>= λ x. with_front (x.0 ∷ []) (forms_by m x.1))) (found_next a b s w)
 
 pub forms_end : (m : ℕ) (a : At) → next_of a ≡ Ok None → forms_by (suc m) a ≡ Ok []
 unfolding forms_by
@@ -60,7 +64,7 @@ forms_lowered : (m : ℕ) (c : At) → length c.rest < m → forms_by m c ≡ fo
 forms_lowered m c room = let e : m ≡ suc (m - 1) = omega arith in ap (λ k. forms_by k c) e
 
 pub forms_complete : {a : At} {fs : List Form} → Reads a fs → (m : ℕ) → length a.rest ≤ m → forms_by (suc m) a ≡ Ok fs
-forms_complete (spells.end a q) m room = forms_end m a q
+forms_complete (spells.end a q) m room = forms_end m a (none_answered a q)
 forms_complete (spells.form s a b c f fs w g rest) m room =
     let e : ◌≡◌ {A = Result (Form × At) ReadFault} (form_of 400 s b) (Ok (f, c)) = form_complete g in
     let less : length c.rest ≤ length b.rest = form_less 400 s b c f e in

@@ -1,8 +1,9 @@
 -- The first fault of a text, by the ways in which it may go on from a token up to there.
-use Rattle.std.specs.Prelude.{◌≡◌, ℕ, Bool, true, false, List, Option, Some, None, Ok, Err, zero, suc}
+use Rattle.std.specs.Prelude.{◌≡◌, ℕ, Bool, true, false, List, [], Ok, Err, zero, suc}
 use Rattle.ap_tokens.specs.declared.token.TokenFault.{TokenFault}
 use Rattle.ap_tokens.specs.Gaps.{At}
 use Rattle.ap_tokens.specs.Tokens.{Seen, next_of}
+use Rattle.ap_tokens.specs.Grammar.{Between}
 use Rattle.ap_reader.specs.declared.fault.ReadKind.{ReadKind}
 use Rattle.ap_reader.specs.declared.fault.ReadKind.TheVariants as faults
 use Rattle.ap_reader.specs.declared.form.Form.{Form}
@@ -17,7 +18,7 @@ use Rattle.ap_reader.specs.Grammar.{Comes, Spells}
 
 -- from a on, where a token must come in what began at p, the text ends or its token is broken
 pub data Missing : ℕ → At → ReadFault → Type 0 where
-  ended : (p : ℕ) (a : At) → next_of a ≡ Ok None → Missing p a (fault p faults.OpenList)
+  ended : (p : ℕ) (a : At) → Between a.rest [] → Missing p a (fault p faults.OpenList)
   broken_token : (p : ℕ) (a : At) (f : TokenFault) → next_of a ≡ Err f → Missing p a (fault f.place (broken f.kind))
 
 mutual

@@ -1,7 +1,9 @@
 -- The grammar of forms, by the ways in which a text may go on from a token. Each relation says what is spelled, and where it ends.
-use Rattle.std.specs.Prelude.{◌≡◌, ℕ, Bool, true, false, List, [], ◌∷◌, Option, Some, None, Ok, zero, suc}
-use Rattle.ap_tokens.specs.Gaps.{At, at}
-use Rattle.ap_tokens.specs.Tokens.{Seen, next_of}
+use Rattle.std.specs.Prelude.{◌≡◌, ℕ, Bool, true, false, List, [], ◌∷◌, Ok, zero, suc}
+use Rattle.ap_tokens.specs.Gaps.{At}
+use Rattle.ap_tokens.specs.Tokens.{Seen}
+use Rattle.ap_tokens.specs.Grammar.{Between}
+use Rattle.ap_tokens.specs.Laws.{Found}
 use Rattle.ap_reader.specs.declared.form.Form.{Form}
 use Rattle.ap_reader.specs.declared.form.Body.{Body}
 use Rattle.ap_reader.specs.declared.leaf.Leaf.{Leaf}
@@ -11,9 +13,9 @@ use Rattle.ap_reader.specs.declared.reading.Item.TheVariants as items
 use Rattle.ap_reader.specs.Leaves.{leaf_of}
 use Rattle.ap_reader.specs.Heads.{head_of, item_of, made, under, Parts, flat, dotted, listed, after_forms}
 
--- from a the next token is s, and b comes after it
+-- from a on, blanks and whole comments lead to the token s, which is spelled as its kind is, and b comes after it
 abbrev pub Comes : At → Seen → At → Type 0
-Comes a s b = next_of a ≡ Ok (Some (s, b))
+Comes a s b = Found a s b
 
 mutual
   -- `Spells n s a f b`: the token s and what follows from a up to b are the form f, in which n more may be nested
@@ -38,5 +40,5 @@ mutual
 
 -- from a on stand these forms, and nothing else
 pub data Reads : At → List Form → Type 0 where
-  end : (a : At) → next_of a ≡ Ok None → Reads a []
+  end : (a : At) → Between a.rest [] → Reads a []
   form : (s : Seen) (a b c : At) (f : Form) (fs : List Form) → Comes a s b → Spells 400 s b f c → Reads c fs → Reads a (f ∷ fs)
