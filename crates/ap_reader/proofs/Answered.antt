@@ -1,11 +1,11 @@
 -- The answer is the grammar's, and the grammar has one.
-use Rattle.std.proofs.Common.{◌≡◌, ℕ, ◌⊎◌, inl, inr, List, length, Result, Ok, Err, suc, refl, sym, ap, subst, ◌∙◌, arith}
+use Rattle.std.proofs.Common.{◌≡◌, ◌⊎◌, inl, inr, List, length, Result, Ok, Err, suc, sym, subst, ◌∙◌, arith}
 use Rattle.ap_tokens.specs.Gaps.{At}
 use Rattle.ap_reader.specs.declared.form.Form.{Form}
 use Rattle.ap_reader.specs.declared.fault.ReadError.{ReadError}
 use Rattle.ap_reader.specs.declared.fault.ReadError.TheVariants as errors
-use Rattle.ap_reader.specs.Faults.{ReadFault, fault, Fails, Gives, OnFault}
-use Rattle.ap_reader.specs.Reading.{forms_by, forms_from}
+use Rattle.ap_reader.specs.Faults.{ReadFault, Fails, Gives, OnFault}
+use Rattle.ap_reader.specs.Reading.{forms_from}
 use Rattle.ap_reader.specs.Grammar.{Reads}
 use Rattle.ap_reader.specs.Breaks.{Faults}
 use Rattle.ap_reader.proofs.Whole.{FormsRead, ReadsIs, forms_sound, forms_complete, forms_breaks}

@@ -1,5 +1,5 @@
 -- What the grammar says is what the function reads.
-use Rattle.std.proofs.Common.{◌≡◌, ℕ, ◌+◌, ◌-◌, ◌<◌, ◌≤◌, Bool, true, false, List, [], ◌∷◌, length, Option, Some, None, Result, Ok, Err, zero, suc, refl, sym, ap, subst, ◌∙◌, arith}
+use Rattle.std.proofs.Common.{◌≡◌, ℕ, ◌-◌, ◌<◌, ◌≤◌, Bool, true, false, [], ◌∷◌, length, Result, Ok, Err, zero, suc, ap, subst, ◌∙◌, arith}
 use Rattle.ap_tokens.specs.Gaps.{At}
 use Rattle.ap_tokens.specs.Tokens.{Seen, next_of}
 use Rattle.ap_reader.specs.declared.fault.ReadKind.{ReadKind}
@@ -12,8 +12,7 @@ use Rattle.ap_reader.specs.declared.reading.Head.TheVariants as heads
 use Rattle.ap_reader.specs.declared.reading.Item.{Item}
 use Rattle.ap_reader.specs.declared.reading.Item.TheVariants as items
 use Rattle.ap_reader.specs.Faults.{ReadFault, fault, at_place}
-use Rattle.ap_reader.specs.Leaves.{leaf_of}
-use Rattle.ap_reader.specs.Heads.{head_of, item_of, is_close, made, under, token_in, Parts, flat, dotted, listed, after_forms}
+use Rattle.ap_reader.specs.Heads.{head_of, item_of, is_close, under, token_in, Parts, flat}
 use Rattle.ap_reader.specs.Reading.{◌>>=◌, at_item, closing_by, closing_of, tail_by, with_forms, with_tail, items_by, lists, placed, body_by, reader_of, form_of, tail_of}
 use Rattle.ap_reader.specs.Grammar.{Comes, Spells, SpellsAll, SpellsLast}
 use Rattle.ap_reader.specs.Grammar as spells

@@ -1,5 +1,5 @@
 -- What digits are worth grows with each digit.
-use Rattle.std.proofs.Common.{◌≡◌, ℕ, ◌+◌, ◌*◌, ◌<◌, ◌≤◌, List, [], ◌∷◌, length, get_or, drop, arith}
+use Rattle.std.proofs.Common.{ℕ, ◌+◌, ◌*◌, ◌<◌, ◌≤◌, List, [], ◌∷◌, length, get_or, drop, arith}
 use Rattle.std.proofs.lemmas.Nat.{mul-le}
 use Rattle.ap_reader.specs.Numbers.{worth, value_after}
 use Rattle.ap_reader.proofs.Steps.{value_more}

@@ -1,5 +1,5 @@
 -- One turn of each loop.
-use Rattle.std.proofs.Common.{◌≡◌, ℕ, ◌+◌, ◌-◌, ◌<◌, ◌≤◌, Bool, true, List, [], ◌∷◌, ◌++◌, length, Option, Some, None, Result, Ok, Err, suc, refl, sym, ap, ◌∙◌, arith, append-nil}
+use Rattle.std.proofs.Common.{◌≡◌, ℕ, ◌-◌, ◌<◌, ◌≤◌, Bool, true, List, [], ◌∷◌, ◌++◌, length, Option, Some, None, Result, Ok, Err, suc, refl, sym, ap, ◌∙◌, arith, append-nil}
 use Rattle.std.proofs.lemmas.List.{append_assoc}
 use Rattle.ap_tokens.specs.declared.token.TokenFault.{TokenFault}
 use Rattle.ap_tokens.specs.Gaps.{At}
@@ -8,7 +8,6 @@ use Rattle.ap_tokens.proofs.Found.{found}
 use Rattle.ap_reader.specs.declared.fault.ReadError.{ReadError}
 use Rattle.ap_reader.specs.declared.fault.ReadError.TheVariants as errors
 use Rattle.ap_reader.specs.declared.form.Form.{Form}
-use Rattle.ap_reader.specs.declared.form.Body.{Body}
 use Rattle.ap_reader.specs.declared.form.Body.TheVariants as body
 use Rattle.ap_reader.specs.declared.reading.Item.TheVariants as items
 use Rattle.ap_reader.specs.Faults.{ReadFault, fault, broken, Fails}

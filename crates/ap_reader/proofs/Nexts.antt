@@ -1,9 +1,8 @@
 -- The token of the grammar is the next one.
-use Rattle.std.proofs.Common.{◌≡◌, ℕ, ◌+◌, List, ◌++◌, length, Option, Some, Result, Ok, refl, sym, ap, ◌∙◌, arith, length-append}
+use Rattle.std.proofs.Common.{◌≡◌, ◌+◌, ◌++◌, length, Some, Result, Ok, sym, ap, ◌∙◌, arith, length-append}
 use Rattle.std.proofs.lemmas.List.{append_cancel_right}
-use Rattle.ap_tokens.specs.declared.token.Kind.{Kind}
 use Rattle.ap_tokens.specs.declared.token.TokenFault.{TokenFault}
-use Rattle.ap_tokens.specs.Gaps.{At, at, gap}
+use Rattle.ap_tokens.specs.Gaps.{At, at}
 use Rattle.ap_tokens.specs.Tokens.{Seen, next_of}
 use Rattle.ap_tokens.specs.Laws.{Found}
 use Rattle.ap_tokens.proofs.Found.{found, answered}

@@ -1,6 +1,6 @@
 -- The reader of parts, where some more may be nested.
-use Rattle.std.proofs.Common.{◌≡◌, ◌≢◌, ℕ, ◌-◌, ◌<◌, Option, Some, None, zero, suc, refl, ap, sym, arith}
-use Rattle.ap_reader.specs.Reading.{Reader, reader_of, form_of}
+use Rattle.std.proofs.Common.{◌≡◌, ◌≢◌, ℕ, ◌-◌, Some, None, zero, suc, refl, ap, sym, arith}
+use Rattle.ap_reader.specs.Reading.{reader_of, form_of}
 
 pub reader_none : (n : ℕ) → n ≡ 0 → reader_of n ≡ None
 unfolding reader_of

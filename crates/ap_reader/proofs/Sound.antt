@@ -1,6 +1,5 @@
 -- What the function reads is what the grammar says, and it ends no earlier.
-use Rattle.std.proofs.Common.{◌≡◌, ℕ, ◌<◌, ◌≤◌, Bool, true, false, List, [], ◌∷◌, length, Option, Some, None, Result, Ok, Err, zero, suc, refl, sym, ap, arith}
-use Rattle.ap_tokens.specs.declared.token.TokenFault.{TokenFault}
+use Rattle.std.proofs.Common.{◌≡◌, ℕ, ◌<◌, ◌≤◌, Bool, true, false, [], ◌∷◌, length, Result, Ok, Err, zero, suc, refl, arith}
 use Rattle.ap_tokens.specs.Gaps.{At}
 use Rattle.ap_tokens.specs.Tokens.{Seen, next_of}
 use Rattle.ap_reader.specs.declared.fault.ReadKind.{ReadKind}
@@ -13,10 +12,10 @@ use Rattle.ap_reader.specs.declared.reading.Head.{Head}
 use Rattle.ap_reader.specs.declared.reading.Head.TheVariants as heads
 use Rattle.ap_reader.specs.declared.reading.Item.{Item}
 use Rattle.ap_reader.specs.declared.reading.Item.TheVariants as items
-use Rattle.ap_reader.specs.Faults.{ReadFault, fault, broken, at_place}
+use Rattle.ap_reader.specs.Faults.{ReadFault, fault, at_place}
 use Rattle.ap_reader.specs.Leaves.{leaf_of}
-use Rattle.ap_reader.specs.Heads.{head_of, item_of, is_close, under, token_in, Parts, flat, dotted}
-use Rattle.ap_reader.specs.Reading.{◌>>=◌, Reader, at_item, closing_by, closing_of, tail_by, with_forms, with_tail, items_by, lists, placed, body_by, reader_of, form_of, token_at, with_front, at_end, forms_by, forms_from}
+use Rattle.ap_reader.specs.Heads.{head_of, item_of, is_close, under, token_in, Parts, flat}
+use Rattle.ap_reader.specs.Reading.{◌>>=◌, Reader, at_item, closing_by, closing_of, tail_by, with_forms, with_tail, items_by, lists, placed, body_by, reader_of, form_of}
 use Rattle.ap_reader.specs.Grammar.{Comes, Spells, SpellsAll, SpellsLast, Reads}
 use Rattle.ap_reader.specs.Grammar as spells
 use Rattle.ap_reader.specs.Breaks.{Missing, Breaks, BreaksAll, BreaksLast, Faults}

@@ -1,8 +1,8 @@
 -- One step of each loop, at what is left of a text.
-use Rattle.std.proofs.Common.{◌≡◌, ℕ, ◌+◌, ◌*◌, ◌^◌, ◌<◌, ◌≤◌, Bool, true, false, List, [], ◌∷◌, ◌++◌, length, get_or, drop, Option, None, suc, refl, ap, arith}
+use Rattle.std.proofs.Common.{◌≡◌, ℕ, ◌+◌, ◌<◌, ◌≤◌, Bool, true, false, List, [], ◌∷◌, ◌++◌, length, get_or, drop}
 use Rattle.std.proofs.lemmas.List.{at_drop_more, at_drop_all, append_assoc}
 use Rattle.ap_reader.specs.declared.name.Letter.{Letter}
-use Rattle.ap_reader.specs.Numbers.{past_digits, is_dots, worth, value_after, signed}
+use Rattle.ap_reader.specs.Numbers.{past_digits, is_dots, value_after}
 use Rattle.ap_reader.specs.Names.{letters_of, has_colon}
 use Rattle.ap_reader.specs.Strings.{unquoted}
 

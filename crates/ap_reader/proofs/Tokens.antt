@@ -1,9 +1,8 @@
 -- A token that comes, and one that doesn't.
-use Rattle.std.proofs.Common.{◌≡◌, ℕ, ◌+◌, ◌<◌, ◌++◌, length, Option, Some, None, Result, Ok, Err, refl, ap, ◌∙◌, arith, length-append}
+use Rattle.std.proofs.Common.{◌≡◌, ℕ, ◌+◌, ◌<◌, length, Option, Some, None, Result, Ok, Err, refl, ap, ◌∙◌, arith, length-append}
 use Rattle.ap_tokens.specs.declared.token.TokenFault.{TokenFault}
 use Rattle.ap_tokens.specs.Gaps.{At}
 use Rattle.ap_tokens.specs.Tokens.{Seen, next_of}
-use Rattle.ap_tokens.specs.Laws.{Found}
 use Rattle.ap_tokens.proofs.Found.{found, none_left, none_answered}
 use Rattle.ap_reader.specs.declared.fault.ReadKind.TheVariants as faults
 use Rattle.ap_reader.specs.Faults.{ReadFault, fault, broken}

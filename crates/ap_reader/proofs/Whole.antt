@@ -1,11 +1,11 @@
 -- The forms of a whole text, by the grammar and by the function.
-use Rattle.std.proofs.Common.{◌≡◌, ℕ, ◌+◌, ◌-◌, ◌<◌, ◌≤◌, List, [], ◌∷◌, length, Option, Some, None, Result, Ok, Err, zero, suc, refl, sym, ap, ◌∙◌, arith}
+use Rattle.std.proofs.Common.{◌≡◌, ℕ, ◌-◌, ◌<◌, ◌≤◌, List, [], ◌∷◌, length, Option, Some, None, Result, Ok, Err, zero, suc, refl, sym, ap, ◌∙◌, arith}
 use Rattle.ap_tokens.specs.declared.token.TokenFault.{TokenFault}
 use Rattle.ap_tokens.specs.Gaps.{At}
 use Rattle.ap_tokens.specs.Tokens.{Seen, next_of}
 use Rattle.ap_reader.specs.declared.form.Form.{Form}
 use Rattle.ap_reader.specs.Faults.{ReadFault, fault, broken}
-use Rattle.ap_reader.specs.Reading.{◌>>=◌, form_of, token_at, with_front, at_end, forms_by, forms_from}
+use Rattle.ap_reader.specs.Reading.{◌>>=◌, form_of, token_at, with_front, at_end, forms_by}
 use Rattle.ap_reader.specs.Grammar.{Comes, Spells, Reads}
 use Rattle.ap_reader.specs.Grammar as spells
 use Rattle.ap_reader.specs.Breaks.{Breaks, Faults}

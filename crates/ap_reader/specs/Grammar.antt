@@ -1,5 +1,5 @@
 -- The grammar of forms, by the ways in which a text may go on from a token. Each relation says what is spelled, and where it ends.
-use Rattle.std.specs.Prelude.{◌≡◌, ℕ, Bool, true, false, List, [], ◌∷◌, Ok, zero, suc}
+use Rattle.std.specs.Prelude.{◌≡◌, ℕ, Bool, true, false, List, [], ◌∷◌, Ok, suc}
 use Rattle.ap_tokens.specs.Gaps.{At}
 use Rattle.ap_tokens.specs.Tokens.{Seen}
 use Rattle.ap_tokens.specs.Grammar.{Between}

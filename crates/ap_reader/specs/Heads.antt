@@ -1,5 +1,5 @@
 -- What a token is to a form and to a list.
-use Rattle.std.specs.Prelude.{ℕ, Bool, true, false, List, [], ◌∷◌, ◌++◌, Option, Some, None, Result, Ok, Err}
+use Rattle.std.specs.Prelude.{ℕ, Bool, true, false, List, ◌++◌, Option, Some, None, Result, Ok, Err}
 use Rattle.ap_tokens.specs.declared.token.Kind.{Kind}
 use Rattle.ap_tokens.specs.declared.token.Kind.TheVariants as kinds
 use Rattle.ap_tokens.specs.declared.token.TokenFault.{TokenFault}

@@ -1,7 +1,7 @@
 -- Reading as a function on texts. It stands between the grammar and the code: it is the grammar's one answer.
-use Rattle.std.specs.Prelude.{◌≡◌, ℕ, Bool, true, false, List, [], ◌∷◌, ◌++◌, length, Option, Some, None, Result, Ok, Err, zero, suc}
+use Rattle.std.specs.Prelude.{ℕ, Bool, true, false, List, [], ◌∷◌, ◌++◌, length, Option, Some, None, Result, Ok, Err, zero, suc}
 use Rattle.ap_tokens.specs.declared.token.TokenFault.{TokenFault}
-use Rattle.ap_tokens.specs.Gaps.{At, at}
+use Rattle.ap_tokens.specs.Gaps.{At}
 use Rattle.ap_tokens.specs.Tokens.{Seen, seen, next_of}
 use Rattle.ap_tokens.specs.declared.token.Token.{Token}
 use Rattle.ap_reader.specs.declared.fault.ReadKind.TheVariants as faults

@@ -1,4 +1,4 @@
-use Rattle.std.proofs.Common.{◌≡◌, Ok, sym, ap, ◌∙◌, arith}
+use Rattle.std.proofs.Common.{sym, arith}
 use Rattle.std.proofs.lemmas.Result.{err_from_is_err_and}
 use Rattle.ap_tokens.specs.Tokens.{seen}
 use Rattle.ap_reader.proofs.Loops.{items_dot, items_form, items_dot_fails, items_form_fails}
