@@ -27,6 +27,7 @@ pub record ReadFault : Type 0 where
   pub place : ℕ
   pub kind : ReadKind
 
+-- a fault of this kind at this place
 abbrev pub fault : ℕ → ReadKind → ReadFault
 fault p k = record { place = p; kind = k }
 
@@ -47,11 +48,12 @@ abbrev pub at_place : {A : Type 0} → ℕ → Result A ReadKind → Result A Re
 at_place p (Ok a) = Ok a
 at_place p (Err k) = Err (fault p k)
 
--- What a call answered, seen by view, is what reading gives, unless memory ran out.
+-- the error is the fault that reading gives, unless memory ran out
 abbrev pub Fails : {Y : Type 0} → ReadError → Result Y ReadFault → Type 0
 Fails errors.NoMemory read = Unit {0}
 Fails (errors.Fault p k) read = read ≡ Err (fault p k)
 
+-- What a call answered, seen by view, is what reading gives, unless memory ran out.
 abbrev pub Gives : {X Y : Type 0} → (X → Y) → Result X ReadError → Result Y ReadFault → Type 0
 Gives view (Ok x) read = read ≡ Ok (view x)
 Gives view (Err e) read = Fails e read

@@ -41,6 +41,7 @@ item_of some heads.Open = items.Form
 item_of some (heads.Under m) = items.Form
 item_of some (heads.Leaf l) = items.Form
 
+-- it ends a list
 abbrev pub is_close : Head → Bool
 is_close heads.Close = true
 is_close heads.Dot = false
@@ -70,6 +71,7 @@ pub data Parts : Type 0 where
   flat : List Form → Parts
   dotted : List Form → Form → Parts
 
+-- the form that they make
 abbrev pub listed : Parts → Body
 listed (flat fs) = body.List fs
 listed (dotted fs f) = body.Dotted fs f

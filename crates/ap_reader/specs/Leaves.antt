@@ -18,10 +18,12 @@ abbrev pub fitted : Option ℤ → Result Body ReadKind
 fitted None = Err faults.IntegerTooWide
 fitted (Some n) = Ok (body.Int n)
 
+-- a character by its code
 abbrev pub chr_of : Result ℕ ReadKind → Result Body ReadKind
 chr_of (Err k) = Err k
 chr_of (Ok c) = Ok (body.Chr c)
 
+-- a symbol, where the name has one
 abbrev pub sym_of : Result Symbol ReadKind → Result Body ReadKind
 sym_of (Err k) = Err k
 sym_of (Ok s) = Ok (body.Sym s)

@@ -8,10 +8,11 @@ use Rattle.ap_reader.specs.declared.name.Package.TheVariants as packages
 use Rattle.ap_reader.specs.declared.fault.ReadKind.{ReadKind}
 use Rattle.ap_reader.specs.declared.fault.ReadKind.TheVariants as faults
 
--- a byte as it is, and a letter in upper case
+-- a byte that is escaped, as it is
 abbrev pub taken : ℕ → Letter
 taken c = record { byte = c; escaped = true }
 
+-- a byte that nothing escapes, in upper case
 abbrev pub raised : ℕ → Letter
 raised c = record { byte = to_ascii_uppercase c; escaped = false }
 
@@ -53,6 +54,7 @@ package_by true _ = packages.Keyword
 package_by false true = packages.Named
 package_by false false = packages.Home
 
+-- what says the package of these letters
 abbrev pub package_of : List Letter → Package
 package_of ls = package_by (is_keyword ls) (has_package ls)
 
@@ -66,6 +68,7 @@ HasRoom n packages.Home = Unit {0}
 abbrev pub named : Bool → List Letter → Result Symbol ReadKind
 named keyword ls = if has_colon ls then Err faults.BadPackage else Ok (record { keyword = keyword; name = map (λ l. l.byte) ls })
 
+-- the symbol without what says its package
 abbrev pub symbol_by : Package → List Letter → Result Symbol ReadKind
 symbol_by packages.Keyword ls = named true (drop 1 ls)
 symbol_by packages.Named ls = named false (drop 6 ls)

@@ -17,6 +17,7 @@ abbrev pub has_digit : List ℕ → Bool
 has_digit [] = false
 has_digit (c ∷ t) = is_digit c
 
+-- nothing is left
 abbrev pub is_over : List ℕ → Bool
 is_over [] = true
 is_over (c ∷ t) = false
@@ -74,6 +75,7 @@ shape_by false true _ = shapes.Fraction
 shape_by false false true = shapes.Dots
 shape_by false false false = shapes.Name
 
+-- another number than an integer, without its sign
 abbrev pub is_number : List ℕ → Bool
 is_number t = is_ratio t || is_decimal t || is_scaled t
 
@@ -90,6 +92,7 @@ abbrev pub value_after : ℕ → ℕ → List ℕ → ℕ
 value_after base n [] = n
 value_after base n (c ∷ t) = value_after base (n * base + worth c) t
 
+-- the text begins with a minus sign
 abbrev pub is_minus : List ℕ → Bool
 is_minus [] = false
 is_minus (c ∷ t) = c == 45

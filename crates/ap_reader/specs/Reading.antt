@@ -17,6 +17,7 @@ use Rattle.ap_reader.specs.Leaves.{leaf_of}
 use Rattle.ap_reader.specs.Heads.{head_of, item_of, is_close, made, under, token_in, Parts, flat, dotted, listed, after_forms}
 
 infixl 10 ◌>>=◌
+-- one after another, up to the first fault
 abbrev pub ◌>>=◌ : {A B : Type 0} → Result A ReadFault → (A → Result B ReadFault) → Result B ReadFault
 (Ok x) >>= f = f x
 (Err e) >>= f = Err e
@@ -25,16 +26,18 @@ abbrev pub ◌>>=◌ : {A B : Type 0} → Result A ReadFault → (A → Result B
 abbrev pub Reader : Type 0
 Reader = Seen → At → Result (Form × At) ReadFault
 
+-- by what a token is to a list
 abbrev pub at_item : {A : Type 0} → Item → A → A → A → A
 at_item items.Close a b c = a
 at_item items.Dot a b c = b
 at_item items.Form a b c = c
 
--- after the last form of a dotted list that began at p the list is closed
+-- after the last form of a dotted list, whether the list is closed
 abbrev pub closing_by : ℕ → Bool → At → Result At ReadFault
 closing_by dot true a = Ok a
 closing_by dot false a = Err (fault dot faults.BadDot)
 
+-- the token after a list's last form
 abbrev pub closing_of : ℕ → ℕ → At → Result At ReadFault
 closing_of p dot a = token_in p (next_of a) >>= λ t. closing_by dot (is_close (head_of t.0.kind)) t.1
 
@@ -45,10 +48,12 @@ tail_by r p dot a =
     at_item (item_of true (head_of t.0.kind)) (Err (fault dot faults.BadDot)) (Err (fault dot faults.BadDot)) (r t.0 t.1 >>= λ x.
     closing_of p dot x.1 >>= λ b. Ok (x.0, b))
 
+-- with more forms in front
 abbrev pub with_forms : List Form → Result (Parts × At) ReadFault → Result (Parts × At) ReadFault
 with_forms fs (Ok x) = Ok (after_forms fs x.0, x.1)
 with_forms fs (Err e) = Err e
 
+-- the end of a list from its dot on
 abbrev pub with_tail : Result (Form × At) ReadFault → Result (Parts × At) ReadFault
 with_tail (Ok x) = Ok (dotted [] x.0, x.1)
 with_tail (Err e) = Err e
@@ -60,6 +65,7 @@ items_by r some (suc most) p a =
     token_in p (next_of a) >>= λ t.
     at_item (item_of some (head_of t.0.kind)) (Ok (flat [], t.1)) (with_tail (tail_by r p t.0.start t.1)) (r t.0 t.1 >>= λ x. with_forms (x.0 ∷ []) (items_by r true most p x.1))
 
+-- the list that the parts make
 abbrev pub lists : Result (Parts × At) ReadFault → Result (Body × At) ReadFault
 lists (Ok x) = Ok (listed x.0, x.1)
 lists (Err e) = Err e
@@ -74,10 +80,12 @@ abbrev pub list_by : Option Reader → ℕ → At → Result (Body × At) ReadFa
 list_by None p a = Err (fault p faults.TooDeep)
 list_by (Some r) p a = lists (items_by r false (suc (length a.rest)) p a)
 
+-- the form at this place
 abbrev pub placed : ℕ → Result (Body × At) ReadFault → Result (Form × At) ReadFault
 placed p (Ok x) = Ok (made p x.0, x.1)
 placed p (Err e) = Err e
 
+-- what a token and the text after it are, by what the token begins
 abbrev pub body_by : Head → Option Reader → Seen → At → Result (Body × At) ReadFault
 body_by (heads.Leaf l) r s a = at_place s.start (leaf_of l s.text) >>= λ v. Ok (v, a)
 body_by (heads.Under m) r s a = marked_by r m s.start a
@@ -94,9 +102,11 @@ reader_of (suc n) = Some (λ s a. placed s.start (body_by (head_of s.kind) (read
 abbrev pub form_of : ℕ → Reader
 form_of n s a = placed s.start (body_by (head_of s.kind) (reader_of n) s a)
 
+-- the last form of a list, in which n more may be nested
 abbrev pub tail_of : ℕ → ℕ → ℕ → At → Result (Form × At) ReadFault
 tail_of n = tail_by (form_of n)
 
+-- the rest of a list, in whose forms n more may be nested
 abbrev pub items_of : ℕ → Bool → ℕ → At → Result (Parts × At) ReadFault
 items_of n some p a = items_by (form_of n) some (suc (length a.rest)) p a
 
@@ -105,14 +115,17 @@ abbrev pub token_at : Result (Option (Seen × At)) TokenFault → Result (Option
 token_at (Err f) = Err (fault f.place (broken f.kind))
 token_at (Ok o) = Ok o
 
+-- a token, if one came, with the text after it
 abbrev pub after_token : Option Token → At → Option (Seen × At)
 after_token None a = None
 after_token (Some t) a = Some (seen t, a)
 
+-- with more forms in front
 abbrev pub with_front : List Form → Result (List Form) ReadFault → Result (List Form) ReadFault
 with_front fs (Ok gs) = Ok (fs ++ gs)
 with_front fs (Err e) = Err e
 
+-- at the end of the text, or at a token
 abbrev pub at_end : {A : Type 0} → Option (Seen × At) → A → (Seen → At → A) → A
 at_end None a f = a
 at_end (Some x) a f = f x.0 x.1
@@ -122,5 +135,6 @@ unfoldable pub forms_by : ℕ → At → Result (List Form) ReadFault
 forms_by zero a = Ok []
 forms_by (suc most) a = token_at (next_of a) >>= λ o. at_end o (Ok []) (λ s b. form_of 400 s b >>= λ x. with_front (x.0 ∷ []) (forms_by most x.1))
 
+-- the forms from a on
 abbrev pub forms_from : At → Result (List Form) ReadFault
 forms_from a = forms_by (suc (length a.rest)) a

@@ -27,7 +27,8 @@ pub enum ReadKind {
     IntegerTooWide,
     /// More than 400 lists, quote marks, backquotes and commas within each other.
     TooDeep,
-    /// A dot that doesn't stand in a list, after a form and before its last one; or several dots alone.
+    /// A dot that doesn't stand in a list, after a form and before its last one; or several dots alone. Where no
+    /// form or more than one follows a list's dot, or another dot, the fault is at that first dot.
     BadDot,
     /// A symbol of another package than `ACL2` and `KEYWORD`.
     BadPackage,

@@ -1,4 +1,4 @@
-//! The forms of a book's text: lists, quotes, numbers, characters, strings and symbols, each with its
+//! The forms of a text: lists, quotes, numbers, characters, strings and symbols, each with its
 //! place. The grammar is that of the ACL2 reader on this fragment.
 #![tactic(auto)]
 
