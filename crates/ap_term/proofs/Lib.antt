@@ -1,3 +1,9 @@
+pub mod Arguments
+pub mod Compares
 pub mod Equals
+pub mod Folds
 pub mod Induction
+pub mod Less
+pub mod Parts
 pub mod StrictOrder
+pub mod Wholes

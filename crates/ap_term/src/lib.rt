@@ -3,13 +3,17 @@
 #![tactic(auto)]
 
 mod atoms;
+mod compare;
+mod counts;
 mod order;
+mod piece;
+mod starts;
 mod steps;
 mod term;
 
 pub use ap_value::{Boxed, Bytes, NoMemory, Seq, Symbol, Value};
 pub use atoms::reads_back;
-pub use order::term_order_is_total;
+pub use order::{term_less, term_order_is_total};
 pub use steps::{Spent, Steps};
 pub use term::{Clause, Subst, Term, copy_symbols, copy_term, copy_terms, same_term, size};
 

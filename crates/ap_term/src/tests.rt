@@ -1,6 +1,6 @@
 use crate::{
     Bytes, NoMemory, Seq, Steps, Symbol, Term, Value, copy_symbols, copy_term, copy_terms,
-    same_term, size,
+    same_term, size, term_less,
 };
 use std::alloc::Global;
 use std::test::Fail;
@@ -26,17 +26,22 @@ fn terms_are_copied_compared_and_counted(rt: HostRuntime) -> Result<(), Fail> {
     let alloc = rt.alloc();
     let text = Value::Str(Bytes::from_slice(alloc, b"abc")?);
     let terms = [
-        (Term::Var(symbol(alloc, b"X")?), 1),
-        (Term::Quote(text), 4),
-        (call(alloc, b"CONS", 1)?, 3),
-        (call(alloc, b"EQUAL", 1)?, 3),
-        (call(alloc, b"CONS", 2)?, 3),
+        (Term::Var(symbol(alloc, b"X")?), 1, 1),
+        (Term::Quote(text), 4, 0),
+        (call(alloc, b"CONS", 1)?, 3, 2),
+        (call(alloc, b"EQUAL", 1)?, 3, 4),
+        (call(alloc, b"CONS", 2)?, 3, 3),
     ];
-    for (i, (t, count)) in terms.iter().enumerate() {
+    for (i, (t, count, place)) in terms.iter().enumerate() {
         let t_again = copy_term(alloc, t)?;
         assert_eq!(rt; size(&t_again), Some(*count));
-        for (j, (other, _)) in terms.iter().enumerate() {
+        for (j, (other, _, other_place)) in terms.iter().enumerate() {
             assert_eq!(rt; same_term(&t_again, other), i == j, "at {i} and {j}");
+            assert_eq!(rt;
+                term_less(&t_again, other),
+                place < other_place,
+                "at {i} and {j}"
+            );
         }
     }
     let pair = [call(alloc, b"CONS", 1)?, Term::Var(symbol(alloc, b"Y")?)];
