@@ -1,0 +1,14 @@
+//! The kernel: every step of every proof engine goes through these calls, each proved from what terms
+//! mean.
+#![tactic(auto)]
+
+mod objects;
+mod plain;
+mod shared;
+
+pub use ap_list::{NoMemory, Seq};
+pub use ap_term::Term;
+pub use ap_world::World;
+pub use objects::{Ctx, Equiv, Mode};
+pub use plain::{refl, trans, weaken_mode};
+pub use shared::Shared;
