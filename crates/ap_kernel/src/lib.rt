@@ -2,13 +2,17 @@
 //! mean.
 #![tactic(auto)]
 
+mod assuming;
+mod constants;
 mod objects;
 mod plain;
+mod shapes;
 mod shared;
 
 pub use ap_list::{NoMemory, Seq};
 pub use ap_term::Term;
 pub use ap_world::World;
+pub use assuming::assume;
 pub use objects::{Ctx, Equiv, Mode};
 pub use plain::{refl, trans, weaken_mode};
 pub use shared::Shared;
