@@ -3,3 +3,4 @@ pub mod Symbols
 pub mod Shaped
 pub mod Parts
 pub mod Assumed
+pub mod CallsStand

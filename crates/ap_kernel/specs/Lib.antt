@@ -1,3 +1,5 @@
 pub mod Standing
 pub mod Shapes
 pub mod Assume
+pub mod Answers
+pub mod Laws

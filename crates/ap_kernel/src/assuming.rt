@@ -2,6 +2,7 @@ ghost use Rattle.std.specs.Prelude.{◌≡◌, ◌++◌, ◌<◌, IfOk, OnOk, no
 ghost use Rattle.ap_list.specs.Lists.{Each};
 ghost use Rattle.ap_term.specs.Terms.{term_size};
 ghost use Rattle.ap_kernel.specs.Shapes.{shape_of, choice, is_constant};
+ghost use Rattle.ap_kernel.specs.Laws.{AssumedIsKnown, AssumedHolds};
 ghost use Rattle.ap_kernel.specs.Assume.{parts, assumed, assume, seen_halves};
 
 use crate::constants::is_nil;
@@ -98,3 +99,10 @@ pub fn assume(alloc: Global, ctx: &Ctx, t: &Term, sign: bool) -> Result<Ctx, NoM
     push_assumed(alloc, &mut facts, t, sign)?;
     Ctx::new(alloc, facts)
 }
+
+/// What is assumed of a known term is known, and where the term has the sign's truth, and the facts of the
+/// context hold, all of what `assume` gives holds.
+pub fn assumed_facts_hold()
+    ensures known { AssumedIsKnown }
+    ensures hold { AssumedHolds }
+{}

@@ -2,6 +2,7 @@ ghost use Rattle.std.specs.Prelude.{◌≡◌, IfOk, ℕ, ◌<◌, slice_index, 
 ghost use Rattle.ap_value.specs.Values.{acl2, val_of, value_eq};
 ghost use Rattle.ap_term.specs.declared.term.Term.TheVariants.{Quote, Call};
 ghost use Rattle.ap_world.specs.Primitives.{symbol_value, nil, t};
+ghost use Rattle.ap_world.specs.Names.{if_name, not_name, equal_name};
 ghost use Rattle.ap_world.specs.Recursion.{nil_constant, t_constant};
 
 use crate::shapes::is_named;
@@ -75,4 +76,12 @@ pub(crate) fn t_term(alloc: Global) -> Result<Term, NoMemory>
     ensures { IfOk result (λ u. u ≡ t_constant) }
 {
     Ok(Term::Quote(Value::Sym(acl2(alloc, b"T")?)))
+}
+
+/// The symbol `if`.
+#[tactic(auto, unfolding(ap_world::specs::Names::if_name))]
+pub(crate) fn if_symbol(alloc: Global) -> Result<Symbol, NoMemory>
+    ensures { IfOk result (λ s. s ≡ if_name) }
+{
+    acl2(alloc, b"IF")
 }

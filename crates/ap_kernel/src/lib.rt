@@ -3,6 +3,7 @@
 #![tactic(auto)]
 
 mod assuming;
+mod calls;
 mod constants;
 mod objects;
 mod plain;
@@ -12,7 +13,8 @@ mod shared;
 pub use ap_list::{NoMemory, Seq};
 pub use ap_term::Term;
 pub use ap_world::World;
-pub use assuming::assume;
+pub use assuming::{assume, assumed_facts_hold};
+pub use calls::{branch, cong};
 pub use objects::{Ctx, Equiv, Mode};
 pub use plain::{refl, trans, weaken_mode};
 pub use shared::Shared;
