@@ -4,3 +4,4 @@ pub mod Shaped
 pub mod Parts
 pub mod Assumed
 pub mod CallsStand
+pub mod Typed

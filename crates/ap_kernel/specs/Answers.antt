@@ -9,6 +9,7 @@ use Rattle.ap_kernel.specs.declared.objects.Ctx.{Ctx}
 use Rattle.ap_kernel.specs.declared.objects.Mode.{Mode}
 use Rattle.ap_kernel.specs.declared.objects.Mode.TheVariants.{Equal, Iff}
 use Rattle.ap_kernel.specs.declared.objects.Equiv.{Equiv}
+use Rattle.ap_world.specs.Recursion.{nil_constant, t_constant}
 use Rattle.ap_kernel.specs.Standing.{Stands}
 
 -- (if a b c)
@@ -44,3 +45,8 @@ cong_made c f qs = record { ctx = c; mode = Equal; lhs = Call f (lefts qs); rhs 
 abbrev pub turned : {A : Type 0} → List A → List A
 turned [] = []
 turned (x ∷ xs) = turned xs ++ x ∷ []
+
+-- a true fact's term leads under iff to 'T, a false fact's under equality to 'NIL
+abbrev pub fact_made : Ctx → Term → Bool → Equiv
+fact_made c u true = record { ctx = c; mode = Iff; lhs = u; rhs = t_constant }
+fact_made c u false = record { ctx = c; mode = Equal; lhs = u; rhs = nil_constant }

@@ -2,4 +2,5 @@ pub mod Standing
 pub mod Shapes
 pub mod Assume
 pub mod Answers
+pub mod Masks
 pub mod Laws
