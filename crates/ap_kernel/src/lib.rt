@@ -47,3 +47,6 @@ pub use objects::{Ctx, Equiv, Mode};
 pub use plain::{refl, trans, weaken_mode};
 pub use shared::Shared;
 pub use types::{TypeOracle, by_type};
+
+#[cfg(test)]
+mod tests;
