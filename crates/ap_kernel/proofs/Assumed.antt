@@ -3,18 +3,17 @@ use Rattle.std.proofs.Common.{◌≡◌, ◌≢◌, Bool, true, false, cond, not
 use Rattle.ap_list.specs.Lists.{Each}
 use Rattle.ap_value.specs.declared.value.Value.{Value}
 use Rattle.ap_value.specs.Values.{V, val_of, value_eq}
-use Rattle.ap_term.specs.declared.term.Term.{Term, Quote, Call}
+use Rattle.ap_term.specs.declared.term.Term.{Term}
 use Rattle.ap_world.specs.Names.{if_name, not_name}
-use Rattle.ap_world.specs.Primitives.{nil, t, truth}
+use Rattle.ap_world.specs.Primitives.{nil, truth}
 use Rattle.ap_world.specs.Meaning.{Env, Defs, HasValue, FactHolds}
-use Rattle.ap_world.specs.Clauses.{not_of}
 use Rattle.ap_world.specs.Sound.{known}
 use Rattle.ap_world.proofs.Knowing.{known_args, each_true, each_same}
 use Rattle.ap_world.proofs.TotalMeaning.{Apply, Models, val, val_is, value_is, val_quote}
-use Rattle.ap_world.proofs.Equations.{val_if, nil-eq, not_nil-eq, eq-not_nil, t_isnt_nil}
+use Rattle.ap_world.proofs.Equations.{val_if, nil-eq, eq-not_nil, t_isnt_nil}
 use Rattle.ap_world.proofs.Starting.{val_not}
 use Rattle.ap_kernel.specs.Standing.{Facts, HasGround, KnownFacts, FactsHold}
-use Rattle.ap_kernel.specs.Shapes.{Shape, constant, choice, negation, equation, pair, other, constant_says, shape_of, is_constant}
+use Rattle.ap_kernel.specs.Shapes.{Shape, constant, choice, negation, constant_says, shape_of, is_constant}
 use Rattle.ap_kernel.specs.Assume.{parts, assumed, assume}
 use Rattle.ap_kernel.proofs.Shaped.{Says, shape_says}
 use Rattle.ap_kernel.proofs.Parts.{parts_each, assumed_each}

@@ -1,7 +1,7 @@
 -- Calls whose parts agree: an `if`, and any other call.
-use Rattle.std.proofs.Common.{◌≡◌, ◌≢◌, ◌↔◌, ℕ, Bool, true, false, cond, IsTrue, List, [], ◌∷◌, ◌++◌, map, length, Some, nat_eq, refl, ap, sym, ◌∙◌, subst, eqb-true, arith, append_assoc}
+use Rattle.std.proofs.Common.{◌≡◌, ◌≢◌, ◌↔◌, ℕ, Bool, true, false, cond, List, [], ◌∷◌, ◌++◌, map, length, Some, refl, ap, sym, ◌∙◌, subst, eqb-true, arith, append_assoc}
 use Rattle.std.proofs.Math.ListN.{length-map}
-use Rattle.ap_list.specs.Lists.{Each, all_true}
+use Rattle.ap_list.specs.Lists.{Each}
 use Rattle.ap_value.specs.declared.symbol.Symbol.{Symbol}
 use Rattle.ap_value.specs.Values.{V, symbol_eq, value_eq}
 use Rattle.ap_value.proofs.Equals.{symbol_eq-true}
@@ -13,16 +13,16 @@ use Rattle.ap_world.specs.Clauses.{not_of}
 use Rattle.ap_world.specs.Sound.{known, is_head, takes, not_function}
 use Rattle.ap_world.proofs.Knowing.{known_by, true_each}
 use Rattle.ap_world.proofs.TotalMeaning.{Apply, Models, models, val, values_of, val_call, head_val}
-use Rattle.ap_world.proofs.Equations.{val_if, nil-eq, not_nil-eq, eq-not_nil, prim_of_if, prim_of_not}
+use Rattle.ap_world.proofs.Equations.{val_if, nil-eq, eq-not_nil, prim_of_if, prim_of_not}
 use Rattle.ap_world.proofs.Starting.{val_not}
 use Rattle.ap_kernel.specs.declared.objects.Ctx.{Ctx}
 use Rattle.ap_kernel.specs.declared.objects.Mode.{Mode}
 use Rattle.ap_kernel.specs.declared.objects.Mode.TheVariants.{Equal, Iff}
 use Rattle.ap_kernel.specs.declared.objects.Equiv.{Equiv}
-use Rattle.ap_kernel.specs.Standing.{Facts, HasGround, KnownFacts, FactsHold, Same, Stands}
+use Rattle.ap_kernel.specs.Standing.{HasGround, KnownFacts, FactsHold, Same, Stands}
 use Rattle.ap_kernel.specs.Assume.{assume}
 use Rattle.ap_kernel.specs.Answers.{if_of, branch_made, ModeFits, IsArgument, lefts, rights, cong_made, turned}
-use Rattle.ap_kernel.proofs.Standing.{agree, stand, same_refl}
+use Rattle.ap_kernel.proofs.Standing.{agree, stand}
 use Rattle.ap_kernel.proofs.Assumed.{assume_holds}
 
 -- lists, last first

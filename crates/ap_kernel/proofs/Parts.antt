@@ -1,9 +1,9 @@
 -- The parts of a term that its sign speaks of: they are smaller, and what is assumed is theirs.
-use Rattle.std.proofs.Common.{◌≡◌, ℕ, ◌+◌, ◌<◌, Bool, true, false, cond, not, List, [], ◌∷◌, ◌++◌, map, refl, ap, sym, ◌∙◌, subst, arith}
+use Rattle.std.proofs.Common.{◌≡◌, ◌+◌, ◌<◌, Bool, true, false, cond, not, List, [], ◌∷◌, ◌++◌, map, refl, ap, ◌∙◌, arith}
 use Rattle.ap_list.specs.Lists.{Each, sum_of, joined}
 use Rattle.ap_value.specs.declared.symbol.Symbol.{Symbol}
 use Rattle.ap_value.specs.declared.value.Value.{Value}
-use Rattle.ap_term.specs.declared.term.Term.{Term, Var, Quote, Call, out-Term}
+use Rattle.ap_term.specs.declared.term.Term.{Term, Var, Quote, Call}
 use Rattle.ap_term.specs.declared.term.Term.TheVariants.{outs-Var, outs-Quote, outs-Call}
 use Rattle.ap_term.specs.Terms.{size_step, term_size}
 use Rattle.ap_term.proofs.Induction.{term_ind, fold_call, para_var, para_quote, para_call}
@@ -11,7 +11,7 @@ use Rattle.ap_world.specs.Names.{if_name, not_name}
 use Rattle.ap_kernel.specs.declared.shapes.Head.{Head}
 use Rattle.ap_kernel.specs.declared.shapes.Head.TheVariants as head
 use Rattle.ap_kernel.specs.Standing.{Facts}
-use Rattle.ap_kernel.specs.Shapes.{Shape, constant, choice, negation, equation, pair, other, head_of, call_shape, shape_of, is_constant}
+use Rattle.ap_kernel.specs.Shapes.{Shape, choice, negation, head_of, call_shape, shape_of, is_constant}
 use Rattle.ap_kernel.specs.Assume.{parts, gathered, assumed_step, assumed}
 use Rattle.ap_kernel.proofs.Shaped.{Says, shape_says}
 

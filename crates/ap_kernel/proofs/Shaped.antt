@@ -1,18 +1,18 @@
 -- What a shape says of its term.
-use Rattle.std.proofs.Common.{◌≡◌, ℕ, ◌+◌, ◌<◌, Bool, true, false, cond, List, [], ◌∷◌, map, refl, ap, sym, ◌∙◌, subst, arith}
-use Rattle.ap_list.specs.Lists.{Each, sum_of}
+use Rattle.std.proofs.Common.{◌≡◌, Bool, true, false, List, [], ◌∷◌, refl, ap}
+use Rattle.ap_list.specs.Lists.{Each}
 use Rattle.ap_value.specs.declared.symbol.Symbol.{Symbol}
 use Rattle.ap_value.specs.declared.value.Value.{Value}
 use Rattle.ap_value.specs.Values.{symbol_eq}
 use Rattle.ap_value.proofs.Equals.{symbol_eq-true}
-use Rattle.ap_term.specs.declared.term.Term.{Term, Var, Quote, Call, out-Term}
+use Rattle.ap_term.specs.declared.term.Term.{Term, Var, Quote, Call}
 use Rattle.ap_term.specs.declared.term.Term.TheVariants.{outs-Var, outs-Quote, outs-Call}
 use Rattle.ap_term.proofs.Induction.{term_ind}
 use Rattle.ap_world.specs.Names.{if_name, not_name, equal_name, cons_name}
 use Rattle.ap_world.specs.Clauses.{not_of}
 use Rattle.ap_kernel.specs.declared.shapes.Head.{Head}
 use Rattle.ap_kernel.specs.declared.shapes.Head.TheVariants as head
-use Rattle.ap_kernel.specs.Shapes.{Shape, constant, choice, negation, equation, pair, other, head_by, head_of, call_shape, layer_shape, shape_of}
+use Rattle.ap_kernel.specs.Shapes.{Shape, constant, choice, negation, equation, pair, other, head_by, head_of, call_shape, shape_of}
 
 -- the term that has the shape
 abbrev pub Says : Term → Shape Term → Type 0

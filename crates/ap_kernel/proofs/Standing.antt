@@ -1,8 +1,7 @@
 -- What stands, as an equation of values in a total world, and the rows that move terms alone.
-use Rattle.std.proofs.Common.{◌≡◌, Bool, true, IsTrue, refl, subst, sym, ap, ◌∙◌}
+use Rattle.std.proofs.Common.{◌≡◌, IsTrue, refl, subst, sym, ◌∙◌}
 use Rattle.ap_value.specs.Values.{V}
 use Rattle.ap_term.specs.declared.term.Term.{Term}
-use Rattle.ap_world.specs.Primitives.{nil}
 use Rattle.ap_world.specs.Meaning.{Env, Defs, Total}
 use Rattle.ap_world.specs.Sound.{known}
 use Rattle.ap_world.proofs.TotalMeaning.{Apply, Models, val, val_is, value_is, models}
@@ -10,7 +9,7 @@ use Rattle.ap_kernel.specs.declared.objects.Ctx.{Ctx}
 use Rattle.ap_kernel.specs.declared.objects.Mode.{Mode}
 use Rattle.ap_kernel.specs.declared.objects.Mode.TheVariants.{Equal, Iff}
 use Rattle.ap_kernel.specs.declared.objects.Equiv.{Equiv}
-use Rattle.ap_kernel.specs.Standing.{Facts, KnownFacts, FactsHold, Same, Stands}
+use Rattle.ap_kernel.specs.Standing.{KnownFacts, FactsHold, Same, Stands}
 
 pub same_refl : (m : Mode) (v : V) → Same m v v
 same_refl Equal v = refl

@@ -1,5 +1,5 @@
 -- A mask that leaves one value, or excludes nil, and a fact: what they lead to.
-use Rattle.std.proofs.Common.{◌≡◌, ◌≢◌, ◌↔◌, ℕ, zero, suc, Bool, true, false, cond, not, ◌&&◌, ◌||◌, IsTrue, List, [], ◌∷◌, Some, None, slice_get, nat_eq, pos, negsuc, refl, ap, sym, ◌∙◌, subst, eqb-true, arith, min}
+use Rattle.std.proofs.Common.{◌≡◌, ◌≢◌, ◌↔◌, ℕ, zero, suc, Bool, true, false, cond, not, ◌&&◌, ◌||◌, IsTrue, List, [], ◌∷◌, Some, None, slice_get, pos, negsuc, refl, ap, sym, ◌∙◌, subst, eqb-true, arith, min}
 use Rattle.std.specs.Int.{bit_at}
 use Rattle.std.specs.Int.Bits.{bit_and}
 use Rattle.std.proofs.lemmas.Nat.Bits.{bit_at_and, bit_at-zero}
@@ -11,17 +11,15 @@ use Rattle.ap_term.specs.declared.term.Term.{Term, Quote}
 use Rattle.ap_world.specs.declared.entry.Mask.{Mask}
 use Rattle.ap_world.specs.Primitives.{nil, t}
 use Rattle.ap_world.specs.Meaning.{Env, Defs, Total, FactHolds}
-use Rattle.ap_world.specs.Types.{is_true_list, int_type, symbol_type, type_of, Has}
-use Rattle.ap_world.specs.Recursion.{nil_constant, t_constant}
+use Rattle.ap_world.specs.Types.{is_true_list, type_of, Has}
 use Rattle.ap_world.specs.Sound.{known}
 use Rattle.ap_world.proofs.Knowing.{known_quote}
 use Rattle.ap_world.proofs.TotalMeaning.{Apply, Models, models, val, val_is, val_quote}
-use Rattle.ap_world.proofs.Equations.{val_of_nil, val_of_t, nil-eq, eq-not_nil, t_isnt_nil, names_open}
+use Rattle.ap_world.proofs.Equations.{val_of_nil, val_of_t, eq-not_nil, t_isnt_nil, names_open}
 use Rattle.ap_world.proofs.Starting.{has_all}
 use Rattle.ap_kernel.specs.declared.objects.Ctx.{Ctx}
-use Rattle.ap_kernel.specs.declared.objects.Mode.{Mode}
 use Rattle.ap_kernel.specs.declared.objects.Mode.TheVariants.{Equal, Iff}
-use Rattle.ap_kernel.specs.Standing.{Facts, KnownFacts, FactsHold, Same, Stands}
+use Rattle.ap_kernel.specs.Standing.{KnownFacts, FactsHold, Same, Stands}
 use Rattle.ap_kernel.specs.Masks.{MaskHolds, others, has_only, lacks_nil, leads_to, typed_mode, typed_made}
 use Rattle.ap_kernel.specs.Answers.{fact_made}
 use Rattle.ap_kernel.proofs.Standing.{stand}

@@ -6,7 +6,7 @@ use Rattle.ap_term.specs.declared.term.Term.TheOpen.{Term-F}
 use Rattle.ap_kernel.specs.declared.assuming.Halves.{Halves}
 use Rattle.ap_kernel.specs.declared.assuming.Halves.TheVariants as lent
 use Rattle.ap_kernel.specs.Standing.{Facts}
-use Rattle.ap_kernel.specs.Shapes.{Shape, constant, choice, negation, equation, pair, other, layer_shape, is_constant}
+use Rattle.ap_kernel.specs.Shapes.{Shape, choice, negation, layer_shape, is_constant}
 
 -- the parts whose signs a term's sign gives: (not a) gives a the other sign; an `if` of which one branch
 -- is a constant that hasn't the sign gives its test, and its other branch the sign; `term` is a part's term

@@ -1,5 +1,5 @@
 -- What a mask says of a term under facts, and when it leaves one value alone.
-use Rattle.std.specs.Prelude.{ℕ, Bool, true, false, cond, not, ◌&&◌, ◌||◌, nat_eq, bit_and, pos}
+use Rattle.std.specs.Prelude.{ℕ, Bool, cond, not, ◌&&◌, ◌||◌, nat_eq, bit_and, pos}
 use Rattle.ap_value.specs.declared.value.Value.{Value}
 use Rattle.ap_value.specs.Values.{V, int, val_of, value_eq}
 use Rattle.ap_term.specs.declared.term.Term.{Term, Quote}

@@ -1,6 +1,5 @@
-use Rattle.std.proofs.Common.{◌≡◌, ◌++◌, [], ◌∷◌, sym, ◌∙◌, ap, append_assoc, rules}
-use Rattle.ap_kernel.specs.Shapes.{shape_of}
-use Rattle.ap_kernel.specs.Assume.{parts, assumed}
+use Rattle.std.proofs.Common.{◌≡◌, ◌++◌, sym, ◌∙◌, ap, append_assoc, rules}
+use Rattle.ap_kernel.specs.Assume.{assumed}
 use Rattle.ap_kernel.proofs.Parts.{assumed_whole, assumed_one, assumed_two}
 use Rattle.ap_kernel.proofs.assuming.+assuming.Goals as goal
 

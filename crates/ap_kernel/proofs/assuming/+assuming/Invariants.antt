@@ -1,4 +1,3 @@
-use Rattle.std.proofs.Common.{ℕ}
 use Rattle.ap_term.specs.Terms.{term_size}
 use Rattle.ap_kernel.proofs.assuming.+assuming.Given as goal
 

@@ -1,4 +1,4 @@
-use Rattle.std.proofs.Common.{◌≡◌, ◌++◌, rules, ap, ◌∙◌}
+use Rattle.std.proofs.Common.{◌++◌, ap, ◌∙◌}
 use Rattle.ap_kernel.specs.Answers.{turned}
 use Rattle.ap_kernel.proofs.CallsStand.{turn_step_plain}
 use Rattle.ap_kernel.proofs.calls.last_first.Goals as goal

@@ -1,4 +1,4 @@
-use Rattle.std.proofs.Common.{◌≡◌, ap, sym, ◌∙◌, subst}
+use Rattle.std.proofs.Common.{ap, sym, ◌∙◌, subst}
 use Rattle.ap_value.specs.Values.{acl2, val_of, value_eq}
 use Rattle.ap_value.proofs.Bytes.{AreSmall}
 use Rattle.ap_world.specs.Primitives.{symbol_value}

@@ -1,6 +1,5 @@
-use Rattle.std.proofs.Common.{◌≡◌, rules}
+use Rattle.std.proofs.Common.{rules}
 use Rattle.ap_world.specs.World.{function_of}
-use Rattle.ap_kernel.specs.Answers.{fact_made}
 use Rattle.ap_kernel.proofs.Typed.{fact_stands}
 use Rattle.ap_kernel.proofs.facts.by_fact.Goals as goal
 
