@@ -1,0 +1,10 @@
+use Rattle.std.proofs.Common.{◌≡◌, rules}
+use Rattle.ap_kernel.specs.Shapes.{shape_of}
+use Rattle.ap_kernel.specs.Assume.{parts, seen_halves}
+use Rattle.ap_kernel.proofs.Parts.{parts_smaller}
+use Rattle.ap_kernel.proofs.assuming.halves_of.Goals as goal
+
+pub returns-in-If-clause-smaller : goal.returns-in-If-clause-smaller
+returns-in-If-clause-smaller c =
+    let e : seen_halves c.if_halves.result ≡ parts (λ u. u) (shape_of c.args.t.now) c.args.sign = search rules in
+    rw e (parts_smaller c.args.t.now c.args.sign)

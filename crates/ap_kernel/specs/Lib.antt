@@ -1,0 +1,6 @@
+pub mod Standing
+pub mod Shapes
+pub mod Assume
+pub mod Answers
+pub mod Masks
+pub mod Laws

@@ -1,0 +1,108 @@
+ghost use Rattle.std.specs.Prelude.{◌≡◌, ◌++◌, ◌<◌, IfOk, OnOk, not};
+ghost use Rattle.ap_list.specs.Lists.{Each};
+ghost use Rattle.ap_term.specs.Terms.{term_size};
+ghost use Rattle.ap_kernel.specs.Shapes.{shape_of, choice, is_constant};
+ghost use Rattle.ap_kernel.specs.Laws.{AssumedIsKnown, AssumedHolds};
+ghost use Rattle.ap_kernel.specs.Assume.{parts, assumed, assume, seen_halves};
+
+use crate::constants::is_nil;
+use crate::objects::Ctx;
+use crate::shapes::{ShapeRef, shape_of};
+use ap_list::{NoMemory, Seq};
+use ap_term::{Term, copy_term};
+use std::alloc::Global;
+
+/// What a term's sign says of its parts: nothing more, one part's sign, or two parts' signs.
+#[derive(Clone, Copy)]
+enum Halves<'a> {
+    Whole,
+    One(&'a Term, bool),
+    Two(&'a Term, bool, &'a Term, bool),
+}
+
+/// Whether a term is a constant that means something else than `nil`, where the sign is true, or `nil`,
+/// where it is false.
+pub(crate) fn is_constant(sign: bool, t: &Term) -> bool
+    ensures { result ≡ is_constant sign t.now }
+{
+    match shape_of(t) {
+        ShapeRef::Constant(v) => is_nil(v) != sign,
+        _ => false,
+    }
+}
+
+/// What the sign of an `if` says of its parts.
+fn if_halves<'a>(a: &'a Term, b: &'a Term, c: &'a Term, sign: bool) -> Halves<'a>
+    ensures { seen_halves result ≡ parts (λ u. u) (choice a.now b.now c.now) sign }
+{
+    if is_constant(!sign, c) {
+        return Halves::Two(a, true, b, sign);
+    }
+    if is_constant(!sign, b) {
+        return Halves::Two(a, false, c, sign);
+    }
+    Halves::Whole
+}
+
+/// What a term's sign says of its parts.
+fn halves_of(t: &Term, sign: bool) -> Halves<'_>
+    ensures is { seen_halves result ≡ parts (λ u. u) (shape_of t.now) sign }
+    ensures smaller { Each (λ p. term_size p.0 < term_size t.now) (seen_halves result) }
+{
+    match shape_of(t) {
+        ShapeRef::Not(a) => Halves::One(a, !sign),
+        ShapeRef::If(a, b, c) => if_halves(a, b, c, sign),
+        _ => Halves::Whole,
+    }
+}
+
+/// Adds the facts that a term and a sign stand for.
+#[cycle(assuming)]
+fn push_assumed(
+    alloc: Global,
+    facts: &mut Seq<(Term, bool)>,
+    t: &Term,
+    sign: bool,
+) -> Result<(), NoMemory>
+    ensures { OnOk result (facts.new ≡ facts.old ++ assumed t.now sign) }
+{
+    match halves_of(t, sign) {
+        Halves::Whole => facts.push((copy_term(alloc, t)?, sign)),
+        Halves::One(a, s) => push_assumed(alloc, facts, a, s),
+        Halves::Two(a, s, b, r) => {
+            push_assumed(alloc, facts, a, s)?;
+            push_assumed(alloc, facts, b, r)
+        }
+    }
+}
+
+/// A copy of facts.
+fn copy_facts(alloc: Global, facts: &[(Term, bool)]) -> Result<Seq<(Term, bool)>, NoMemory>
+    ensures { IfOk result (λ copy. copy ≡ facts.now) }
+{
+    let mut out = Seq::new(alloc);
+    for (t, sign) in facts {
+        out.push((copy_term(alloc, t)?, *sign))?;
+    }
+    Ok(out)
+}
+
+/// The facts with what `t` and `sign` stand for at their end. `(not a)` assumes `a` with the other sign.
+/// `(if a b 'NIL)` true assumes `a` and `b` true, `(if a 'NIL c)` true `a` false and `c` true; for a
+/// constant `'k` other than `'NIL`, `(if a b 'k)` false assumes `a` true and `b` false, `(if a 'k c)` false
+/// both `a` and `c` false. Of all else the term itself is assumed. It copies the facts, since those of the
+/// context are shared, and each term that it adds: this is the one call that makes a longer list.
+pub fn assume(alloc: Global, ctx: &Ctx, t: &Term, sign: bool) -> Result<Ctx, NoMemory>
+    ensures { IfOk result (λ c. c.0 ≡ assume ctx.now.0 t.now sign) }
+{
+    let mut facts = copy_facts(alloc, ctx.facts())?;
+    push_assumed(alloc, &mut facts, t, sign)?;
+    Ctx::new(alloc, facts)
+}
+
+/// What is assumed of a known term is known, and where the term has the sign's truth, and the facts of the
+/// context hold, all of what `assume` gives holds.
+pub fn assumed_facts_hold()
+    ensures known { AssumedIsKnown }
+    ensures hold { AssumedHolds }
+{}

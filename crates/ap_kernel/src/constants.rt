@@ -1,0 +1,87 @@
+ghost use Rattle.std.specs.Prelude.{◌≡◌, IfOk, ℕ, ◌<◌, slice_index, [], ◌∷◌};
+ghost use Rattle.ap_value.specs.Values.{acl2, val_of, value_eq};
+ghost use Rattle.ap_term.specs.declared.term.Term.TheVariants.{Quote, Call};
+ghost use Rattle.ap_world.specs.Primitives.{symbol_value, nil, t};
+ghost use Rattle.ap_world.specs.Names.{if_name, not_name, equal_name};
+ghost use Rattle.ap_world.specs.Recursion.{nil_constant, t_constant};
+
+use crate::shapes::is_named;
+use ap_list::{Bytes, NoMemory};
+use ap_term::Term;
+use ap_value::{Symbol, Value};
+use std::alloc::Global;
+
+/// Each byte is below 256. Costs nothing: a caller's proof learns it so.
+fn are_bytes(bytes: &[u8])
+    ensures { (i : ℕ) → slice_index bytes.now i < 256 }
+{
+    let _ = bytes;
+}
+
+/// Whether a value is the symbol of package `ACL2` with this name. Takes no memory.
+fn is_symbol(v: &Value, name: &[u8]) -> bool
+    ensures { result ≡ value_eq (val_of v.now) (symbol_value (acl2 name.now)) }
+{
+    match v {
+        Value::Int(_) => false,
+        Value::Chr(_) => false,
+        Value::Str(_) => false,
+        Value::Cons(_, _) => false,
+        Value::Sym(s) => {
+            are_bytes(s.name.as_slice());
+            are_bytes(name);
+            is_named(s, name)
+        }
+    }
+}
+
+/// Whether a value is `nil`. Takes no memory.
+#[tactic(auto, unfolding(ap_world::specs::Primitives::nil, ap_world::specs::Names::nil_name))]
+pub(crate) fn is_nil(v: &Value) -> bool
+    ensures { result ≡ value_eq (val_of v.now) nil }
+{
+    is_symbol(v, b"NIL")
+}
+
+/// Whether a value is `t`. Takes no memory.
+#[tactic(auto, unfolding(ap_world::specs::Primitives::t, ap_world::specs::Names::t_name))]
+pub(crate) fn is_t(v: &Value) -> bool
+    ensures { result ≡ value_eq (val_of v.now) t }
+{
+    is_symbol(v, b"T")
+}
+
+/// The symbol of package `ACL2` with this name.
+pub(crate) fn acl2(alloc: Global, name: &[u8]) -> Result<Symbol, NoMemory>
+    ensures { IfOk result (λ s. s ≡ acl2 name.now) }
+{
+    let name = Bytes::from_slice(alloc, name)?;
+    Ok(Symbol {
+        keyword: false,
+        name,
+    })
+}
+
+/// The constant `'NIL`.
+#[tactic(auto, unfolding(ap_world::specs::Names::nil_name))]
+pub(crate) fn nil_term(alloc: Global) -> Result<Term, NoMemory>
+    ensures { IfOk result (λ u. u ≡ nil_constant) }
+{
+    Ok(Term::Quote(Value::Sym(acl2(alloc, b"NIL")?)))
+}
+
+/// The constant `'T`.
+#[tactic(auto, unfolding(ap_world::specs::Names::t_name))]
+pub(crate) fn t_term(alloc: Global) -> Result<Term, NoMemory>
+    ensures { IfOk result (λ u. u ≡ t_constant) }
+{
+    Ok(Term::Quote(Value::Sym(acl2(alloc, b"T")?)))
+}
+
+/// The symbol `if`.
+#[tactic(auto, unfolding(ap_world::specs::Names::if_name))]
+pub(crate) fn if_symbol(alloc: Global) -> Result<Symbol, NoMemory>
+    ensures { IfOk result (λ s. s ≡ if_name) }
+{
+    acl2(alloc, b"IF")
+}

@@ -1,0 +1,46 @@
+ghost use Rattle.std.specs.Prelude.{◌≡◌, ◌<◌, IfOk, IfSome, length, slice_get, Some};
+ghost use Rattle.ap_world.specs.World.{function_of};
+ghost use Rattle.ap_kernel.specs.Standing.{KnownFacts, Stands};
+ghost use Rattle.ap_kernel.specs.Answers.{fact_made};
+
+use crate::constants::{nil_term, t_term};
+use crate::objects::{Ctx, Equiv, Mode};
+use ap_list::NoMemory;
+use ap_term::{Term, copy_term};
+use ap_world::World;
+use std::alloc::Global;
+
+/// The fact at a place, lent.
+fn fact_at(facts: &[(Term, bool)], index: usize) -> &(Term, bool)
+    requires { index < length facts.now }
+    ensures { slice_get facts.now index ≡ Some result.now }
+{
+    &facts[index]
+}
+
+/// A fact as an equivalence.
+fn fact_equiv(alloc: Global, ctx: &Ctx, t: &Term, sign: bool) -> Result<Equiv, NoMemory>
+    ensures { IfOk result (λ q. q ≡ fact_made ctx.now t.now sign) }
+{
+    let lhs = copy_term(alloc, t)?;
+    if sign {
+        let rhs = t_term(alloc)?;
+        return Ok(Equiv::made(ctx.share()?, Mode::Iff, lhs, rhs));
+    }
+    let rhs = nil_term(alloc)?;
+    Ok(Equiv::made(ctx.share()?, Mode::Equal, lhs, rhs))
+}
+
+/// The fact at this place: a true fact's term leads under `iff` to `'T`, a false fact's under equality to
+/// `'NIL`. It copies the fact's term, since an equivalence owns its sides.
+pub fn by_fact(alloc: Global, w: &World, ctx: &Ctx, index: usize) -> Result<Equiv, NoMemory>
+    requires facts { KnownFacts (function_of w.now.entries) ctx.now.0 }
+    requires place { index < length ctx.now.0 }
+    ensures stands { IfOk result (λ q. Stands (function_of w.now.entries) q) }
+    ensures made { IfOk result (λ q. IfSome (slice_get ctx.now.0 index) (λ f. q ≡ fact_made ctx.now f.0 f.1)) }
+{
+    w.is_sound();
+    let fact = fact_at(ctx.facts(), index);
+    let answer = fact_equiv(alloc, ctx, &fact.0, fact.1)?;
+    Ok(answer)
+}

@@ -1,0 +1,53 @@
+ghost use Rattle.std.specs.Prelude.{◌≡◌, IsTrue, IfOk, IsOkAnd};
+ghost use Rattle.ap_world.specs.Sound.{known};
+ghost use Rattle.ap_world.specs.World.{function_of};
+ghost use Rattle.ap_kernel.specs.Standing.{KnownFacts, Stands};
+ghost use Rattle.ap_kernel.specs.declared.objects.Mode.TheVariants.{Equal, Iff};
+
+use crate::objects::{Ctx, Equiv, Mode};
+use ap_list::NoMemory;
+use ap_term::{Term, copy_term};
+use ap_world::World;
+use std::alloc::Global;
+
+/// From a term to itself. It copies the term once for each side, since an equivalence owns both.
+pub fn refl(alloc: Global, w: &World, ctx: &Ctx, mode: Mode, t: &Term) -> Result<Equiv, NoMemory>
+    requires facts { KnownFacts (function_of w.now.entries) ctx.now.0 }
+    requires term { IsTrue (known (function_of w.now.entries) t.now) }
+    ensures stands { IfOk result (λ q. Stands (function_of w.now.entries) q) }
+    ensures made { IfOk result (λ q. q ≡ record { ctx = ctx.now; mode = mode; lhs = t.now; rhs = t.now }) }
+{
+    w.is_sound();
+    let lhs = copy_term(alloc, t)?;
+    let rhs = copy_term(alloc, t)?;
+    Ok(Equiv::made(ctx.share()?, mode, lhs, rhs))
+}
+
+/// From the left side of the first to the right side of the second, where the first leads to what the
+/// second begins with. It copies nothing, and always has an answer.
+pub fn trans(w: &World, a: Equiv, b: Equiv) -> Result<Equiv, NoMemory>
+    requires a { Stands (function_of w.now.entries) a }
+    requires b { Stands (function_of w.now.entries) b }
+    requires facts { a.ctx ≡ b.ctx }
+    requires mode { a.mode ≡ b.mode }
+    requires middle { a.rhs ≡ b.lhs }
+    ensures stands { IfOk result (λ q. Stands (function_of w.now.entries) q) }
+    ensures made { IsOkAnd result (λ q. q ≡ record { ctx = a.ctx; mode = a.mode; lhs = a.lhs; rhs = b.rhs }) }
+{
+    w.is_sound();
+    let (ctx, mode, lhs, _) = a.into_parts();
+    let (_, _, _, rhs) = b.into_parts();
+    Ok(Equiv::made(ctx, mode, lhs, rhs))
+}
+
+/// Equality as equivalence under `iff`. It copies nothing, and always has an answer.
+pub fn weaken_mode(w: &World, a: Equiv) -> Result<Equiv, NoMemory>
+    requires a { Stands (function_of w.now.entries) a }
+    requires mode { a.mode ≡ Equal }
+    ensures stands { IfOk result (λ q. Stands (function_of w.now.entries) q) }
+    ensures made { IsOkAnd result (λ q. q ≡ record { ctx = a.ctx; mode = Iff; lhs = a.lhs; rhs = a.rhs }) }
+{
+    w.is_sound();
+    let (ctx, _, lhs, rhs) = a.into_parts();
+    Ok(Equiv::made(ctx, Mode::Iff, lhs, rhs))
+}

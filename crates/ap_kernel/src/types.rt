@@ -1,0 +1,83 @@
+ghost use Rattle.std.specs.Prelude.{◌≡◌, IsTrue, IfOk, pos};
+ghost use Rattle.ap_value.specs.Values.{val_of, value_eq, int};
+ghost use Rattle.ap_world.specs.Sound.{known};
+ghost use Rattle.ap_world.specs.World.{function_of};
+ghost use Rattle.ap_kernel.specs.Standing.{HasGround, KnownFacts, Stands};
+ghost use Rattle.ap_kernel.specs.Masks.{MaskHolds, others, has_only, leads_to, typed_mode, typed_made};
+
+use crate::constants::{is_nil, is_t};
+use crate::objects::{Ctx, Equiv, Mode};
+use ap_list::NoMemory;
+use ap_term::{Term, copy_term};
+use ap_value::{Value, same};
+use ap_world::{Mask, World};
+use std::alloc::Global;
+
+/// What says which types a term's value can have. The kernel doesn't trust it: what it answers is proved
+/// by whoever implements it.
+pub trait TypeOracle {
+    /// A mask that holds of the term: wherever the facts hold, the type of its value is in the mask.
+    fn mask(&self, alloc: Global, w: &World, ctx: &Ctx, t: &Term) -> Result<Mask, NoMemory>
+        requires ground { HasGround (function_of w.now.entries) }
+        requires facts { KnownFacts (function_of w.now.entries) ctx.now.0 }
+        requires term { IsTrue (known (function_of w.now.entries) t.now) }
+        ensures holds { IfOk result (λ m. MaskHolds (function_of w.now.entries) ctx.now.0 t.now m) };
+}
+
+/// Whether a value is zero. Takes no memory.
+fn is_zero(v: &Value) -> bool
+    ensures { result ≡ value_eq (val_of v.now) (int (pos 0)) }
+{
+    let zero = Value::Int(0);
+    same(v, &zero)
+}
+
+/// The types that have another value than this one.
+fn others(v: &Value) -> u16
+    ensures { result ≡ others (val_of v.now) }
+{
+    if is_nil(v) {
+        return 1015;
+    }
+    if is_t(v) {
+        return 1007;
+    }
+    if is_zero(v) {
+        return 1022;
+    }
+    1023
+}
+
+/// How a term leads to the one value, by its mask.
+fn typed_mode(mask: Mask, value: &Value) -> Mode
+    ensures { result ≡ typed_mode mask (val_of value.now) }
+{
+    if mask.0 & others(value) == 0 {
+        Mode::Equal
+    } else {
+        Mode::Iff
+    }
+}
+
+/// From a term to the one value that its mask leaves, under equality; or, where the mask excludes `nil`, to
+/// a value other than `nil`, under `iff`. It copies the term, since an equivalence owns its sides.
+pub fn by_type(
+    alloc: Global,
+    w: &World,
+    ctx: &Ctx,
+    t: &Term,
+    mask: Mask,
+    value: Value,
+) -> Result<Equiv, NoMemory>
+    requires facts { KnownFacts (function_of w.now.entries) ctx.now.0 }
+    requires term { IsTrue (known (function_of w.now.entries) t.now) }
+    requires mask { MaskHolds (function_of w.now.entries) ctx.now.0 t.now mask }
+    requires value { IsTrue (leads_to mask (val_of value)) }
+    ensures stands { IfOk result (λ q. Stands (function_of w.now.entries) q) }
+    ensures made { IfOk result (λ q. q ≡ typed_made ctx.now t.now mask value) }
+{
+    w.is_sound();
+    let mode = typed_mode(mask, &value);
+    let lhs = copy_term(alloc, t)?;
+    Ok(Equiv::made(ctx.share()?, mode, lhs, Term::Quote(value)))
+}
