@@ -67,6 +67,7 @@ fn names_print_as_the_manual_has_them(rt: HostRuntime) -> Result<(), Fail> {
     shows(&rt, alloc, &[], &[0, 0, 0, 0], b"Goal'4'")?;
     shows(&rt, alloc, &[1, 2], &[], b"*1.2")?;
     shows(&rt, alloc, &[1], &[3], b"Subgoal *1/3")?;
+    shows(&rt, alloc, &[1, 1], &[3], b"Subgoal *1.1/3")?;
     shows(&rt, alloc, &[1, 1], &[3, 12, 0], b"Subgoal *1.1/3.12'")?;
     Ok(())
 }

@@ -1,4 +1,6 @@
-use crate::{Boxed, Bytes, NoMemory, Symbol, Value, acl2_count, copy, nodes, same};
+use crate::{
+    Boxed, Bytes, NoMemory, Symbol, Value, acl2_count, copy, copy_bytes, copy_symbol, nodes, same,
+};
 use std::alloc::Global;
 use std::test::Fail;
 
@@ -60,5 +62,22 @@ fn values_are_copied_compared_and_counted(rt: HostRuntime) -> Result<(), Fail> {
         assert_eq!(rt; acl2_count(&v_again), Some(*count));
         assert!(rt; !same(v, &Value::Chr(97)));
     }
+    Ok(())
+}
+
+#[test]
+fn bytes_and_symbols_are_copied(rt: HostRuntime) -> Result<(), Fail> {
+    let alloc = rt.alloc();
+    let name = copy_bytes(alloc, &Bytes::from_slice(alloc, b"CAR")?)?;
+    assert_eq!(rt; name.as_slice(), b"CAR".as_slice());
+    let key = copy_symbol(
+        alloc,
+        &Symbol {
+            keyword: true,
+            name,
+        },
+    )?;
+    assert!(rt; key.keyword);
+    assert_eq!(rt; key.name.as_slice(), b"CAR".as_slice());
     Ok(())
 }
