@@ -3,15 +3,20 @@ use Rattle.std.proofs.Common.{◌≡◌, ℕ, zero, suc, ◌+◌, ◌≤◌, Boo
 use Rattle.std.proofs.Math.Numerals.{one-add}
 use Rattle.std.proofs.lemmas.Bool.{ltb-false}
 use Rattle.std.proofs.Math.ListN.{length-map}
-use Rattle.std.specs.Prelude.{slice_get}
+use Rattle.std.specs.Prelude.{slice_get, IsTrue, ◌↔◌}
+use Rattle.ap_list.specs.Lists.{is_among}
 use Rattle.std.specs.List.{position, position_or_len, list_any}
+use Rattle.std.proofs.lemmas.List.{append-nil, append_assoc}
 use Rattle.std.proofs.lemmas.Option.{slice_get_past}
 use Rattle.ap_value.specs.declared.symbol.Symbol.{Symbol}
 use Rattle.ap_value.specs.Values.{symbol_eq}
 use Rattle.ap_value.proofs.Equals.{symbol_eq-true, symbol_eq-same}
 use Rattle.ap_world.specs.declared.entry.Entry.{Entry}
 use Rattle.ap_world.specs.Primitives.{prim_of}
-use Rattle.ap_world.specs.World.{name_in, entry_of, has_name, are_distinct}
+use Rattle.ap_world.specs.declared.entry.Function.{Function}
+use Rattle.ap_world.specs.declared.entry.Entry.TheVariants as entry
+use Rattle.ap_world.specs.World.{name_in, entry_of, has_name, are_distinct, are_taken}
+use Rattle.ap_world.proofs.Extending.{has_name-last}
 
 -- the first place of a name holds the entry of that name, and past the end there is none
 pub at_place : (W : List Entry) (x : Symbol) → slice_get W (position_or_len (symbol_eq x) (map name_in W)) ≡ entry_of W x
@@ -159,3 +164,32 @@ distinct_before (z ∷ zs) (suc i) y d h =
 pub absent_before : (W : List Entry) (i : ℕ) (y : Entry) → are_distinct W ≡ true → slice_get W i ≡ Some y
     → list_any (symbol_eq (name_in y)) (map name_in (take i W)) ≡ false
 absent_before W i y d h = named_is (take i W) (name_in y) ∙ distinct_before W i y d h
+
+-- a test that is true exactly where two names are one is the definitions' test
+pub test_is : (a b : Symbol) (r : Bool) → (IsTrue r ↔ (a ≡ b)) → r ≡ symbol_eq a b
+test_is a b true h = sym (ap (λ s. symbol_eq a s) (sym (h.0 refl)) ∙ symbol_eq-same a)
+test_is a b false h = go (symbol_eq a b) refl
+  where
+    go : (t : Bool) → symbol_eq a b ≡ t → false ≡ t
+    go true e = h.1 (symbol_eq-true a b e)
+    go false e = refl
+
+-- names that are free of the world and of the first new one are free once that is added
+pub free_after : (W : List Entry) (f : Function) (fs : List Function) → is_among symbol_eq f.name (map (λ g. g.name) fs) ≡ false → are_taken W fs ≡ false
+    → are_taken (W ++ entry.Function f ∷ []) fs ≡ false
+free_after W f [] h free = refl
+free_after W f (g ∷ gs) h free =
+    let other = neither (symbol_eq f.name g.name) (is_among symbol_eq f.name (map (λ g. g.name) gs)) h in
+    let first = neither (has_name W g.name || is_among symbol_eq g.name (map (λ g. g.name) gs)) (are_taken W gs) free in
+    let here = neither (has_name W g.name) (is_among symbol_eq g.name (map (λ g. g.name) gs)) first.0 in
+    not_either _ _ (not_either _ _ (has_name-last W (entry.Function f) g.name ∙ not_either _ _ here.0 (symbol_eq-false f.name g.name other.0)) here.1)
+    (free_after W f gs other.1 first.1)
+
+-- with functions of free names the names stay distinct
+pub distinct_all : (W : List Entry) (fs : List Function) → are_distinct W ≡ true → are_taken W fs ≡ false → are_distinct (W ++ map entry.Function fs) ≡ true
+distinct_all W [] h free = rw (append-nil W) h
+distinct_all W (f ∷ fs) h free =
+    let first = neither (has_name W f.name || is_among symbol_eq f.name (map (λ g. g.name) fs)) (are_taken W fs) free in
+    let here = neither (has_name W f.name) (is_among symbol_eq f.name (map (λ g. g.name) fs)) first.0 in
+    ap are_distinct (sym (append_assoc W (entry.Function f ∷ []) (map entry.Function fs)))
+    ∙ distinct_all (W ++ entry.Function f ∷ []) fs (distinct_more W (entry.Function f) h here.0) (free_after W f fs here.1 first.1)

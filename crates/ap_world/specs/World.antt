@@ -1,5 +1,6 @@
 -- What contracts see of a world, and what is looked up in it.
-use Rattle.std.specs.Prelude.{Bool, true, false, cond, ◌||◌, List, [], ◌∷◌, ◌++◌, Option, Some, None, is_some}
+use Rattle.std.specs.Prelude.{Bool, true, false, cond, ◌||◌, List, [], ◌∷◌, ◌++◌, map, Option, Some, None, is_some}
+use Rattle.ap_list.specs.Lists.{is_among}
 use Rattle.ap_value.specs.declared.symbol.Symbol.{Symbol}
 use Rattle.ap_value.specs.declared.value.Value.{Value}
 use Rattle.ap_value.specs.Values.{symbol_eq}
@@ -64,6 +65,15 @@ are_distinct (y ∷ ys) = cond (has_name ys (name_in y)) false (are_distinct ys)
 -- the world with one entry more at its end
 abbrev pub added : Shown → Entry → Shown
 added w y = record w { entries = w.entries ++ y ∷ [] }
+
+-- the world with functions more at its end, in their order
+abbrev pub added_all : Shown → List Function → Shown
+added_all w fs = record w { entries = w.entries ++ map entry.Function fs }
+
+-- one of the names is taken, or stands again further on
+abbrev pub are_taken : List Entry → List Function → Bool
+are_taken W [] = false
+are_taken W (f ∷ fs) = (has_name W f.name || is_among symbol_eq f.name (map (λ g. g.name) fs)) || are_taken W fs
 
 -- the entry that is lent
 abbrev pub lent_entry : EntryRef → Entry

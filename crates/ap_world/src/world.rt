@@ -1,4 +1,6 @@
 ghost use Rattle.std.specs.Prelude.{◌≡◌, [], ◌∷◌, ◌++◌, ◌↔◌, IsTrue, IsErrOf, IfOk, OnOk, OnErr, length, slice_get, map, true};
+ghost use Rattle.ap_list.specs.Lists.{is_among};
+ghost use Rattle.ap_value.specs.Values.{symbol_eq};
 ghost use Rattle.ap_world.specs.World.{are_distinct, name_in};
 ghost use Rattle.std.specs.Option.{option_copied};
 
@@ -8,7 +10,7 @@ use crate::primitive::primitive_of;
 use crate::theory::{Rune, Theory, copy_theory, is_disabled};
 use ap_list::{NoMemory, Seq};
 use ap_term::Term;
-use ap_value::{Symbol, Value, copy_symbol};
+use ap_value::{Symbol, Value, copy_symbol, same_symbol};
 use std::alloc::{AllocError, Global};
 use std::marker::Model;
 
@@ -62,7 +64,7 @@ impl World {
     ghost use Rattle.std.specs.Option.{option_map};
     ghost use Rattle.ap_world.specs.Meaning.{Valid};
     ghost use Rattle.ap_world.specs.Sound.{Sound, known};
-    ghost use Rattle.ap_world.specs.World.{entry_of, function_of, theorem_of, constant_of, has_name, name_in, added, lent_entry};
+    ghost use Rattle.ap_world.specs.World.{entry_of, function_of, theorem_of, constant_of, has_name, name_in, added, added_all, are_taken, lent_entry};
 
     /// The world of no entries, which disables nothing. Takes no memory.
     pub fn bare(alloc: Global) -> World
@@ -191,6 +193,58 @@ impl World {
         Ok(())
     }
 
+    /// Adds functions at the end, in their order: those that need each other come together. `NameTaken`
+    /// exactly where one of the names is in the world or stands twice in the list. The world then stays as
+    /// it was; so it does where memory is refused.
+    pub fn add_functions(&mut self, alloc: Global, list: Seq<Function>) -> Result<(), AddError>
+        requires sound { Sound (self.old.entries ++ map Entry.Function list) }
+        ensures ok { OnOk result (self.new ≡ added_all self.old list) }
+        ensures err { OnErr result (self.new ≡ self.old) }
+        ensures taken { IsErrOf result AddError.NameTaken ↔ IsTrue (are_taken self.old.entries list) }
+    {
+        if self.are_taken(list.as_slice()) {
+            return Err(AddError::NameTaken);
+        }
+        self.add_free(alloc, list)?;
+        Ok(())
+    }
+
+    /// Whether one of the names is taken, or stands twice in the list. Takes no memory.
+    fn are_taken(&self, list: &[Function]) -> bool
+        ensures { result ≡ are_taken self.now.entries list.now }
+    {
+        let mut left = list;
+        while let [first, rest @ ..] = left {
+            if self.has(&first.name) || is_named(&first.name, rest) {
+                return true;
+            }
+            left = rest;
+        }
+        false
+    }
+
+    /// Adds functions whose names are free and distinct at the end of the list.
+    fn add_free(&mut self, alloc: Global, list: Seq<Function>) -> Result<(), NoMemory>
+        requires sound { Sound (self.old.entries ++ map Entry.Function list) }
+        requires free { are_taken self.old.entries list ≡ false }
+        ensures ok { OnOk result (self.new ≡ added_all self.old list) }
+        ensures err { OnErr result (self.new ≡ self.old) }
+    {
+        let kept = self.entries.len();
+        let more = as_entries(alloc, list)?;
+        self.entries.append(more)?;
+        match names_of(alloc, self.entries.as_slice()) {
+            Ok(names) => {
+                self.names = names;
+                Ok(())
+            }
+            Err(error) => {
+                self.entries.truncate(kept);
+                Err(error)
+            }
+        }
+    }
+
     /// Adds a theorem at the end. `NameTaken` exactly where the name is in the world, which then stays as it
     /// was; so it does where memory is refused.
     pub fn add_theorem(
@@ -269,4 +323,36 @@ fn names_of(alloc: Global, entries: &[Entry]) -> Result<NameTable, NoMemory>
         names.add(copy_symbol(alloc, entry.name())?)?;
     }
     Ok(names)
+}
+
+/// The functions as entries.
+fn as_entries(alloc: Global, list: Seq<Function>) -> Result<Seq<Entry>, NoMemory>
+    ensures { IfOk result (λ entries. entries ≡ map Entry.Function list) }
+{
+    let mut entries = Seq::new(alloc);
+    for function in list.into_vec() {
+        entries.push(Entry::Function(function))?;
+    }
+    Ok(entries)
+}
+
+/// Whether a function of the list has this name.
+fn is_named(name: &Symbol, list: &[Function]) -> bool
+    ensures { result ≡ is_among symbol_eq name.now (map (λ f. f.name) list.now) }
+{
+    let mut left = list;
+    while let [first, rest @ ..] = left {
+        if is_same_name(name, &first.name) {
+            return true;
+        }
+        left = rest;
+    }
+    false
+}
+
+/// Whether two names are one, as the definitions test it.
+fn is_same_name(a: &Symbol, b: &Symbol) -> bool
+    ensures { result ≡ symbol_eq a.now b.now }
+{
+    same_symbol(a, b)
 }
