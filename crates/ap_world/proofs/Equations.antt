@@ -8,7 +8,7 @@ use Rattle.ap_value.specs.declared.value.Value.TheVariants.{Int, Chr, Str, Sym, 
 use Rattle.ap_value.specs.Values.{V, int, chr, str, cons, byte_of, val_step, val_of, value_eq}
 use Rattle.ap_value.proofs.Equals.{value_eq-true, value_eq-same}
 use Rattle.ap_term.specs.declared.term.Term.{Term, Call}
-use Rattle.ap_world.specs.Names.{nil_name, t_name, list_name, if_name, equal_name, consp_name, integerp_name, symbolp_name, stringp_name, characterp_name, cons_name, car_name, cdr_name, plus_name, times_name, minus_name, less_name, char_code_name, code_char_name, symbol_name_name, coerce_name, not_name, implies_name, natp_name, acl2_count_name}
+use Rattle.ap_world.specs.Names.{nil_name, t_name, list_name, if_name, equal_name, consp_name, integerp_name, symbolp_name, stringp_name, characterp_name, cons_name, car_name, cdr_name, plus_name, times_name, minus_name, less_name, char_code_name, code_char_name, symbol_name_name, coerce_name, not_name, implies_name, natp_name, acl2_count_name, iff_name, atom_name, endp_name, null_name, eq_name, eql_name, numeric_equal_name, acl2_numberp_name, rationalp_name, booleanp_name, fix_name, ifix_name, posp_name, nfix_name, zp_name, zip_name, zerop_name, plusp_name, minusp_name, max_name, min_name, abs_name, integer_abs_name, true_listp_name, len_name, length_name, append_name, member_equal_name, make_character_list_name, p_name, q_name, a_name, x_name, y_name, z_name, string_name}
 use Rattle.ap_world.specs.Primitives.{symbol_value, nil, t, truth, Prim, If, Equal, Consp, Integerp, Symbolp, Stringp, Characterp, Cons, Car, Cdr, Plus, Times, Minus, Less, CharCode, CodeChar, SymbolName, Coerce, primitives, prim_of, is_cons, is_integer, is_symbol, is_string, is_character, car_of, cdr_of, int_of, char_code_of, code_char_of, symbol_name_of, coerce_of}
 use Rattle.ap_world.specs.Meaning.{Env}
 use Rattle.ap_world.proofs.Knowing.{known_var, known_quote, known_call}
@@ -16,7 +16,7 @@ use Rattle.ap_world.proofs.TotalMeaning.{Apply, head_val, val, values_of, val_va
 
 -- a proof that computes with names lists this one on its `unfolding` line
 unfoldable pub names_open : ℕ
-unfolding prim_of primitives nil_name t_name list_name if_name equal_name consp_name integerp_name symbolp_name stringp_name characterp_name cons_name car_name cdr_name plus_name times_name minus_name less_name char_code_name code_char_name symbol_name_name coerce_name not_name implies_name natp_name acl2_count_name
+unfolding prim_of primitives nil_name t_name list_name if_name equal_name consp_name integerp_name symbolp_name stringp_name characterp_name cons_name car_name cdr_name plus_name times_name minus_name less_name char_code_name code_char_name symbol_name_name coerce_name not_name implies_name natp_name acl2_count_name iff_name atom_name endp_name null_name eq_name eql_name numeric_equal_name acl2_numberp_name rationalp_name booleanp_name fix_name ifix_name posp_name nfix_name zp_name zip_name zerop_name plusp_name minusp_name max_name min_name abs_name integer_abs_name true_listp_name len_name length_name append_name member_equal_name make_character_list_name p_name q_name a_name x_name y_name z_name string_name
 names_open = 0
 
 pub prim_of_if : prim_of if_name ≡ Some If

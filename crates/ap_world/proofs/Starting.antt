@@ -1,17 +1,16 @@
 -- The starting world, of `not` alone, is sound; and what `not` means.
-use Rattle.std.proofs.Common.{◌≡◌, zero, suc, Bool, true, false, cond, IfSome, pos, negsuc, [], ◌∷◌, Some, None, refl, ◌∙◌, sym, subst}
+use Rattle.std.proofs.Common.{◌≡◌, zero, suc, Bool, true, false, cond, pos, negsuc, [], ◌∷◌, Some, refl, ◌∙◌}
 use Rattle.std.specs.Int.{bit_at}
-use Rattle.ap_value.specs.declared.symbol.Symbol.{Symbol}
-use Rattle.ap_value.specs.Values.{V, int, chr, str, sym as symbol, cons, symbol_eq, value_eq}
+use Rattle.ap_value.specs.Values.{V, int, chr, str, sym as symbol, cons, value_eq}
 use Rattle.ap_term.specs.declared.term.Term.{Term}
-use Rattle.ap_world.specs.declared.entry.Function.{Function}
 use Rattle.ap_world.specs.declared.entry.Entry.TheVariants as entry
-use Rattle.ap_world.specs.Names.{not_name}
+use Rattle.ap_world.specs.Names.{not_name, p_name}
 use Rattle.ap_world.specs.Primitives.{nil, t, truth}
 use Rattle.ap_world.specs.Meaning.{Env, Defs}
 use Rattle.ap_world.specs.Types.{is_true_list, Has}
 use Rattle.ap_world.specs.Clauses.{not_of}
-use Rattle.ap_world.specs.Sound.{known, speaks_of, not_function, given_function, DefinedAlike, Sound}
+use Rattle.ap_world.specs.Sound.{known, speaks_of, not_function, Sound}
+use Rattle.ap_world.specs.Ground.{ground_functions}
 use Rattle.ap_world.specs.World.{function_of}
 use Rattle.ap_world.proofs.Written.{vars_var, vars_quote, vars_call}
 use Rattle.ap_world.proofs.TotalMeaning.{Apply, Models, val, apply_is}
@@ -42,17 +41,17 @@ unfolding not_function
 not_known D = simp knowing
 
 not_speaks : speaks_of not_function.formals not_function.body ≡ true
-unfolding not_function
+unfolding not_function p_name
 not_speaks = simp (vars_call, vars_var, vars_quote)
 
 pub starting_sound : Sound (entry.Function not_function ∷ [])
-unfolding not_function names_open
+unfolding not_function ground_functions names_open
 starting_sound = sound-define [] not_function sound-none refl refl not_speaks (not_known (function_of [])) refl refl
     (record { formals = refl; body = refl; measure = refl }) (λ vs v l h. has_all v)
 
 -- what `not` gives: t of nil, and nil of every other value
 pub not_is : (D : Defs) (A : Apply) → Models D A → D not_name ≡ Some not_function → (v : V) → A not_name (v ∷ []) ≡ truth (value_eq v nil)
-unfolding not_function
+unfolding not_function p_name
 not_is D A m here v = apply_is D A m not_name not_function (v ∷ []) here refl ∙ simp vals (go (value_eq v nil))
   where
     go : (b : Bool) → cond b t nil ≡ truth b
@@ -61,7 +60,3 @@ not_is D A m here v = apply_is D A m not_name not_function (v ∷ []) here refl 
 
 pub val_not : (D : Defs) (A : Apply) → Models D A → D not_name ≡ Some not_function → (a : Term) (e : Env) → val A (not_of a) e ≡ truth (value_eq (val A a e) nil)
 val_not D A m here a e = val_defined A not_name (a ∷ []) e prim_of_not ∙ not_is D A m here (val A a e)
-
--- a name other than not's has no given definition
-pub given_other : (f : Symbol) (g : Function) → symbol_eq f not_name ≡ false → IfSome (given_function f) (DefinedAlike g)
-given_other f g h = subst (λ b. IfSome (cond b (Some not_function) None) (DefinedAlike g)) (sym h) tt

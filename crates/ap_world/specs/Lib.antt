@@ -5,6 +5,7 @@ pub mod Meaning
 pub mod Types
 pub mod Clauses
 pub mod Recursion
+pub mod Ground
 pub mod Sound
 pub mod World
 pub mod Laws

@@ -79,3 +79,112 @@ natp_name = acl2 (codes "NATP")
 
 unfoldable pub acl2_count_name : Symbol
 acl2_count_name = acl2 (codes "ACL2-COUNT")
+
+unfoldable pub iff_name : Symbol
+iff_name = acl2 (codes "IFF")
+
+unfoldable pub atom_name : Symbol
+atom_name = acl2 (codes "ATOM")
+
+unfoldable pub endp_name : Symbol
+endp_name = acl2 (codes "ENDP")
+
+unfoldable pub null_name : Symbol
+null_name = acl2 (codes "NULL")
+
+unfoldable pub eq_name : Symbol
+eq_name = acl2 (codes "EQ")
+
+unfoldable pub eql_name : Symbol
+eql_name = acl2 (codes "EQL")
+
+unfoldable pub numeric_equal_name : Symbol
+numeric_equal_name = acl2 (codes "=")
+
+unfoldable pub acl2_numberp_name : Symbol
+acl2_numberp_name = acl2 (codes "ACL2-NUMBERP")
+
+unfoldable pub rationalp_name : Symbol
+rationalp_name = acl2 (codes "RATIONALP")
+
+unfoldable pub booleanp_name : Symbol
+booleanp_name = acl2 (codes "BOOLEANP")
+
+unfoldable pub fix_name : Symbol
+fix_name = acl2 (codes "FIX")
+
+unfoldable pub ifix_name : Symbol
+ifix_name = acl2 (codes "IFIX")
+
+unfoldable pub posp_name : Symbol
+posp_name = acl2 (codes "POSP")
+
+unfoldable pub nfix_name : Symbol
+nfix_name = acl2 (codes "NFIX")
+
+unfoldable pub zp_name : Symbol
+zp_name = acl2 (codes "ZP")
+
+unfoldable pub zip_name : Symbol
+zip_name = acl2 (codes "ZIP")
+
+unfoldable pub zerop_name : Symbol
+zerop_name = acl2 (codes "ZEROP")
+
+unfoldable pub plusp_name : Symbol
+plusp_name = acl2 (codes "PLUSP")
+
+unfoldable pub minusp_name : Symbol
+minusp_name = acl2 (codes "MINUSP")
+
+unfoldable pub max_name : Symbol
+max_name = acl2 (codes "MAX")
+
+unfoldable pub min_name : Symbol
+min_name = acl2 (codes "MIN")
+
+unfoldable pub abs_name : Symbol
+abs_name = acl2 (codes "ABS")
+
+unfoldable pub integer_abs_name : Symbol
+integer_abs_name = acl2 (codes "INTEGER-ABS")
+
+unfoldable pub true_listp_name : Symbol
+true_listp_name = acl2 (codes "TRUE-LISTP")
+
+unfoldable pub len_name : Symbol
+len_name = acl2 (codes "LEN")
+
+unfoldable pub length_name : Symbol
+length_name = acl2 (codes "LENGTH")
+
+unfoldable pub append_name : Symbol
+append_name = acl2 (codes "BINARY-APPEND")
+
+unfoldable pub member_equal_name : Symbol
+member_equal_name = acl2 (codes "MEMBER-EQUAL")
+
+unfoldable pub make_character_list_name : Symbol
+make_character_list_name = acl2 (codes "MAKE-CHARACTER-LIST")
+
+-- their formals
+unfoldable pub p_name : Symbol
+p_name = acl2 (codes "P")
+
+unfoldable pub q_name : Symbol
+q_name = acl2 (codes "Q")
+
+unfoldable pub a_name : Symbol
+a_name = acl2 (codes "A")
+
+unfoldable pub x_name : Symbol
+x_name = acl2 (codes "X")
+
+unfoldable pub y_name : Symbol
+y_name = acl2 (codes "Y")
+
+unfoldable pub z_name : Symbol
+z_name = acl2 (codes "Z")
+
+unfoldable pub string_name : Symbol
+string_name = acl2 (codes "STRING")

@@ -1,9 +1,9 @@
 -- When a list of entries is sound. This is what a certified book promises, and it speaks of meanings alone.
-use Rattle.std.specs.Prelude.{◌≡◌, ℕ, nat_eq, Bool, true, false, cond, ◌&&◌, IsTrue, IfSome, List, [], ◌∷◌, map, length, Option, Some, None}
+use Rattle.std.specs.Prelude.{◌≡◌, ℕ, nat_eq, Bool, true, false, ◌&&◌, IsTrue, IfSome, List, [], ◌∷◌, map, length, Option, Some, None}
 use Rattle.ap_list.specs.Lists.{Each, all_true, is_distinct, is_within}
 use Rattle.ap_value.specs.declared.symbol.Symbol.{Symbol}
-use Rattle.ap_value.specs.Values.{V, acl2, symbol_eq}
-use Rattle.ap_term.specs.declared.term.Term.{Term, fold-Term, Var, Call}
+use Rattle.ap_value.specs.Values.{V, symbol_eq}
+use Rattle.ap_term.specs.declared.term.Term.{Term, fold-Term}
 use Rattle.ap_term.specs.declared.term.Term.TheOpen.{Term-F}
 use Rattle.ap_term.specs.Terms.{vars_after}
 use Rattle.ap_world.specs.declared.entry.Measure.{Measure}
@@ -11,13 +11,13 @@ use Rattle.ap_world.specs.declared.entry.Function.{Function}
 use Rattle.ap_world.specs.declared.entry.Theorem.{Theorem}
 use Rattle.ap_world.specs.declared.entry.Entry.{Entry}
 use Rattle.ap_world.specs.declared.entry.Entry.TheVariants as entry
-use Rattle.ap_world.specs.Names.{if_name, not_name}
 use Rattle.ap_world.specs.Primitives.{Prim, prim_of, prim_arity}
 use Rattle.ap_world.specs.Meaning.{Defs, Total, Valid, CallValue}
 use Rattle.ap_world.specs.Types.{Has}
-use Rattle.ap_world.specs.Recursion.{has_no_call, cases_of, is_unnested, natural_obligations, falling_obligations, nil_constant, t_constant}
+use Rattle.ap_world.specs.Recursion.{has_no_call, cases_of, is_unnested, natural_obligations, falling_obligations}
 use Rattle.ap_world.specs.World.{function_of}
-use Rattle.std.specs.Prelude.{codes}
+unfoldable pub use Rattle.ap_world.specs.Ground.{not_function}
+use Rattle.ap_world.specs.Ground.{ground_functions, named_in}
 
 -- a call of a primitive or of a function, with its number of arguments
 abbrev pub takes : Option Function → ℕ → Bool
@@ -46,19 +46,9 @@ components (Some m) = m.0
 abbrev pub speaks_of : List Symbol → Term → Bool
 speaks_of formals u = is_within symbol_eq (vars_after u []) formals
 
--- the functions whose definitions are given: for now `not` alone, (not p) being (if p nil t)
-unfoldable pub not_function : Function
-not_function = record {
-  name = not_name;
-  formals = acl2 (codes "P") ∷ [];
-  body = Call if_name (Var (acl2 (codes "P")) ∷ nil_constant ∷ t_constant ∷ []);
-  measure = None;
-  cases = [];
-  mask = record { 0 = 1023 };
-}
-
+-- the functions whose definitions are given: those of the ground world
 abbrev pub given_function : Symbol → Option Function
-given_function f = cond (symbol_eq f not_name) (Some not_function) None
+given_function = named_in ground_functions
 
 -- two functions are defined alike, whatever their masks
 pub record DefinedAlike (f g : Function) : Type 0 where

@@ -169,7 +169,7 @@ fn an_entry_is_copied(rt: HostRuntime) -> Result<(), Fail> {
 }
 
 /// The definition of `not`: `(if p nil t)`, of the formal `p`.
-#[tactic(auto, unfolding(crate::specs::Sound::not_function, crate::specs::Names::not_name, crate::specs::Names::if_name, crate::specs::Names::nil_name, crate::specs::Names::t_name))]
+#[tactic(auto, unfolding(crate::specs::Ground::not_function, crate::specs::Names::p_name, crate::specs::Names::not_name, crate::specs::Names::if_name, crate::specs::Names::nil_name, crate::specs::Names::t_name))]
 fn not_function(alloc: Global) -> Result<Function, NoMemory>
     ensures { IfOk result (λ f. f ≡ not_function) }
 {
