@@ -24,7 +24,7 @@ use Rattle.ap_ground.proofs.Meanings.{ground_heads}
 use Rattle.ap_ground.proofs.Totality.{G, ground_total}
 use Rattle.ap_ground.proofs.There.{has_not, has_implies, has_iff, has_atom, has_endp, has_null, has_eq, has_eql, has_numeric_equal, has_acl2_numberp, has_rationalp, has_booleanp, has_fix, has_ifix, has_natp, has_posp, has_nfix, has_zp, has_zip, has_zerop, has_plusp, has_minusp, has_max, has_min, has_abs, has_integer_abs, has_true_listp, has_len, has_length, has_acl2_count, has_append, has_member_equal, has_make_character_list}
 use Rattle.ap_ground.proofs.Obligations.{natural, true_listp_falls, len_falls, acl2_count_falls, append_falls, member_equal_falls, make_character_list_falls}
-use Rattle.ap_ground.proofs.Rules.{rules_good}
+use Rattle.ap_ground.proofs.Axioms.{rules_good}
 
 -- a list of functions defines what its names stand for
 listed : (fs : List Function) (f : Symbol) → function_of (map entry.Function fs) f ≡ named_in fs f
@@ -44,7 +44,6 @@ any_value : (f : Symbol) (n : ℕ) (vs : List V) (v : V) → n ≡ length vs →
 any_value f n vs v l h = has_all v
 
 module _ (A : Apply) (m : Models G A) where
-
   not_good : GoodFunction G not_function
   unfolding not_function names_open
   not_good = record {

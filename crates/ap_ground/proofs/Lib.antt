@@ -1,8 +1,10 @@
+pub mod Axioms
+pub mod Begun
 pub mod Good
+pub mod Made
 pub mod Meanings
 pub mod Meant
 pub mod Obligations
-pub mod Rules
 pub mod There
 pub mod Totality
 pub mod Valued

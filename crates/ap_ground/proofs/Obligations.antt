@@ -41,7 +41,7 @@ below_rest m n = go (int_lt (pos n) (pos (suc (m + n)))) refl
     go false h = absurd (omega (arith, ints, h))
 
 -- the cases of each body
-true_listp_cases : true_listp_function.cases ≡ record { tests = one consp_name x ∷ []; calls = (one cdr_name x ∷ []) ∷ [] } ∷ record { tests = one not_name (one consp_name x) ∷ []; calls = [] } ∷ []
+pub true_listp_cases : true_listp_function.cases ≡ record { tests = one consp_name x ∷ []; calls = (one cdr_name x ∷ []) ∷ [] } ∷ record { tests = one not_name (one consp_name x) ∷ []; calls = [] } ∷ []
 unfolding true_listp_function names_open
 true_listp_cases = simp recursion
 
@@ -56,19 +56,19 @@ parts_differ = differs (one cdr_name x) (one car_name x) (λ e. apart (sym (out_
     apart : Term-F.Call cdr_name (x ∷ []) ≡ Term-F.Call car_name (x ∷ []) → ⊥
     apart e = let same : cdr_name ≡ car_name = cc in true≢false (sym (symbol_eq-same cdr_name) ∙ ap (symbol_eq cdr_name) same)
 
-acl2_count_cases : acl2_count_function.cases ≡ record { tests = one consp_name x ∷ []; calls = (one car_name x ∷ []) ∷ (one cdr_name x ∷ []) ∷ [] } ∷ record { tests = one not_name (one consp_name x) ∷ []; calls = [] } ∷ []
+pub acl2_count_cases : acl2_count_function.cases ≡ record { tests = one consp_name x ∷ []; calls = (one car_name x ∷ []) ∷ (one cdr_name x ∷ []) ∷ [] } ∷ record { tests = one not_name (one consp_name x) ∷ []; calls = [] } ∷ []
 unfolding acl2_count_function names_open
 acl2_count_cases = simp (recursion, parts_differ)
 
-append_cases : append_function.cases ≡ record { tests = one endp_name x ∷ []; calls = [] } ∷ record { tests = one not_name (one endp_name x) ∷ []; calls = (one cdr_name x ∷ y ∷ []) ∷ [] } ∷ []
+pub append_cases : append_function.cases ≡ record { tests = one endp_name x ∷ []; calls = [] } ∷ record { tests = one not_name (one endp_name x) ∷ []; calls = (one cdr_name x ∷ y ∷ []) ∷ [] } ∷ []
 unfolding append_function names_open
 append_cases = simp recursion
 
-member_equal_cases : member_equal_function.cases ≡ record { tests = one endp_name x ∷ []; calls = [] } ∷ record { tests = one not_name (one endp_name x) ∷ two equal_name a (one car_name x) ∷ []; calls = [] } ∷ record { tests = one not_name (one endp_name x) ∷ one not_name (two equal_name a (one car_name x)) ∷ []; calls = (a ∷ one cdr_name x ∷ []) ∷ [] } ∷ []
+pub member_equal_cases : member_equal_function.cases ≡ record { tests = one endp_name x ∷ []; calls = [] } ∷ record { tests = one not_name (one endp_name x) ∷ two equal_name a (one car_name x) ∷ []; calls = [] } ∷ record { tests = one not_name (one endp_name x) ∷ one not_name (two equal_name a (one car_name x)) ∷ []; calls = (a ∷ one cdr_name x ∷ []) ∷ [] } ∷ []
 unfolding member_equal_function names_open
 member_equal_cases = simp recursion
 
-make_character_list_cases : make_character_list_function.cases ≡ record { tests = one endp_name x ∷ []; calls = [] } ∷ record { tests = one not_name (one endp_name x) ∷ []; calls = (one cdr_name x ∷ []) ∷ [] } ∷ []
+pub make_character_list_cases : make_character_list_function.cases ≡ record { tests = one endp_name x ∷ []; calls = [] } ∷ record { tests = one not_name (one endp_name x) ∷ []; calls = (one cdr_name x ∷ []) ∷ [] } ∷ []
 unfolding make_character_list_function names_open
 make_character_list_cases = simp recursion
 
@@ -83,8 +83,11 @@ falls_to part = two less_name (one acl2_count_name (one part x)) (one acl2_count
 module _ (A : Apply) (m : Models G A) where
   pub natural : Each (Valid G) (natural_obligations measure)
   unfolding natp_function acl2_count_function
-  natural = (valid_of G A m (natp_of (count_of x_name) ∷ []) (simp (there, knowing, ground_heads))
-      (λ e. inl (simp (vals, val_natp A m, val_count A m, count_val A m, natp_val A m) t_isnt_nil)), tt)
+  natural = (
+    valid_of G A m (natp_of (count_of x_name) ∷ []) (simp (there, knowing, ground_heads))
+        (λ e. inl (simp (vals, val_natp A m, val_count A m, count_val A m, natp_val A m) t_isnt_nil)),
+    tt,
+  )
 
   -- a cons counts more than its parts
   falls_car : (e : Env) (u w : V) → value_at e x_name ≡ cons u w → val A (falls_to car_name) e ≢ nil

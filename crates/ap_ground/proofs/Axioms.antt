@@ -31,9 +31,18 @@ distribute : (a b c : ℤ) → a *ℤ (b +ℤ c) ≡ a *ℤ b +ℤ a *ℤ c
 distribute a b c = omega (arith, ints, ap (λ n. up a * n) (sum_is_lem b c), ap (λ n. down a * n) (sum_is_lem b c))
 
 times_assoc : (a b c : ℤ) → (a *ℤ b) *ℤ c ≡ a *ℤ (b *ℤ c)
-times_assoc a b c = omega (arith, ints,
-    ap (λ n. up c * n) (product_is a b).0, ap (λ n. up c * n) (product_is a b).1, ap (λ n. down c * n) (product_is a b).0, ap (λ n. down c * n) (product_is a b).1,
-    ap (λ n. up a * n) (product_is b c).0, ap (λ n. up a * n) (product_is b c).1, ap (λ n. down a * n) (product_is b c).0, ap (λ n. down a * n) (product_is b c).1)
+times_assoc a b c = omega (
+  arith,
+  ints,
+  ap (λ n. up c * n) (product_is a b).0,
+  ap (λ n. up c * n) (product_is a b).1,
+  ap (λ n. down c * n) (product_is a b).0,
+  ap (λ n. down c * n) (product_is a b).1,
+  ap (λ n. up a * n) (product_is b c).0,
+  ap (λ n. up a * n) (product_is b c).1,
+  ap (λ n. down a * n) (product_is b c).0,
+  ap (λ n. down a * n) (product_is b c).1,
+)
 
 pub times_swap : (a b c : ℤ) → a *ℤ (b *ℤ c) ≡ b *ℤ (a *ℤ c)
 times_swap a b c = sym (times_assoc a b c) ∙ ap (λ n. n *ℤ c) (*ℤ_comm a b) ∙ times_assoc b a c
