@@ -2,6 +2,7 @@ use crate::certifier::certify;
 use crate::report::Status;
 use ap_list::{Bytes, Seq};
 use ap_outside::{MemoryLibrary, MemorySink};
+use std::alloc::Global;
 use std::process::Abort;
 use std::test::Fail;
 
@@ -25,7 +26,7 @@ const REFL: &[u8] = b"(in-package \"ACL2\")\n(defthm refl (equal x x) :rule-clas
 const CERTIFIED: &[u8] =
     b"Book refl\nDEFTHM REFL\nGoal simplify 0\nDEFTHM REFL proved\nBook refl certified\n";
 
-const ROWS: [Row; 15] = [
+const ROWS: [Row; 19] = [
     Row {
         words: &["refl"],
         book: Some(REFL),
@@ -41,18 +42,18 @@ const ROWS: [Row; 15] = [
         text: b"Book gone\nAbsent\nBook gone not certified\n",
     },
     Row {
-        words: &["not_yet"],
+        words: &["plain"],
         book: Some(b"(in-package \"ACL2\") (defun f (x) x)"),
         failing: NONE,
         status: Status::NotCertified,
-        text: b"Book not_yet\nNot yet\nBook not_yet not certified\n",
+        text: b"Book plain\nDEFUN refused 1 NotSupported\nBook plain not certified\n",
     },
     Row {
         words: &["case"],
         book: Some(b"(IN-package \"ACL2\")(DefThm same nil:Rule-Classes NIL)"),
         failing: NONE,
         status: Status::NotCertified,
-        text: b"Book case\nNot yet\nBook case not certified\n",
+        text: b"Book case\nRead error 12 BadPackage at 32\nBook case not certified\n",
     },
     Row {
         words: &["case"],
@@ -87,6 +88,36 @@ const ROWS: [Row; 15] = [
         failing: NONE,
         status: Status::NotCertified,
         text: b"Book taken\nDEFTHM NOT\nDEFTHM NOT refused 3 NameTaken\nBook taken not certified\n",
+    },
+    Row {
+        words: &["e"],
+        book: Some(b""),
+        failing: NONE,
+        status: Status::NotCertified,
+        text: b"Book e\nIN-PACKAGE refused 12 NoInPackage\nBook e not certified\n",
+    },
+    Row {
+        words: &["first"],
+        book: Some(b"(defthm refl (equal x x) :rule-classes nil)\n(in-package \"ACL2\")\n"),
+        failing: NONE,
+        status: Status::NotCertified,
+        text: b"Book first\nIN-PACKAGE refused 12 NoInPackage\nBook first not certified\n",
+    },
+    Row {
+        words: &["string"],
+        book: Some(b"(in-package ACL2)"),
+        failing: NONE,
+        status: Status::NotCertified,
+        text: b"Book string\nIN-PACKAGE refused 12 NoInPackage\nBook string not certified\n",
+    },
+    Row {
+        words: &["whole"],
+        book: Some(
+            b"(in-package \"ACL2\")\n(defthm refl (equal x x) :rule-classes nil)\n(defthm a (equal x",
+        ),
+        failing: NONE,
+        status: Status::NotCertified,
+        text: b"Book whole\nRead error 6 OpenList at 74\nBook whole not certified\n",
     },
     Row {
         words: &[],
@@ -140,12 +171,7 @@ const ROWS: [Row; 15] = [
 ];
 
 /// Certifies a row's book in memory, and asserts what is seen.
-fn shows(
-    rt: &impl Abort,
-    alloc: std::alloc::Global,
-    row: &Row,
-    book: Option<&[u8]>,
-) -> Result<(), Fail> {
+fn shows(rt: &impl Abort, alloc: Global, row: &Row, book: Option<&[u8]>) -> Result<(), Fail> {
     let mut words = Vec::new(alloc);
     let mut files = Seq::new(alloc);
     for word in row.words {
@@ -166,6 +192,24 @@ fn shows(
     Ok(())
 }
 
+/// Certifies a book in memory, and asserts what is printed.
+fn prints(rt: &impl Abort, alloc: Global, book: &[u8], text: &[u8]) -> Result<(), Fail> {
+    let mut words = Vec::new(alloc);
+    words.push(String::from_str(alloc, "b")?)?;
+    let mut files = Seq::new(alloc);
+    files.push((
+        Bytes::from_slice(alloc, b"b.lisp")?,
+        Bytes::from_slice(alloc, book)?,
+    ))?;
+    let mut library = MemoryLibrary::new(files, Seq::new(alloc));
+    let mut sink = MemorySink::new(alloc, Seq::new(alloc));
+    let report = certify(alloc, words.as_slice(), &mut library, &mut sink);
+    assert_eq!(rt; sink.content(), text);
+    let certified = text.ends_with(b" certified\n") && !text.ends_with(b"not certified\n");
+    assert_eq!(rt; report.status == Status::Certified, certified);
+    Ok(())
+}
+
 #[test]
 fn the_session_prints_its_text_and_each_fault_has_its_cause(rt: HostRuntime) -> Result<(), Fail> {
     for row in &ROWS {
@@ -174,8 +218,229 @@ fn the_session_prints_its_text_and_each_fault_has_its_cause(rt: HostRuntime) -> 
     Ok(())
 }
 
+/// What stands after a book's first line, and the text between the book's first and last lines.
+const BODIES: [(&[u8], &[u8]); 49] = [
+    // each fault of reading, by its number, its name and its place
+    (b"\"ab", b"Read error 1 OpenString at 20\n"),
+    (b"#| x", b"Read error 2 OpenComment at 20\n"),
+    (b" |ab", b"Read error 3 OpenBar at 21\n"),
+    (b"#y", b"Read error 4 BadHash at 20\n"),
+    (b"#\\Spac", b"Read error 5 BadCharName at 20\n"),
+    (b"(a (b)", b"Read error 6 OpenList at 20\n"),
+    (b"a)", b"Read error 7 StrayClose at 21\n"),
+    (b"1.", b"Read error 8 NotInteger at 20\n"),
+    (
+        b"(defthm w (equal x 170141183460469231731687303715884105728))",
+        b"Read error 9 IntegerTooWide at 39\n",
+    ),
+    (b"(. a)", b"Read error 11 BadDot at 21\n"),
+    (b"x:y", b"Read error 12 BadPackage at 20\n"),
+    // an event that isn't built, by its head
+    (b"3", b"FORM refused 1 NotSupported\n"),
+    (b"()", b"FORM refused 1 NotSupported\n"),
+    (b"'x", b"FORM refused 1 NotSupported\n"),
+    (b"((f) x)", b"FORM refused 1 NotSupported\n"),
+    (b"(3 . x)", b"FORM refused 1 NotSupported\n"),
+    (
+        b"(in-package \"ACL2\")",
+        b"IN-PACKAGE refused 1 NotSupported\n",
+    ),
+    (
+        b"(defthmd a (equal x x) :rule-classes nil)",
+        b"DEFTHMD refused 1 NotSupported\n",
+    ),
+    (b"(local . 3)", b"LOCAL refused 1 NotSupported\n"),
+    (b"(|a b|)", b"|a b| refused 1 NotSupported\n"),
+    (b"(:key)", b":KEY refused 1 NotSupported\n"),
+    // a theorem's event of another shape
+    (b"(defthm)", b"DEFTHM refused 2 BadEvent\n"),
+    (b"(defthm a)", b"DEFTHM refused 2 BadEvent\n"),
+    (b"(defthm a x . y)", b"DEFTHM refused 2 BadEvent\n"),
+    (b"(defthm 3 (equal x x))", b"DEFTHM refused 2 BadEvent\n"),
+    (b"(defthm nil (equal x x))", b"DEFTHM refused 2 BadEvent\n"),
+    (b"(defthm :a (equal x x))", b"DEFTHM refused 2 BadEvent\n"),
+    (b"(defthm *a* (equal x x))", b"DEFTHM refused 2 BadEvent\n"),
+    (b"(defthm let* (equal x x))", b"DEFTHM refused 2 BadEvent\n"),
+    (
+        b"(defthm second (equal x x))",
+        b"DEFTHM refused 2 BadEvent\n",
+    ),
+    (b"(defthm 1- (equal x x))", b"DEFTHM refused 2 BadEvent\n"),
+    (
+        b"(defthm cdddar (equal x x))",
+        b"DEFTHM refused 2 BadEvent\n",
+    ),
+    (b"(defthm a x nil)", b"DEFTHM refused 2 BadEvent\n"),
+    (
+        b"(defthm a x :rule-classes)",
+        b"DEFTHM refused 2 BadEvent\n",
+    ),
+    (b"(defthm a x :otf-flg t)", b"DEFTHM refused 2 BadEvent\n"),
+    (
+        b"(defthm a x :rule-classes nil :rule-classes nil)",
+        b"DEFTHM refused 2 BadEvent\n",
+    ),
+    (
+        b"(defthm a x :rule-classes rewrite)",
+        b"DEFTHM refused 2 BadEvent\n",
+    ),
+    (
+        b"(defthm a x :hints nil :rule-classes (:rewrite :elim))",
+        b"DEFTHM refused 2 BadEvent\n",
+    ),
+    // what isn't built of a theorem's event
+    (
+        b"(defthm a (equal x x))",
+        b"DEFTHM refused 1 NotSupported\n",
+    ),
+    (
+        b"(defthm a (equal x x) :rule-classes :linear)",
+        b"DEFTHM refused 1 NotSupported\n",
+    ),
+    (
+        b"(defthm a (equal x x) :rule-classes (:rewrite :type-prescription))",
+        b"DEFTHM refused 1 NotSupported\n",
+    ),
+    (
+        b"(defthm a (equal x x) :hints nil :rule-classes nil)",
+        b"DEFTHM refused 1 NotSupported\n",
+    ),
+    (
+        b"(defthm if (equal x (f x)) :rule-classes nil)",
+        b"DEFTHM refused 1 NotSupported\n",
+    ),
+    (
+        b"(defthm a (equal x x x) :rule-classes nil)",
+        b"DEFTHM refused 1 NotSupported\n",
+    ),
+    (
+        b"(defthm a (equal *c* *c*) :rule-classes nil)",
+        b"DEFTHM refused 1 NotSupported\n",
+    ),
+    (
+        b"(defthm a (equal `x `x) :rule-classes nil)",
+        b"DEFTHM refused 1 NotSupported\n",
+    ),
+    (
+        b"(defthm a (equal '(a ,b) '(a ,b)) :rule-classes nil)",
+        b"DEFTHM refused 1 NotSupported\n",
+    ),
+    (
+        b"(defthm a (if x y z) :rule-classes nil)",
+        b"DEFTHM refused 1 NotSupported\n",
+    ),
+    // names of primitives are taken
+    (
+        b"(defthm if (equal x x) :rule-classes nil)",
+        b"DEFTHM IF\nDEFTHM IF refused 3 NameTaken\n",
+    ),
+];
+
+#[test]
+fn each_fault_and_refusal_is_printed(rt: HostRuntime) -> Result<(), Fail> {
+    let alloc = rt.alloc();
+    for (rest, body) in BODIES {
+        let mut book = Vec::from_slice(alloc, b"(in-package \"ACL2\")\n")?;
+        book.extend_from_slice(rest)?;
+        let mut text = Vec::from_slice(alloc, b"Book b\n")?;
+        text.extend_from_slice(body)?;
+        text.extend_from_slice(b"Book b not certified\n")?;
+        prints(&rt, alloc, book.as_slice(), text.as_slice())?;
+    }
+    Ok(())
+}
+
+/// The equations that are proved with their two sides the same, each named in its own way.
+const PROVED: &[u8] = b"(in-package \"ACL2\") ; a comment
+(defthm a (equal 3 '#b11) :rule-classes nil)
+(defthm |a b| (equal (quote a) 'a) :rule-classes ())
+(defthm ** (equal \"s\" '\"s\") :rule-classes nil)
+#| another |# (defthm caddddr (equal () 'nil) :rule-classes nil)
+(defthm let (equal x x))";
+
+const PROVED_TEXT: &[u8] = b"Book b
+DEFTHM A
+Goal simplify 0
+DEFTHM A proved
+DEFTHM |a b|
+Goal simplify 0
+DEFTHM |a b| proved
+DEFTHM **
+Goal simplify 0
+DEFTHM ** proved
+DEFTHM CADDDDR
+Goal simplify 0
+DEFTHM CADDDDR proved
+DEFTHM refused 2 BadEvent
+Book b not certified
+";
+
+#[test]
+fn constants_are_read_in_each_of_their_forms(rt: HostRuntime) -> Result<(), Fail> {
+    prints(&rt, rt.alloc(), PROVED, PROVED_TEXT)
+}
+
+/// So many of a byte between two texts.
+fn between(
+    alloc: Global,
+    before: &[u8],
+    byte: u8,
+    count: usize,
+    after: &[u8],
+) -> Result<Vec<u8>, Fail> {
+    let mut out = Vec::from_slice(alloc, before)?;
+    for _ in 0..count {
+        out.push(byte)?;
+    }
+    out.extend_from_slice(after)?;
+    Ok(out)
+}
+
+#[test]
+fn four_hundred_lists_may_stand_within_each_other(rt: HostRuntime) -> Result<(), Fail> {
+    let alloc = rt.alloc();
+    let first = b"(in-package \"ACL2\")\n";
+    let deep = between(alloc, first, b'(', 401, b"")?;
+    let text = b"Book b\nRead error 10 TooDeep at 420\nBook b not certified\n";
+    prints(&rt, alloc, deep.as_slice(), text)?;
+    let open = between(alloc, first, b'(', 400, b"")?;
+    let text = b"Book b\nRead error 6 OpenList at 419\nBook b not certified\n";
+    prints(&rt, alloc, open.as_slice(), text)
+}
+
+/// A theorem on two strings of the same length.
+fn strings(alloc: Global, count: usize) -> Result<Vec<u8>, Fail> {
+    let first = b"(in-package \"ACL2\")\n(defthm a (equal \"";
+    let half = between(alloc, first, b'a', count, b"\" \"")?;
+    between(
+        alloc,
+        half.as_slice(),
+        b'a',
+        count,
+        b"\") :rule-classes nil)",
+    )
+}
+
+#[test]
+fn a_term_of_more_than_4096_nodes_is_not_supported(rt: HostRuntime) -> Result<(), Fail> {
+    let alloc = rt.alloc();
+    let least = strings(alloc, 2046)?;
+    let text = b"Book b\nDEFTHM A\nGoal simplify 0\nDEFTHM A proved\nBook b certified\n";
+    prints(&rt, alloc, least.as_slice(), text)?;
+    let refused = b"Book b\nDEFTHM refused 1 NotSupported\nBook b not certified\n";
+    let large = strings(alloc, 2047)?;
+    prints(&rt, alloc, large.as_slice(), refused)?;
+    let first = b"(in-package \"ACL2\")\n(defthm a (equal x '(";
+    let mut list = Vec::from_slice(alloc, first)?;
+    for _ in 0..100_000 {
+        list.extend_from_slice(b"a ")?;
+    }
+    list.extend_from_slice(b")) :rule-classes nil)")?;
+    prints(&rt, alloc, list.as_slice(), refused)
+}
+
 /// So many blanks.
-fn blanks(alloc: std::alloc::Global, count: usize) -> Result<Vec<u8>, Fail> {
+fn blanks(alloc: Global, count: usize) -> Result<Vec<u8>, Fail> {
     let mut out = Vec::new(alloc);
     for _ in 0..count {
         out.push(32)?;
