@@ -26,7 +26,7 @@ const REFL: &[u8] = b"(in-package \"ACL2\")\n(defthm refl (equal x x) :rule-clas
 const CERTIFIED: &[u8] =
     b"Book refl\nDEFTHM REFL\nGoal simplify 0\nDEFTHM REFL proved\nBook refl certified\n";
 
-const ROWS: [Row; 19] = [
+const ROWS: [Row; 16] = [
     Row {
         words: &["refl"],
         book: Some(REFL),
@@ -95,29 +95,6 @@ const ROWS: [Row; 19] = [
         failing: NONE,
         status: Status::NotCertified,
         text: b"Book e\nIN-PACKAGE refused 12 NoInPackage\nBook e not certified\n",
-    },
-    Row {
-        words: &["first"],
-        book: Some(b"(defthm refl (equal x x) :rule-classes nil)\n(in-package \"ACL2\")\n"),
-        failing: NONE,
-        status: Status::NotCertified,
-        text: b"Book first\nIN-PACKAGE refused 12 NoInPackage\nBook first not certified\n",
-    },
-    Row {
-        words: &["string"],
-        book: Some(b"(in-package ACL2)"),
-        failing: NONE,
-        status: Status::NotCertified,
-        text: b"Book string\nIN-PACKAGE refused 12 NoInPackage\nBook string not certified\n",
-    },
-    Row {
-        words: &["whole"],
-        book: Some(
-            b"(in-package \"ACL2\")\n(defthm refl (equal x x) :rule-classes nil)\n(defthm a (equal x",
-        ),
-        failing: NONE,
-        status: Status::NotCertified,
-        text: b"Book whole\nRead error 6 OpenList at 74\nBook whole not certified\n",
     },
     Row {
         words: &[],
@@ -218,136 +195,83 @@ fn the_session_prints_its_text_and_each_fault_has_its_cause(rt: HostRuntime) -> 
     Ok(())
 }
 
-/// What stands after a book's first line, and the text between the book's first and last lines.
-const BODIES: [(&[u8], &[u8]); 49] = [
-    // each fault of reading, by its number, its name and its place
-    (b"\"ab", b"Read error 1 OpenString at 20\n"),
-    (b"#| x", b"Read error 2 OpenComment at 20\n"),
-    (b" |ab", b"Read error 3 OpenBar at 21\n"),
-    (b"#y", b"Read error 4 BadHash at 20\n"),
-    (b"#\\Spac", b"Read error 5 BadCharName at 20\n"),
-    (b"(a (b)", b"Read error 6 OpenList at 20\n"),
-    (b"a)", b"Read error 7 StrayClose at 21\n"),
-    (b"1.", b"Read error 8 NotInteger at 20\n"),
-    (
-        b"(defthm w (equal x 170141183460469231731687303715884105728))",
-        b"Read error 9 IntegerTooWide at 39\n",
-    ),
-    (b"(. a)", b"Read error 11 BadDot at 21\n"),
-    (b"x:y", b"Read error 12 BadPackage at 20\n"),
-    // an event that isn't built, by its head
-    (b"3", b"FORM refused 1 NotSupported\n"),
-    (b"()", b"FORM refused 1 NotSupported\n"),
-    (b"'x", b"FORM refused 1 NotSupported\n"),
-    (b"((f) x)", b"FORM refused 1 NotSupported\n"),
-    (b"(3 . x)", b"FORM refused 1 NotSupported\n"),
-    (
-        b"(in-package \"ACL2\")",
-        b"IN-PACKAGE refused 1 NotSupported\n",
-    ),
-    (
-        b"(defthmd a (equal x x) :rule-classes nil)",
-        b"DEFTHMD refused 1 NotSupported\n",
-    ),
-    (b"(local . 3)", b"LOCAL refused 1 NotSupported\n"),
-    (b"(|a b|)", b"|a b| refused 1 NotSupported\n"),
-    (b"(:key)", b":KEY refused 1 NotSupported\n"),
-    // a theorem's event of another shape
-    (b"(defthm)", b"DEFTHM refused 2 BadEvent\n"),
-    (b"(defthm a)", b"DEFTHM refused 2 BadEvent\n"),
-    (b"(defthm a x . y)", b"DEFTHM refused 2 BadEvent\n"),
-    (b"(defthm 3 (equal x x))", b"DEFTHM refused 2 BadEvent\n"),
-    (b"(defthm nil (equal x x))", b"DEFTHM refused 2 BadEvent\n"),
-    (b"(defthm :a (equal x x))", b"DEFTHM refused 2 BadEvent\n"),
-    (b"(defthm *a* (equal x x))", b"DEFTHM refused 2 BadEvent\n"),
-    (b"(defthm let* (equal x x))", b"DEFTHM refused 2 BadEvent\n"),
-    (
-        b"(defthm second (equal x x))",
-        b"DEFTHM refused 2 BadEvent\n",
-    ),
-    (b"(defthm 1- (equal x x))", b"DEFTHM refused 2 BadEvent\n"),
-    (
-        b"(defthm cdddar (equal x x))",
-        b"DEFTHM refused 2 BadEvent\n",
-    ),
-    (b"(defthm a x nil)", b"DEFTHM refused 2 BadEvent\n"),
-    (
-        b"(defthm a x :rule-classes)",
-        b"DEFTHM refused 2 BadEvent\n",
-    ),
-    (b"(defthm a x :otf-flg t)", b"DEFTHM refused 2 BadEvent\n"),
-    (
-        b"(defthm a x :rule-classes nil :rule-classes nil)",
-        b"DEFTHM refused 2 BadEvent\n",
-    ),
-    (
-        b"(defthm a x :rule-classes rewrite)",
-        b"DEFTHM refused 2 BadEvent\n",
-    ),
-    (
-        b"(defthm a x :hints nil :rule-classes (:rewrite :elim))",
-        b"DEFTHM refused 2 BadEvent\n",
-    ),
-    // what isn't built of a theorem's event
-    (
-        b"(defthm a (equal x x))",
-        b"DEFTHM refused 1 NotSupported\n",
-    ),
-    (
-        b"(defthm a (equal x x) :rule-classes :linear)",
-        b"DEFTHM refused 1 NotSupported\n",
-    ),
-    (
-        b"(defthm a (equal x x) :rule-classes (:rewrite :type-prescription))",
-        b"DEFTHM refused 1 NotSupported\n",
-    ),
-    (
-        b"(defthm a (equal x x) :hints nil :rule-classes nil)",
-        b"DEFTHM refused 1 NotSupported\n",
-    ),
-    (
-        b"(defthm if (equal x (f x)) :rule-classes nil)",
-        b"DEFTHM refused 1 NotSupported\n",
-    ),
-    (
-        b"(defthm a (equal x x x) :rule-classes nil)",
-        b"DEFTHM refused 1 NotSupported\n",
-    ),
-    (
-        b"(defthm a (equal *c* *c*) :rule-classes nil)",
-        b"DEFTHM refused 1 NotSupported\n",
-    ),
-    (
-        b"(defthm a (equal `x `x) :rule-classes nil)",
-        b"DEFTHM refused 1 NotSupported\n",
-    ),
-    (
-        b"(defthm a (equal '(a ,b) '(a ,b)) :rule-classes nil)",
-        b"DEFTHM refused 1 NotSupported\n",
-    ),
-    (
-        b"(defthm a (if x y z) :rule-classes nil)",
-        b"DEFTHM refused 1 NotSupported\n",
-    ),
-    // names of primitives are taken
-    (
-        b"(defthm if (equal x x) :rule-classes nil)",
-        b"DEFTHM IF\nDEFTHM IF refused 3 NameTaken\n",
-    ),
-];
+/// Each fault of reading, and each refusal: what stands after a book's first line, and the line that it prints.
+const REFUSED: &str = r##""ab => Read error 1 OpenString at 20
+#| x => Read error 2 OpenComment at 20
+ |ab => Read error 3 OpenBar at 21
+#y => Read error 4 BadHash at 20
+#\Spac => Read error 5 BadCharName at 20
+(a (b) => Read error 6 OpenList at 20
+a) => Read error 7 StrayClose at 21
+1. => Read error 8 NotInteger at 20
+(defthm w (equal x 170141183460469231731687303715884105728)) => Read error 9 IntegerTooWide at 39
+(. a) => Read error 11 BadDot at 21
+x:y => Read error 12 BadPackage at 20
+3 => FORM refused 1 NotSupported
+() => FORM refused 1 NotSupported
+'x => FORM refused 1 NotSupported
+((f) x) => FORM refused 1 NotSupported
+(3 . x) => FORM refused 1 NotSupported
+(in-package "ACL2") => IN-PACKAGE refused 1 NotSupported
+(defthmd a (equal x x) :rule-classes nil) => DEFTHMD refused 1 NotSupported
+(local . 3) => LOCAL refused 1 NotSupported
+(|a b|) => |a b| refused 1 NotSupported
+(:key) => :KEY refused 1 NotSupported
+(defthm) => DEFTHM refused 2 BadEvent
+(defthm a) => DEFTHM refused 2 BadEvent
+(defthm a x . y) => DEFTHM refused 2 BadEvent
+(defthm 3 (equal x x)) => DEFTHM refused 2 BadEvent
+(defthm nil (equal x x)) => DEFTHM refused 2 BadEvent
+(defthm :a (equal x x)) => DEFTHM refused 2 BadEvent
+(defthm *a* (equal x x)) => DEFTHM refused 2 BadEvent
+(defthm let* (equal x x)) => DEFTHM refused 2 BadEvent
+(defthm second (equal x x)) => DEFTHM refused 2 BadEvent
+(defthm 1- (equal x x)) => DEFTHM refused 2 BadEvent
+(defthm cdddar (equal x x)) => DEFTHM refused 2 BadEvent
+(defthm a x nil) => DEFTHM refused 2 BadEvent
+(defthm a x :rule-classes) => DEFTHM refused 2 BadEvent
+(defthm a x :otf-flg t) => DEFTHM refused 2 BadEvent
+(defthm a x :rule-classes nil :rule-classes nil) => DEFTHM refused 2 BadEvent
+(defthm a x :rule-classes rewrite) => DEFTHM refused 2 BadEvent
+(defthm a x :hints nil :rule-classes (:rewrite :elim)) => DEFTHM refused 2 BadEvent
+(defthm a (equal x x)) => DEFTHM refused 1 NotSupported
+(defthm a (equal x x) :rule-classes :linear) => DEFTHM refused 1 NotSupported
+(defthm a (equal x x) :rule-classes (:rewrite :type-prescription)) => DEFTHM refused 1 NotSupported
+(defthm a (equal x x) :hints nil :rule-classes nil) => DEFTHM refused 1 NotSupported
+(defthm if (equal x (f x)) :rule-classes nil) => DEFTHM refused 1 NotSupported
+(defthm a (equal x x x) :rule-classes nil) => DEFTHM refused 1 NotSupported
+(defthm a (equal *c* *c*) :rule-classes nil) => DEFTHM refused 1 NotSupported
+(defthm a (equal `x `x) :rule-classes nil) => DEFTHM refused 1 NotSupported
+(defthm a (equal '(a ,b) '(a ,b)) :rule-classes nil) => DEFTHM refused 1 NotSupported
+(defthm a (if x y z) :rule-classes nil) => DEFTHM refused 1 NotSupported"##;
 
 #[test]
 fn each_fault_and_refusal_is_printed(rt: HostRuntime) -> Result<(), Fail> {
     let alloc = rt.alloc();
-    for (rest, body) in BODIES {
-        let mut book = Vec::from_slice(alloc, b"(in-package \"ACL2\")\n")?;
-        book.extend_from_slice(rest)?;
-        let mut text = Vec::from_slice(alloc, b"Book b\n")?;
-        text.extend_from_slice(body)?;
-        text.extend_from_slice(b"Book b not certified\n")?;
-        prints(&rt, alloc, book.as_slice(), text.as_slice())?;
+    let mut count = 0u32;
+    for line in REFUSED.lines() {
+        if let Some((form, body)) = line.split_once(" => ") {
+            count = count.saturating_add(1);
+            let book = format!(in alloc; "(in-package \"ACL2\")\n{form}")?;
+            let text = format!(in alloc; "Book b\n{body}\nBook b not certified\n")?;
+            prints(&rt, alloc, book.as_bytes(), text.as_bytes())?;
+        }
     }
+    assert_eq!(rt; count, 48);
     Ok(())
+}
+
+#[test]
+fn a_book_begins_with_its_package_and_is_read_whole(rt: HostRuntime) -> Result<(), Fail> {
+    let alloc = rt.alloc();
+    let none = b"Book b\nIN-PACKAGE refused 12 NoInPackage\nBook b not certified\n";
+    let late = b"(defthm refl (equal x x) :rule-classes nil)\n(in-package \"ACL2\")\n";
+    prints(&rt, alloc, late, none)?;
+    prints(&rt, alloc, b"(in-package ACL2)", none)?;
+    let open =
+        b"(in-package \"ACL2\")\n(defthm refl (equal x x) :rule-classes nil)\n(defthm a (equal x";
+    let text = b"Book b\nRead error 6 OpenList at 74\nBook b not certified\n";
+    prints(&rt, alloc, open, text)
 }
 
 /// The equations that are proved with their two sides the same, each named in its own way.
@@ -356,7 +280,7 @@ const PROVED: &[u8] = b"(in-package \"ACL2\") ; a comment
 (defthm |a b| (equal (quote a) 'a) :rule-classes ())
 (defthm ** (equal \"s\" '\"s\") :rule-classes nil)
 #| another |# (defthm caddddr (equal () 'nil) :rule-classes nil)
-(defthm let (equal x x))";
+(defthm if (equal x x) :rule-classes nil)";
 
 const PROVED_TEXT: &[u8] = b"Book b
 DEFTHM A
@@ -371,7 +295,8 @@ DEFTHM ** proved
 DEFTHM CADDDDR
 Goal simplify 0
 DEFTHM CADDDDR proved
-DEFTHM refused 2 BadEvent
+DEFTHM IF
+DEFTHM IF refused 3 NameTaken
 Book b not certified
 ";
 
