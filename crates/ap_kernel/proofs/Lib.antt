@@ -5,3 +5,6 @@ pub mod Parts
 pub mod Assumed
 pub mod CallsStand
 pub mod Typed
+pub mod EquationsStand
+pub mod ChoicesStand
+pub mod SameTerms

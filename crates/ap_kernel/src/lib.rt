@@ -28,7 +28,9 @@
 
 mod assuming;
 mod calls;
+mod choices;
 mod constants;
+mod equations;
 mod facts;
 mod objects;
 mod plain;
@@ -42,6 +44,8 @@ pub use ap_value::{Symbol, Value};
 pub use ap_world::{Mask, World};
 pub use assuming::{assume, assumed_facts_hold};
 pub use calls::{branch, cong};
+pub use choices::{bare_test, if_shape, is_choice};
+pub use equations::{cons_equal, equation_leads};
 pub use facts::by_fact;
 pub use objects::{Ctx, Equiv, Mode};
 pub use plain::{refl, trans, weaken_mode};
@@ -50,3 +54,5 @@ pub use types::{TypeOracle, by_type};
 
 #[cfg(test)]
 mod tests;
+#[cfg(test)]
+mod written;
