@@ -1,5 +1,5 @@
 -- An `if`, and what it leads to.
-use Rattle.std.proofs.Common.{◌≡◌, ◌≢◌, ◌+◌, ◌<◌, ℕ, zero, suc, pos, negsuc, Bool, true, false, cond, not, ◌&&◌, List, [], ◌∷◌, map, nat_eq, refl, ap, sym, ◌∙◌, subst, eqb-true, arith, Bor}
+use Rattle.std.proofs.Common.{◌≡◌, ◌<◌, zero, suc, pos, negsuc, Bool, true, false, cond, not, ◌&&◌, List, [], ◌∷◌, map, refl, ap, sym, ◌∙◌, subst, eqb-true, Bor}
 use Rattle.std.specs.Int.{bit_at}
 use Rattle.std.specs.Int.Bits.{bit_and}
 use Rattle.ap_list.specs.Lists.{Each}
@@ -22,7 +22,7 @@ use Rattle.ap_world.specs.Types.{is_true_list, type_of, Has}
 use Rattle.ap_world.specs.Sound.{known, is_head, not_function}
 use Rattle.ap_world.proofs.Knowing.{known_by, known_args, each_true, true_each}
 use Rattle.ap_world.proofs.TotalMeaning.{Apply, Models, models, val, val_is, val_quote}
-use Rattle.ap_world.proofs.Equations.{val_if, nil-eq, eq-not_nil, t-not_nil, t_isnt_nil, prim_of_not, names_open}
+use Rattle.ap_world.proofs.Equations.{val_if, nil-eq, eq-not_nil, t-not_nil, t_isnt_nil, prim_of_not}
 use Rattle.ap_world.proofs.Starting.{val_not}
 use Rattle.ap_kernel.specs.declared.shapes.Head.{Head}
 use Rattle.ap_kernel.specs.declared.shapes.Head.TheVariants as head
@@ -32,15 +32,14 @@ use Rattle.ap_kernel.specs.declared.objects.Ctx.{Ctx}
 use Rattle.ap_kernel.specs.declared.objects.Mode.{Mode}
 use Rattle.ap_kernel.specs.declared.objects.Mode.TheVariants.{Equal, Iff}
 use Rattle.ap_kernel.specs.Standing.{HasGround, KnownFacts, FactsHold, Same, Stands}
-use Rattle.ap_kernel.specs.Shapes.{Shape, constant, choice, negation, equation, pair, other, head_of, call_shape, shape_of, seen, constant_says, is_constant}
+use Rattle.ap_kernel.specs.Shapes.{Shape, constant, choice, negation, other, head_of, call_shape, shape_of, seen, constant_says, is_constant}
 use Rattle.ap_kernel.specs.Masks.{MaskHolds}
 use Rattle.ap_kernel.specs.Assume.{parts}
 use Rattle.ap_kernel.specs.Answers.{if_of}
-use Rattle.ap_kernel.specs.Choices.{bare_by, bare_step, bare, test_by, bare_test, means_t, is_t_constant, is_truth, by_branches, by_test, if_shape, by_constant, choice_leads, is_choice, choice_made}
+use Rattle.ap_kernel.specs.Choices.{bare_by, bare_step, bare, test_by, bare_test, means_t, is_t_constant, is_truth, by_branches, if_shape, by_constant, choice_leads, is_choice, choice_made}
 use Rattle.ap_kernel.proofs.Standing.{same_of, stand}
 use Rattle.ap_kernel.proofs.Shaped.{Says, shape_says}
 use Rattle.ap_kernel.proofs.Parts.{parts_smaller}
-use Rattle.ap_kernel.proofs.Assumed.{constant_signed}
 use Rattle.ap_kernel.proofs.Typed.{apart}
 use Rattle.ap_kernel.proofs.CallsStand.{known_if}
 

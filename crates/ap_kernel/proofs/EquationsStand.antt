@@ -1,6 +1,6 @@
 -- Equations that lead on, to what they lead.
-use Rattle.std.proofs.Common.{◌≡◌, Bool, true, false, cond, ◌&&◌, true≢false, List, [], ◌∷◌, Option, Some, None, refl, ap, sym, ◌∙◌, subst}
-use Rattle.ap_list.specs.Lists.{Each, lookup_by}
+use Rattle.std.proofs.Common.{◌≡◌, Bool, true, false, cond, ◌&&◌, true≢false, [], ◌∷◌, Option, Some, None, refl, ap, sym, ◌∙◌, subst}
+use Rattle.ap_list.specs.Lists.{lookup_by}
 use Rattle.ap_value.specs.declared.value.Value.{Value, roll-Value, out-Value, fold-roll-Value, roll-out-Value}
 use Rattle.ap_value.specs.declared.value.Value.TheOpen.{Value-F}
 use Rattle.ap_value.specs.Values.{V, cons, val_step, val_of, value_eq}
@@ -8,7 +8,7 @@ use Rattle.ap_value.proofs.Equals.{value_eq-true, value_eq-same}
 use Rattle.ap_term.specs.declared.term.Term.{Term, Quote}
 use Rattle.ap_term.specs.Equal.{term_eq}
 use Rattle.ap_term.proofs.Equals.{term_eq-true}
-use Rattle.ap_world.specs.Names.{nil_name, t_name, equal_name, cons_name}
+use Rattle.ap_world.specs.Names.{equal_name, cons_name}
 use Rattle.ap_world.specs.Primitives.{nil, t, truth}
 use Rattle.ap_world.specs.Meaning.{Env, Defs, Total, FactHolds}
 use Rattle.ap_world.specs.Sound.{known}
@@ -17,10 +17,8 @@ use Rattle.ap_world.proofs.Knowing.{known_by, known_quote, known_args, each_true
 use Rattle.ap_world.proofs.TotalMeaning.{Apply, Models, models, val, val_quote}
 use Rattle.ap_world.proofs.Equations.{val_if, val_equal, val_cons, val_of_nil, val_of_t, t-not_nil, t_isnt_nil, prim_of_equal}
 use Rattle.ap_kernel.specs.declared.objects.Ctx.{Ctx}
-use Rattle.ap_kernel.specs.declared.objects.Mode.TheVariants.{Equal}
 use Rattle.ap_kernel.specs.Standing.{Facts, KnownFacts, FactsHold, Stands}
 use Rattle.ap_kernel.specs.Shapes.{Shape, constant, equation, pair, shape_of}
-use Rattle.ap_kernel.specs.Answers.{if_of}
 use Rattle.ap_kernel.specs.Equations.{equal_of, truth_constant, constant_parts, parts_by, cons_parts, apart, both_apart, by_sign, sides_lead, shape_leads, equation_leads, equation_made}
 use Rattle.ap_kernel.proofs.Standing.{stand}
 use Rattle.ap_kernel.proofs.Shaped.{Says, shape_says}

@@ -8,3 +8,4 @@ pub mod Typed
 pub mod EquationsStand
 pub mod ChoicesStand
 pub mod SameTerms
+pub mod TestWorld

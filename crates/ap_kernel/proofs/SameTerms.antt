@@ -1,5 +1,5 @@
 -- Whether two terms are one, as a test, and whether a term is an equation of two terms.
-use Rattle.std.proofs.Common.{◌≡◌, ◌↔◌, IsTrue, Bool, true, false, ◌&&◌, true≢false, List, [], ◌∷◌, refl, ap, sym, ◌∙◌, subst, Bor}
+use Rattle.std.proofs.Common.{◌≡◌, ◌↔◌, IsTrue, Bool, true, false, ◌&&◌, true≢false, [], ◌∷◌, refl, ap, sym, ◌∙◌, subst, Bor}
 use Rattle.ap_value.proofs.Equals.{both, and_true}
 use Rattle.ap_term.specs.declared.term.Term.{Term}
 use Rattle.ap_term.specs.Equal.{term_eq}

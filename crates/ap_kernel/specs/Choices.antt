@@ -1,5 +1,5 @@
 -- Where an `if` leads: to the branch that a constant test chooses, or to its simplest shape.
-use Rattle.std.specs.Prelude.{Bool, true, false, cond, not, ◌&&◌, ◌||◌, nat_eq, bit_and}
+use Rattle.std.specs.Prelude.{Bool, true, false, cond, not, ◌&&◌, nat_eq, bit_and}
 use Rattle.ap_value.specs.Values.{val_of, value_eq}
 use Rattle.ap_term.specs.declared.term.Term.{Term, para-Term}
 use Rattle.ap_term.specs.declared.term.Term.TheOpen.{Term-F}

@@ -1,5 +1,5 @@
 -- Where an equation leads: by its sides, by a fact on the equation turned round, or part by part.
-use Rattle.std.specs.Prelude.{Bool, true, false, cond, List, [], ◌∷◌, Option, Some, None}
+use Rattle.std.specs.Prelude.{Bool, true, false, cond, [], ◌∷◌, Option, Some, None}
 use Rattle.ap_list.specs.Lists.{lookup_by}
 use Rattle.ap_value.specs.declared.value.Value.{Value, out-Value}
 use Rattle.ap_value.specs.declared.value.Value.TheOpen.{Value-F}

@@ -58,8 +58,8 @@ fn call(alloc: Global, mut level: Seq<Term>) -> Result<Term, NoMemory> {
     }
 }
 
-/// The term that is written, as in Lisp.
-pub(crate) fn term(alloc: Global, text: &[u8]) -> Result<Term, NoMemory> {
+/// The terms that are written, as in Lisp.
+pub(crate) fn terms(alloc: Global, text: &[u8]) -> Result<Seq<Term>, NoMemory> {
     let mut outer: Seq<Seq<Term>> = Seq::new(alloc);
     let mut level = Seq::new(alloc);
     let mut begun = Bytes::new(alloc);
@@ -80,7 +80,13 @@ pub(crate) fn term(alloc: Global, text: &[u8]) -> Result<Term, NoMemory> {
         }
     }
     end_word(alloc, &mut level, &mut begun)?;
-    level.pop().ok_or(AllocError)
+    Ok(level)
+}
+
+/// The last term that is written.
+pub(crate) fn term(alloc: Global, text: &[u8]) -> Result<Term, NoMemory> {
+    let mut terms = terms(alloc, text)?;
+    terms.pop().ok_or(AllocError)
 }
 
 /// The definition of `not`: `(if p nil t)`, of the formal `p`.

@@ -11,7 +11,7 @@ loop-a-preserved c =
     let e = bare_not c.loop-a.rest.now c.in-Not.a.now h in
     record {
       term = sym (ap (λ (p : Term × Bool). p.0) e) ∙ c.loop-a.invariant.term;
-      odd = turn_once c.loop-a.odd (bare c.in-Not.a.now).1 ∙ sym (ap (λ (p : Term × Bool). cond c.loop-a.odd (not p.1) p.1) e) ∙ c.loop-a.invariant.odd
+      odd = turn_once c.loop-a.odd (bare c.in-Not.a.now).1 ∙ sym (ap (λ (p : Term × Bool). cond c.loop-a.odd (not p.1) p.1) e) ∙ c.loop-a.invariant.odd;
     }
 
 pub returns : goal.returns
@@ -19,5 +19,5 @@ returns c =
     let e = bare_alone c.loop-a.rest.now c.shape_of.result c.shape_of.ensures c.in_default.not-Not in
     record {
       term = sym (ap (λ (p : Term × Bool). p.0) e) ∙ c.loop-a.invariant.term;
-      odd = even c.loop-a.odd ∙ sym (ap (λ (p : Term × Bool). cond c.loop-a.odd (not p.1) p.1) e) ∙ c.loop-a.invariant.odd
+      odd = even c.loop-a.odd ∙ sym (ap (λ (p : Term × Bool). cond c.loop-a.odd (not p.1) p.1) e) ∙ c.loop-a.invariant.odd;
     }

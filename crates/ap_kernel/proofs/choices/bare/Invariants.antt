@@ -6,7 +6,7 @@ use Rattle.ap_kernel.proofs.choices.bare.Given as goal
 abbrev pub invariant-loop-a : goal.invariant-loop-a
 invariant-loop-a l = record {
   term : (bare l.rest).0 ≡ (bare l.fn.t).0;
-  odd : cond l.odd (not (bare l.rest).1) (bare l.rest).1 ≡ (bare l.fn.t).1
+  odd : cond l.odd (not (bare l.rest).1) (bare l.rest).1 ≡ (bare l.fn.t).1;
 }
 
 abbrev pub decreases-loop-a : goal.decreases-loop-a
