@@ -1,5 +1,7 @@
-ghost use Rattle.std.specs.Prelude.{◌≡◌, IfOk};
+ghost use Rattle.std.specs.Prelude.{◌≡◌, IfOk, [], ◌∷◌};
 ghost use Rattle.ap_value.specs.Values.{acl2};
+ghost use Rattle.ap_term.specs.declared.term.Term.TheVariants.{Quote, Call};
+ghost use Rattle.ap_world.specs.Names.{if_name};
 ghost use Rattle.ap_world.specs.Sound.{not_function};
 
 use crate::{Env, EvalStop, eval, is_known};
@@ -7,7 +9,7 @@ use ap_list::{Boxed, Bytes, NoMemory, Seq};
 use ap_term::{Term, same_term};
 use ap_value::{Symbol, Value, same};
 use ap_world::{Function, Mask, World};
-use std::alloc::Global;
+use std::alloc::{AllocError, Global};
 use std::test::Fail;
 
 /// The symbol of package `ACL2` with a name.
@@ -21,21 +23,48 @@ fn symbol(alloc: Global, name: &[u8]) -> Result<Symbol, NoMemory>
     })
 }
 
-/// The definition of `not`: `(if p nil t)`, of the formal `p`.
-#[tactic(auto, unfolding(ap_world::specs::Sound::not_function, ap_world::specs::Names::not_name, ap_world::specs::Names::if_name, ap_world::specs::Names::nil_name, ap_world::specs::Names::t_name))]
+/// A constant symbol.
+fn constant(alloc: Global, name: &[u8]) -> Result<Term, NoMemory>
+    ensures { IfOk result (λ t. t ≡ Quote (Value.Sym (acl2 name.now))) }
+{
+    Ok(Term::Quote(Value::Sym(symbol(alloc, name)?)))
+}
+
+/// `(if a b c)`.
+#[tactic(auto, unfolding(ap_world::specs::Names::if_name))]
+fn choice(alloc: Global, a: Term, b: Term, c: Term) -> Result<Term, NoMemory>
+    ensures { IfOk result (λ t. t ≡ Call if_name (a ∷ b ∷ c ∷ [])) }
+{
+    let mut parts = Seq::new(alloc);
+    parts.push(a)?;
+    parts.push(b)?;
+    parts.push(c)?;
+    Ok(Term::Call(symbol(alloc, b"IF")?, parts))
+}
+
+/// `(if p nil t)`.
+#[tactic(auto, unfolding(ap_world::specs::Sound::not_function, ap_world::specs::Names::nil_name, ap_world::specs::Names::t_name))]
+fn not_body(alloc: Global) -> Result<Term, NoMemory>
+    ensures { IfOk result (λ t. t ≡ not_function.body) }
+{
+    let test = Term::Var(symbol(alloc, b"P")?);
+    let yes = constant(alloc, b"NIL")?;
+    let no = constant(alloc, b"T")?;
+    choice(alloc, test, yes, no)
+}
+
+/// The definition of `not`.
+#[tactic(auto, unfolding(ap_world::specs::Sound::not_function, ap_world::specs::Names::not_name))]
 fn not_function(alloc: Global) -> Result<Function, NoMemory>
     ensures { IfOk result (λ f. f ≡ not_function) }
 {
+    let body = not_body(alloc)?;
     let mut formals = Seq::new(alloc);
     formals.push(symbol(alloc, b"P")?)?;
-    let mut parts = Seq::new(alloc);
-    parts.push(Term::Var(symbol(alloc, b"P")?))?;
-    parts.push(Term::Quote(Value::Sym(symbol(alloc, b"NIL")?)))?;
-    parts.push(Term::Quote(Value::Sym(symbol(alloc, b"T")?)))?;
     Ok(Function {
         name: symbol(alloc, b"NOT")?,
         formals,
-        body: Term::Call(symbol(alloc, b"IF")?, parts),
+        body,
         measure: None,
         cases: Seq::new(alloc),
         mask: Mask(1023),
@@ -43,11 +72,13 @@ fn not_function(alloc: Global) -> Result<Function, NoMemory>
 }
 
 /// The world of `not` alone.
-fn world_of_not(alloc: Global) -> Result<World, Fail> {
+fn world_of_not(alloc: Global) -> Result<World, NoMemory> {
     let mut world = World::bare(alloc);
     let function = not_function(alloc)?;
-    world.add_function(alloc, function)?;
-    Ok(world)
+    match world.add_function(alloc, function) {
+        Ok(()) => Ok(world),
+        Err(_) => Err(AllocError),
+    }
 }
 
 /// An argument, or an answer.
@@ -79,25 +110,8 @@ const M: i128 = i128::MAX;
 
 const LEAST: i128 = i128::MIN;
 
-const ROWS: [Row; 61] = [
-    Row(
-        b"IF",
-        &[Datum::Sym(b"NIL"), Datum::Wide, Datum::Int(7)],
-        3,
-        Datum::Int(7),
-    ),
-    Row(
-        b"IF",
-        &[Datum::Sym(b"A"), Datum::Int(7), Datum::Wide],
-        3,
-        Datum::Int(7),
-    ),
-    Row(
-        b"IF",
-        &[Datum::Int(7), Datum::Sym(b"B"), Datum::Int(7)],
-        2,
-        Datum::Spent,
-    ),
+/// Tests, and the parts of conses.
+const CONSES: [Row; 17] = [
     Row(
         b"EQUAL",
         &[Datum::Chars(b"ab", b"NIL"), Datum::Chars(b"ab", b"NIL")],
@@ -128,10 +142,12 @@ const ROWS: [Row; 61] = [
     ),
     Row(b"CAR", &[Datum::Pair(1, 2)], 100, Datum::Int(1)),
     Row(b"CAR", &[Datum::Int(3)], 100, Datum::Sym(b"NIL")),
-    Row(b"CAR", &[Datum::Int(3)], 2, Datum::Sym(b"NIL")),
-    Row(b"CAR", &[Datum::Int(3)], 1, Datum::Spent),
     Row(b"CDR", &[Datum::Pair(1, 2)], 100, Datum::Int(2)),
     Row(b"CDR", &[Datum::Str(b"ab")], 100, Datum::Sym(b"NIL")),
+];
+
+/// Arithmetic, in 128 bits.
+const NUMBERS: [Row; 14] = [
     Row(
         b"BINARY-+",
         &[Datum::Int(2), Datum::Int(-3)],
@@ -202,6 +218,10 @@ const ROWS: [Row; 61] = [
         100,
         Datum::Sym(b"T"),
     ),
+];
+
+/// Characters, symbols and strings.
+const TEXTS: [Row; 14] = [
     Row(b"CHAR-CODE", &[Datum::Chr(97)], 100, Datum::Int(97)),
     Row(b"CHAR-CODE", &[Datum::Int(97)], 100, Datum::Int(0)),
     Row(b"CODE-CHAR", &[Datum::Int(255)], 100, Datum::Chr(255)),
@@ -251,6 +271,30 @@ const ROWS: [Row; 61] = [
         100,
         Datum::Sym(b"NIL"),
     ),
+];
+
+/// Units, variables, choices, a defined function, and values that are too large.
+const STOPS: [Row; 16] = [
+    Row(
+        b"IF",
+        &[Datum::Sym(b"NIL"), Datum::Wide, Datum::Int(7)],
+        3,
+        Datum::Int(7),
+    ),
+    Row(
+        b"IF",
+        &[Datum::Sym(b"A"), Datum::Int(7), Datum::Wide],
+        3,
+        Datum::Int(7),
+    ),
+    Row(
+        b"IF",
+        &[Datum::Int(7), Datum::Sym(b"B"), Datum::Int(7)],
+        2,
+        Datum::Spent,
+    ),
+    Row(b"CAR", &[Datum::Int(3)], 2, Datum::Sym(b"NIL")),
+    Row(b"CAR", &[Datum::Int(3)], 1, Datum::Spent),
     Row(b"NOT", &[Datum::Sym(b"NIL")], 5, Datum::Sym(b"T")),
     Row(b"NOT", &[Datum::Sym(b"NIL")], 4, Datum::Spent),
     Row(b"NOT", &[Datum::Int(3)], 100, Datum::Sym(b"NIL")),
@@ -356,38 +400,87 @@ fn are_written(alloc: Global, values: &[Value], data: &[Datum]) -> Result<bool, 
     Ok(values.len() == data.len())
 }
 
-/// What the evaluator answers in the world of `not`, where `X` is 5.
-fn answer(alloc: Global, t: &Term, units: u32) -> Result<Result<Value, EvalStop>, Fail> {
-    let w = world_of_not(alloc)?;
+/// The assignment of 5 to `X`.
+fn five_at_x(alloc: Global) -> Result<Env, NoMemory> {
     let mut pairs = Seq::new(alloc);
     pairs.push((symbol(alloc, b"X")?, Value::Int(5)))?;
-    let env = Env(pairs);
-    if !is_known(&w, t) {
-        return Ok(Err(EvalStop::NoMemory));
-    }
-    Ok(eval(alloc, &w, t, &env, units))
+    Ok(Env(pairs))
 }
 
-/// Whether a row's call is answered as the row says.
-fn holds(alloc: Global, row: &Row) -> Result<bool, Fail> {
-    let t = call(alloc, row)?;
-    match answer(alloc, &t, row.2)? {
-        Ok(v) => is_written(alloc, &v, row.3),
-        Err(EvalStop::Wide { call, values }) => {
-            let is_here = matches!(row.3, Datum::Wide) && same_term(&call, &t);
-            Ok(is_here && are_written(alloc, values.as_slice(), row.1)?)
-        }
-        Err(EvalStop::Spent) => Ok(matches!(row.3, Datum::Spent)),
-        Err(EvalStop::Large) => Ok(matches!(row.3, Datum::Large)),
-        Err(EvalStop::NoMemory) => Ok(false),
+/// What the evaluator answers in the world of `not`, where `X` is 5, if the term is known.
+fn answer(alloc: Global, t: &Term, units: u32) -> Result<Value, EvalStop> {
+    let w = world_of_not(alloc)?;
+    let env = five_at_x(alloc)?;
+    if is_known(&w, t) {
+        eval(alloc, &w, t, &env, units)
+    } else {
+        Err(EvalStop::NoMemory)
     }
+}
+
+/// Whether running stopped so: an integer left 128 bits at this call of these arguments, or else.
+fn is_stop(
+    alloc: Global,
+    stop: &EvalStop,
+    wanted: Datum,
+    t: &Term,
+    arguments: &[Datum],
+) -> Result<bool, Fail> {
+    match (stop, wanted) {
+        (EvalStop::Wide { call, values }, Datum::Wide) => {
+            Ok(same_term(call, t) && are_written(alloc, values.as_slice(), arguments)?)
+        }
+        (EvalStop::Spent, Datum::Spent) | (EvalStop::Large, Datum::Large) => Ok(true),
+        _ => Ok(false),
+    }
+}
+
+/// Whether a call of these arguments is answered so.
+fn is_answered(
+    alloc: Global,
+    t: &Term,
+    arguments: &[Datum],
+    units: u32,
+    wanted: Datum,
+) -> Result<bool, Fail> {
+    match answer(alloc, t, units) {
+        Ok(v) => is_written(alloc, &v, wanted),
+        Err(stop) => is_stop(alloc, &stop, wanted, t, arguments),
+    }
+}
+
+/// The number of the first row whose call is answered otherwise than the row says.
+fn first_wrong(alloc: Global, rows: &[Row]) -> Result<Option<usize>, Fail> {
+    for (i, row) in rows.iter().enumerate() {
+        let t = call(alloc, row)?;
+        if !is_answered(alloc, &t, row.1, row.2, row.3)? {
+            return Ok(Some(i));
+        }
+    }
+    Ok(None)
 }
 
 #[test]
-fn calls_are_answered_as_the_table_says(rt: HostRuntime) -> Result<(), Fail> {
-    for (i, row) in ROWS.iter().enumerate() {
-        assert!(rt; holds(rt.alloc(), row)?, "row {i}");
-    }
+fn tests_and_conses_have_their_values(rt: HostRuntime) -> Result<(), Fail> {
+    assert_eq!(rt; first_wrong(rt.alloc(), &CONSES)?, None);
+    Ok(())
+}
+
+#[test]
+fn numbers_are_exact_or_wide(rt: HostRuntime) -> Result<(), Fail> {
+    assert_eq!(rt; first_wrong(rt.alloc(), &NUMBERS)?, None);
+    Ok(())
+}
+
+#[test]
+fn characters_and_strings_have_their_values(rt: HostRuntime) -> Result<(), Fail> {
+    assert_eq!(rt; first_wrong(rt.alloc(), &TEXTS)?, None);
+    Ok(())
+}
+
+#[test]
+fn units_are_spent_and_values_are_no_larger(rt: HostRuntime) -> Result<(), Fail> {
+    assert_eq!(rt; first_wrong(rt.alloc(), &STOPS)?, None);
     Ok(())
 }
 
@@ -402,10 +495,15 @@ fn nested(alloc: Global, calls: u32) -> Result<Term, Fail> {
     Ok(term)
 }
 
+/// Whether two thousand nested calls are answered so.
+fn is_deep_answer(alloc: Global, units: u32, wanted: Datum) -> Result<bool, Fail> {
+    let term = nested(alloc, 2000)?;
+    is_answered(alloc, &term, &[], units, wanted)
+}
+
 #[test]
 fn two_thousand_nested_calls_have_a_value(rt: HostRuntime) -> Result<(), Fail> {
-    let term = nested(rt.alloc(), 2000)?;
-    assert!(rt; matches!(answer(rt.alloc(), &term, 2001)?, Ok(Value::Int(1))));
-    assert!(rt; matches!(answer(rt.alloc(), &term, 2000)?, Err(EvalStop::Spent)));
+    assert!(rt; is_deep_answer(rt.alloc(), 2001, Datum::Int(1))?);
+    assert!(rt; is_deep_answer(rt.alloc(), 2000, Datum::Spent)?);
     Ok(())
 }
