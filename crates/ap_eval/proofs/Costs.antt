@@ -1,5 +1,5 @@
 -- What running costs: with fewer units it is spent, and else it ends.
-use Rattle.std.proofs.Common.{◌≡◌, ◌≢◌, ℕ, zero, suc, ◌+◌, ◌-◌, ◌<◌, ◌≤◌, Bool, true, false, cond, nat_eq, nat_lt, List, [], ◌∷◌, map, length, zip, Option, Some, None, refl, ap, sym, ◌∙◌, subst, arith}
+use Rattle.std.proofs.Common.{◌≡◌, ℕ, zero, suc, ◌+◌, ◌-◌, ◌≤◌, Bool, true, false, cond, nat_eq, nat_lt, List, [], ◌∷◌, map, length, zip, Option, Some, None, refl, ap, sym, ◌∙◌, arith}
 use Rattle.std.proofs.lemmas.Bool.{ltb-true, ltb-false, lt-ltb, le-ltb}
 use Rattle.std.proofs.Math.ListN.{length-map}
 use Rattle.ap_list.specs.Lists.{Each, with_first, all_some}
@@ -13,12 +13,12 @@ use Rattle.ap_world.specs.declared.entry.Function.{Function}
 use Rattle.ap_world.specs.declared.primitive.Primitive.{Primitive as Prim}
 use Rattle.ap_world.specs.declared.primitive.Primitive.TheVariants.{If}
 use Rattle.ap_world.specs.Primitives.{nil, prim, prim_of}
-use Rattle.ap_world.specs.Meaning.{Env, value_at, Defs, if_of, applied, prim_call, head_call, meaning, body_value, calls, ev, HasValue, Total}
+use Rattle.ap_world.specs.Meaning.{value_at, Defs, if_of, applied, prim_call, head_call, meaning, body_value, calls, Total}
 use Rattle.ap_world.specs.Sound.{known}
-use Rattle.ap_world.specs.Units.{Outcome, gives, wide, spent, large, after, Assigned, meant_by, found_at, most_nodes, sized, charged, prim_value, in_order, chosen, settled, is_choice, head_run, entered, run, body_run, calls_run, metered}
+use Rattle.ap_world.specs.Units.{Outcome, gives, spent, large, after, Assigned, meant_by, found_at, most_nodes, charged, prim_value, in_order, chosen, settled, is_choice, head_run, entered, run, body_run, calls_run}
 use Rattle.ap_world.proofs.Fuel.{meaning_var, meaning_quote, meaning_call}
 use Rattle.ap_world.proofs.TotalMeaning.{known_valued}
-use Rattle.ap_eval.specs.Laws.{OverflowsAt, End, value, overflow, too_large, ended, costing, IsEnd, HasCost}
+use Rattle.ap_eval.specs.Laws.{End, value, overflow, too_large, ended, costing, IsEnd, HasCost}
 use Rattle.ap_eval.proofs.Runs.{run_var, run_quote, run_call}
 use Rattle.ap_eval.proofs.PrimitivesMean.{prim_means}
 use Rattle.ap_eval.proofs.Overflow.{wide_overflow}

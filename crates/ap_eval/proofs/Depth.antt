@@ -11,7 +11,7 @@ use Rattle.ap_world.specs.declared.entry.Function.{Function}
 use Rattle.ap_world.specs.declared.primitive.Primitive.{Primitive as Prim}
 use Rattle.ap_world.specs.Primitives.{nil, prim_of}
 use Rattle.ap_world.specs.Meaning.{Defs}
-use Rattle.ap_world.specs.Units.{Outcome, gives, wide, spent, large, after, Assigned, found_at, most_nodes, sized, charged, prim_value, Run, Runs, in_order, chosen, settled, is_choice, head_run, entered, run, body_run, calls_run, metered}
+use Rattle.ap_world.specs.Units.{Outcome, gives, wide, spent, large, after, Assigned, found_at, most_nodes, sized, charged, prim_value, Runs, in_order, chosen, settled, is_choice, head_run, entered, run, body_run, calls_run, metered}
 use Rattle.ap_eval.proofs.Runs.{run_var, run_quote, run_call}
 
 -- no more units are left than these

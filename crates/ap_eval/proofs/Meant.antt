@@ -1,5 +1,5 @@
 -- What running gives is what the meaning gives.
-use Rattle.std.proofs.Common.{◌≡◌, ℕ, zero, suc, ◌-◌, Bool, true, false, cond, nat_eq, nat_lt, List, [], ◌∷◌, map, length, zip, Option, Some, None, unwrap_or, Result, Ok, Err, IfOk, refl, ap, sym, ◌∙◌, subst}
+use Rattle.std.proofs.Common.{◌≡◌, ℕ, zero, suc, ◌-◌, Bool, true, false, cond, nat_eq, nat_lt, List, [], ◌∷◌, map, length, zip, Option, Some, None, unwrap_or, Result, Ok, Err, IfOk, refl, ap, sym, ◌∙◌}
 use Rattle.std.proofs.Math.ListN.{length-map}
 use Rattle.ap_list.specs.Lists.{Each, with_first, all_some, lookup_by}
 use Rattle.ap_value.specs.declared.symbol.Symbol.{Symbol}
@@ -12,8 +12,8 @@ use Rattle.ap_world.specs.declared.entry.Function.{Function}
 use Rattle.ap_world.specs.declared.primitive.Primitive.{Primitive as Prim}
 use Rattle.ap_world.specs.declared.primitive.Primitive.TheVariants.{If}
 use Rattle.ap_world.specs.Primitives.{nil, prim, prim_of}
-use Rattle.ap_world.specs.Meaning.{Env, value_at, Defs, Calls, if_of, applied, prim_call, head_call, meaning, body_value, calls, ev, HasValue}
-use Rattle.ap_world.specs.Units.{nil_constant, Outcome, gives, wide, spent, large, after, Assigned, meant_by, found_at, most_nodes, sized, charged, prim_value, Run, Runs, in_order, chosen, settled, is_choice, head_run, entered, run, body_run, calls_run, metered}
+use Rattle.ap_world.specs.Meaning.{Env, value_at, Defs, Calls, if_of, applied, prim_call, head_call, meaning, body_value, calls, HasValue}
+use Rattle.ap_world.specs.Units.{nil_constant, Outcome, gives, wide, spent, large, after, Assigned, meant_by, found_at, most_nodes, sized, prim_value, Runs, in_order, chosen, settled, is_choice, head_run, entered, run, body_run, calls_run, metered}
 use Rattle.ap_world.proofs.Equations.{val_of_nil}
 use Rattle.ap_world.proofs.Fuel.{meaning_var, meaning_quote, meaning_call}
 use Rattle.ap_eval.specs.declared.stop.EvalStop.{EvalStop}
