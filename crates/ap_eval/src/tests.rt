@@ -2,7 +2,7 @@ ghost use Rattle.std.specs.Prelude.{◌≡◌, IfOk, [], ◌∷◌};
 ghost use Rattle.ap_value.specs.Values.{acl2};
 ghost use Rattle.ap_term.specs.declared.term.Term.TheVariants.{Quote, Call};
 ghost use Rattle.ap_world.specs.Names.{if_name};
-ghost use Rattle.ap_world.specs.Sound.{not_function};
+ghost use Rattle.ap_world.specs.Ground.{not_function};
 
 use crate::{Env, EvalStop, eval, is_known};
 use ap_list::{Boxed, Bytes, NoMemory, Seq};
@@ -43,7 +43,7 @@ fn choice(alloc: Global, a: Term, b: Term, c: Term) -> Result<Term, NoMemory>
 }
 
 /// `(if p nil t)`.
-#[tactic(auto, unfolding(ap_world::specs::Sound::not_function, ap_world::specs::Names::nil_name, ap_world::specs::Names::t_name))]
+#[tactic(auto, unfolding(ap_world::specs::Ground::not_function, ap_world::specs::Names::p_name, ap_world::specs::Names::nil_name, ap_world::specs::Names::t_name))]
 fn not_body(alloc: Global) -> Result<Term, NoMemory>
     ensures { IfOk result (λ t. t ≡ not_function.body) }
 {
@@ -54,7 +54,7 @@ fn not_body(alloc: Global) -> Result<Term, NoMemory>
 }
 
 /// The definition of `not`.
-#[tactic(auto, unfolding(ap_world::specs::Sound::not_function, ap_world::specs::Names::not_name))]
+#[tactic(auto, unfolding(ap_world::specs::Ground::not_function, ap_world::specs::Names::p_name, ap_world::specs::Names::not_name))]
 fn not_function(alloc: Global) -> Result<Function, NoMemory>
     ensures { IfOk result (λ f. f ≡ not_function) }
 {

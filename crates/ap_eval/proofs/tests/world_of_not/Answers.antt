@@ -2,7 +2,8 @@ use Rattle.std.proofs.Common.{◌≡◌, ◌++◌, ◌∷◌, [], List, ap}
 use Rattle.ap_world.specs.declared.entry.Function.{Function}
 use Rattle.ap_world.specs.declared.entry.Entry.{Entry}
 use Rattle.ap_world.specs.declared.entry.Entry.TheVariants as entry
-use Rattle.ap_world.specs.Sound.{Sound, not_function}
+use Rattle.ap_world.specs.Ground.{not_function}
+use Rattle.ap_world.specs.Sound.{Sound}
 use Rattle.ap_world.specs.World.{Shown}
 use Rattle.ap_world.proofs.Starting.{starting_sound}
 use Rattle.ap_eval.proofs.tests.world_of_not.Goals as goal
