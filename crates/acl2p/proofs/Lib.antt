@@ -1,6 +1,6 @@
-pub mod Tokens
+pub mod Constants
 pub mod Grammars
+pub mod Calls
 pub mod Starting
 pub mod Proving
-pub mod Plainness
 pub mod Showing

@@ -20,11 +20,11 @@ use Rattle.ap_world.specs.Sound.{known, is_head}
 use Rattle.ap_world.proofs.Knowing.{known_var, known_quote, known_call, each_true, true_each}
 use Rattle.ap_world.proofs.Equations.{prim_of_if, prim_of_equal}
 use Rattle.ap_world.proofs.Agreeing.{equal_valid}
-use Rattle.acl2p.specs.Reading.{takes_plainly, plain_step, is_plain_term}
-use Rattle.acl2p.specs.Session.{is_proved, is_equality, same_sides}
+use Rattle.acl2p.specs.Fragment.{takes, plain_step, is_plain_term}
+use Rattle.acl2p.specs.Attempt.{is_proved, is_equality, same_sides}
 
 -- a call that the grammar has is known in every world
-pub plain_head : (D : Defs) (f : Symbol) (n : ℕ) → takes_plainly f n ≡ true → is_head D f (prim_of f) n ≡ true
+pub plain_head : (D : Defs) (f : Symbol) (n : ℕ) → takes f n ≡ true → is_head D f (prim_of f) n ≡ true
 plain_head D f n h = go (symbol_eq f if_name && nat_eq n 3) refl
   where
     two : (symbol_eq f equal_name && nat_eq n 2) ≡ true → is_head D f (prim_of f) n ≡ true
@@ -38,8 +38,8 @@ plain_head D f n h = go (symbol_eq f if_name && nat_eq n 3) refl
         rw (symbol_eq-true f if_name p.0, eqb-true n 3 p.1, prim_of_if) refl
     go false e = two (ap (λ b. b || (symbol_eq f equal_name && nat_eq n 2)) (sym e) ∙ h)
 
-pub plain_call : (f : Symbol) (ts : List Term) → is_plain_term (Call f ts) ≡ (takes_plainly f (length ts) && all_true (map is_plain_term ts))
-plain_call f ts = fold_call plain_step f ts ∙ ap (λ (n : ℕ). takes_plainly f n && all_true (map is_plain_term ts)) (length-map ts is_plain_term)
+pub plain_call : (f : Symbol) (ts : List Term) → is_plain_term (Call f ts) ≡ (takes f (length ts) && all_true (map is_plain_term ts))
+plain_call f ts = fold_call plain_step f ts ∙ ap (λ (n : ℕ). takes f n && all_true (map is_plain_term ts)) (length-map ts is_plain_term)
 
 -- so each term of the grammar is
 pub plain_known : (D : Defs) (u : Term) → is_plain_term u ≡ true → known D u ≡ true
@@ -51,7 +51,7 @@ plain_known D = term_ind (λ u. is_plain_term u ≡ true → known D u ≡ true)
 
     call : (f : Symbol) (ts : List Term) → Each (λ u. is_plain_term u ≡ true → known D u ≡ true) ts → is_plain_term (Call f ts) ≡ true → known D (Call f ts) ≡ true
     call f ts each h =
-        let p = both (takes_plainly f (length ts)) (all_true (map is_plain_term ts)) (sym (plain_call f ts) ∙ h) in
+        let p = both (takes f (length ts)) (all_true (map is_plain_term ts)) (sym (plain_call f ts) ∙ h) in
         known_call D f ts ∙ and_true (is_head D f (prim_of f) (length ts)) (all_true (map (known D) ts)) (plain_head D f (length ts) p.0)
         (true_each (known D) ts (all ts each (each_true is_plain_term ts p.1)))
 

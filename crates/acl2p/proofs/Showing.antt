@@ -4,9 +4,10 @@ use Rattle.std.proofs.lemmas.List.{append-nil}
 use Rattle.ap_outside.specs.Gains.{Gained, GainedPart}
 use Rattle.ap_outside.proofs.Gains.{gained_more, gained_to, part_next, part_first, part_none, part_to}
 use Rattle.ap_world.specs.World.{Shown}
-use Rattle.acl2p.specs.declared.reader.Line.{Line}
+use Rattle.ap_reader.specs.declared.form.Form.{Form}
 use Rattle.acl2p.specs.Texts.{opening, closing}
-use Rattle.acl2p.specs.Session.{Body, before, go_on, event_of, events_of, shown_book}
+use Rattle.acl2p.specs.Events.{event_of}
+use Rattle.acl2p.specs.Session.{Body, before, go_on, events_of, shown_book}
 
 -- so far: some text was gained, and behind it stands what the events that are left give
 pub record SoFar (from now : Option (List ℕ)) (all left : Body) : Type 0 where
@@ -15,7 +16,7 @@ pub record SoFar (from now : Option (List ℕ)) (all left : Body) : Type 0 where
   pub whole : all ≡ before done left
 
 -- an event that is admitted adds its text
-pub so_far_more : (from mid now : Option (List ℕ)) (all : Body) (l : Line) (ls : List Line) (w v : Shown) (text : List ℕ) (admitted : Bool)
+pub so_far_more : (from mid now : Option (List ℕ)) (all : Body) (l : Form) (ls : List Form) (w v : Shown) (text : List ℕ) (admitted : Bool)
     → SoFar from mid all (events_of (l ∷ ls) w) → Gained mid now text → text ≡ (event_of w l).text → (event_of w l).next ≡ cond admitted (Some v) None → admitted ≡ true
     → SoFar from now all (events_of ls v)
 so_far_more from mid now all l ls w v text admitted so gained same next took =
@@ -37,7 +38,7 @@ pub record Refused (from now : Option (List ℕ)) (all : Body) (w : Shown) : Typ
   pub certified : all.certified ≡ false
   pub world : all.world ≡ w
 
-pub refused_at : (from mid now : Option (List ℕ)) (all : Body) (l : Line) (ls : List Line) (w v : Shown) (text : List ℕ) (admitted : Bool)
+pub refused_at : (from mid now : Option (List ℕ)) (all : Body) (l : Form) (ls : List Form) (w v : Shown) (text : List ℕ) (admitted : Bool)
     → SoFar from mid all (events_of (l ∷ ls) w) → Gained mid now text → text ≡ (event_of w l).text → (event_of w l).next ≡ cond admitted (Some v) None → admitted ≡ false
     → Refused from now all w
 refused_at from mid now all l ls w v text admitted so gained same next took =
@@ -70,7 +71,7 @@ part_so_far from now all left so =
     part_to from now (so.done ++ left.text) all.text
     (part_next from now now so.done left.text so.gained (part_none now left.text)) (ap (λ (b : Body). b.text) (sym so.whole))
 
-pub part_within : (from mid now : Option (List ℕ)) (all : Body) (l : Line) (ls : List Line) (w : Shown) (text : List ℕ)
+pub part_within : (from mid now : Option (List ℕ)) (all : Body) (l : Form) (ls : List Form) (w : Shown) (text : List ℕ)
     → SoFar from mid all (events_of (l ∷ ls) w) → GainedPart mid now text → text ≡ (event_of w l).text → GainedPart from now all.text
 part_within from mid now all l ls w text so part same =
     part_to from now (so.done ++ (events_of (l ∷ ls) w).text) all.text
@@ -83,10 +84,10 @@ part_within from mid now all l ls w text so part same =
         (part_first mid now text (events_of ls v).text part) (ap (λ t. t ++ (events_of ls v).text) same)
 
 -- the event at a place, and those behind it
-pub at_line : (lines : List Line) (i : ℕ) (l : Line) → i < length lines → l ≡ get_or lines i l → drop i lines ≡ l ∷ drop (i + 1) lines
-at_line lines i l h is = drop-cons lines i l h ∙ ap (λ x. x ∷ drop (suc i) lines) (sym is) ∙ ap (λ k. l ∷ drop k lines) (sym (add-one i))
+pub at_event : (lines : List Form) (i : ℕ) (l : Form) → i < length lines → l ≡ get_or lines i l → drop i lines ≡ l ∷ drop (i + 1) lines
+at_event lines i l h is = drop-cons lines i l h ∙ ap (λ x. x ∷ drop (suc i) lines) (sym is) ∙ ap (λ k. l ∷ drop k lines) (sym (add-one i))
 
-pub so_far_at : (from now : Option (List ℕ)) (all : Body) (ls ms : List Line) (w : Shown) → SoFar from now all (events_of ls w) → ls ≡ ms → SoFar from now all (events_of ms w)
+pub so_far_at : (from now : Option (List ℕ)) (all : Body) (ls ms : List Form) (w : Shown) → SoFar from now all (events_of ls w) → ls ≡ ms → SoFar from now all (events_of ms w)
 so_far_at from now all ls ms w so e = subst (λ ns. SoFar from now all (events_of ns w)) e so
 
 -- a fault within a book's first line, and within its body

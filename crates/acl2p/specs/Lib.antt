@@ -1,4 +1,9 @@
+pub mod Attempt
 pub mod Command
-pub mod Reading
+pub mod Events
+pub mod Fragment
+pub mod Parts
 pub mod Session
+pub mod Shapes
+pub mod Symbols
 pub mod Texts

@@ -1,54 +1,27 @@
 -- The session: what is printed, which status and which world the words and the books give.
-use Rattle.std.specs.Prelude.{◌≡◌, ℕ, Bool, true, false, cond, List, [], ◌∷◌, ◌++◌, Option, Some, None, codes, IfSome}
-use Rattle.ap_value.specs.Values.{symbol_eq}
-use Rattle.ap_term.specs.declared.term.Term.{Term, out-Term}
-use Rattle.ap_term.specs.declared.term.Term.TheOpen.{Term-F}
-use Rattle.ap_term.specs.Equal.{term_eq}
-use Rattle.ap_world.specs.Names.{equal_name}
+use Rattle.std.specs.Prelude.{◌≡◌, ℕ, Bool, true, false, cond, List, [], ◌∷◌, ◌++◌, Option, Some, None, Result, Ok, Err, codes, IfSome}
 use Rattle.ap_world.specs.Sound.{not_function}
-use Rattle.ap_world.specs.World.{Shown, has_name, added}
+use Rattle.ap_world.specs.World.{Shown}
 use Rattle.ap_world.specs.declared.entry.Entry.TheVariants as entry
 use Rattle.ap_outside.specs.declared.library.BookRead.{BookRead}
 use Rattle.ap_outside.specs.declared.library.BookRead.TheVariants.{Absent, TooLong, Found}
-use Rattle.acl2p.specs.declared.reader.Line.{Line}
+use Rattle.ap_tokens.specs.Gaps.{at}
+use Rattle.ap_reader.specs.declared.form.Form.{Form}
+use Rattle.ap_reader.specs.Faults as faults
+use Rattle.ap_reader.specs.Reading.{forms_from}
 use Rattle.acl2p.specs.declared.report.Status.{Status}
 use Rattle.acl2p.specs.declared.report.Status.TheVariants.{Certified, NotCertified, Usage, ReadFault, WriteFault, NoMemory}
 use Rattle.acl2p.specs.declared.report.BookSeen.{BookSeen}
 use Rattle.ap_outside.specs.Files.{Files, told_at}
 use Rattle.ap_outside.specs.Books.{answer_of}
 use Rattle.acl2p.specs.Command.{command_of}
-use Rattle.acl2p.specs.Reading.{book_of}
-use Rattle.acl2p.specs.Texts.{usage_text, opening, closing, absent_text, too_long_text, not_yet_text, proved_text, taken_text, not_supported_text}
+use Rattle.acl2p.specs.Shapes.{is_package}
+use Rattle.acl2p.specs.Events.{event_of}
+use Rattle.acl2p.specs.Texts.{usage_text, opening, closing, absent_text, too_long_text, read_error_text, no_package_text}
 
 -- the world that a session begins with: `not`, and nothing disabled
 unfoldable pub start : Shown
 start = record { entries = entry.Function not_function ∷ []; theory = record { disabled = [] } }
-
--- the one way to prove: (equal a b) where a and b are the same term
-abbrev pub same_sides : Bool → List Term → Bool
-same_sides true (a ∷ b ∷ []) = term_eq a b
-same_sides f ts = false
-
-abbrev pub is_equality : Term-F Term → Bool
-is_equality (Term-F.Var x) = false
-is_equality (Term-F.Quote v) = false
-is_equality (Term-F.Call f ts) = same_sides (symbol_eq f equal_name) ts
-
-unfoldable pub is_proved : Term → Bool
-is_proved u = is_equality (out-Term u)
-
--- an event's text, and the world after it where it is admitted
-pub record Step : Type 0 where
-  pub text : List ℕ
-  pub next : Option Shown
-
--- a theorem: its name is free, and it is proved
-unfoldable pub event_of : Shown → Line → Step
-event_of w l =
-    cond (has_name w.entries l.name) (record { text = taken_text l.name.name; next = None })
-    (cond (is_proved l.term)
-    (record { text = proved_text l.name.name; next = Some (added w (entry.Theorem (record { name = l.name; term = l.term; classes = [] }))) })
-    (record { text = not_supported_text; next = None }))
 
 -- a book's text between its first and last lines, whether it is certified, and the world after it
 pub record Body : Type 0 where
@@ -64,22 +37,32 @@ abbrev pub go_on : Shown → List ℕ → Option Shown → (Shown → Body) → 
 go_on w text None more = record { text = text; certified = false; world = w }
 go_on w text (Some v) more = before text (more v)
 
-abbrev pub events_of : List Line → Shown → Body
+abbrev pub events_of : List Form → Shown → Body
 events_of [] w = record { text = []; certified = true; world = w }
-events_of (l ∷ ls) w = go_on w (event_of w l).text (event_of w l).next (events_of ls)
+events_of (f ∷ fs) w = go_on w (event_of w f).text (event_of w f).next (events_of fs)
 
 -- a body that stands for no events
 abbrev pub without_events : List ℕ → Body
 without_events text = record { text = text; certified = false; world = start }
 
-abbrev pub read_body : Option (List Line) → Body
-read_body None = without_events not_yet_text
-read_body (Some ls) = events_of ls start
+-- the first form names the package, and the others are events
+abbrev pub forms_body : List Form → Body
+forms_body [] = without_events no_package_text
+forms_body (f ∷ fs) = cond (is_package f) (events_of fs start) (without_events no_package_text)
+
+-- the book is read whole before any event
+abbrev pub read_body : Result (List Form) faults.ReadFault → Body
+read_body (Err e) = without_events (read_error_text e)
+read_body (Ok fs) = forms_body fs
+
+-- what is read of a text: its forms, or its first fault
+abbrev pub forms_in : List ℕ → Result (List Form) faults.ReadFault
+forms_in text = forms_from (at 0 text)
 
 abbrev pub body_of : BookRead → Body
 body_of Absent = without_events absent_text
 body_of TooLong = without_events too_long_text
-body_of (Found book) = read_body (book_of book.0)
+body_of (Found book) = read_body (forms_in book.0)
 
 -- what the session gives; it has no status where the book that the words name wasn't read
 pub record Session : Type 0 where

@@ -1,5 +1,10 @@
 -- The printed texts.
-use Rattle.std.specs.Prelude.{ℕ, Bool, true, false, List, [], ◌∷◌, ◌++◌, codes}
+use Rattle.std.specs.Prelude.{ℕ, Bool, true, false, List, [], ◌∷◌, ◌++◌, codes, decimal}
+use Rattle.ap_value.specs.declared.symbol.Symbol.{Symbol}
+use Rattle.ap_term.specs.Printed.{symbol_text}
+use Rattle.ap_reader.specs.declared.fault.ReadKind.{ReadKind}
+use Rattle.ap_reader.specs.declared.fault.ReadKind.TheVariants as faults
+use Rattle.ap_reader.specs.Faults.{ReadFault, number_of}
 
 -- a text and the end of its line
 abbrev pub line : List ℕ → List ℕ
@@ -24,15 +29,42 @@ absent_text = line (codes "Absent")
 unfoldable pub too_long_text : List ℕ
 too_long_text = line (codes "Too long")
 
-unfoldable pub not_yet_text : List ℕ
-not_yet_text = line (codes "Not yet")
+-- a book that isn't read: the first fault, by its number, its name and its place
+unfoldable pub kind_text : ReadKind → List ℕ
+kind_text faults.OpenString = codes "OpenString"
+kind_text faults.OpenComment = codes "OpenComment"
+kind_text faults.OpenBar = codes "OpenBar"
+kind_text faults.BadHash = codes "BadHash"
+kind_text faults.BadCharName = codes "BadCharName"
+kind_text faults.OpenList = codes "OpenList"
+kind_text faults.StrayClose = codes "StrayClose"
+kind_text faults.NotInteger = codes "NotInteger"
+kind_text faults.IntegerTooWide = codes "IntegerTooWide"
+kind_text faults.TooDeep = codes "TooDeep"
+kind_text faults.BadDot = codes "BadDot"
+kind_text faults.BadPackage = codes "BadPackage"
 
--- a theorem that is proved, whose name is taken, or that can't be proved yet
-unfoldable pub proved_text : List ℕ → List ℕ
-proved_text n = codes "DEFTHM " ++ n ++ line [] ++ line (codes "Goal simplify 0") ++ codes "DEFTHM " ++ n ++ line (codes " proved")
+unfoldable pub read_error_text : ReadFault → List ℕ
+read_error_text e =
+    codes "Read error " ++ decimal (number_of e.kind) ++ codes " " ++ kind_text e.kind ++ codes " at " ++ decimal e.place ++ 10 ∷ []
 
-unfoldable pub taken_text : List ℕ → List ℕ
-taken_text n = codes "DEFTHM " ++ n ++ line [] ++ codes "DEFTHM " ++ n ++ line (codes " refused 3 NameTaken")
+-- a book that doesn't begin with (in-package "ACL2")
+unfoldable pub no_package_text : List ℕ
+no_package_text = line (codes "IN-PACKAGE refused 12 NoInPackage")
 
-unfoldable pub not_supported_text : List ℕ
-not_supported_text = line (codes "DEFTHM refused 1 NotSupported")
+-- an event without a symbol at its head, one that isn't supported, and one that isn't of its head's shape
+unfoldable pub no_head_text : List ℕ
+no_head_text = line (codes "FORM refused 1 NotSupported")
+
+unfoldable pub not_supported_text : Symbol → List ℕ
+not_supported_text h = symbol_text h ++ line (codes " refused 1 NotSupported")
+
+unfoldable pub bad_event_text : Symbol → List ℕ
+bad_event_text h = symbol_text h ++ line (codes " refused 2 BadEvent")
+
+-- a theorem that is proved, by the lines of its goals, and one whose name is taken
+unfoldable pub proved_text : Symbol → List ℕ → List ℕ
+proved_text n lines = codes "DEFTHM " ++ symbol_text n ++ line [] ++ lines ++ codes "DEFTHM " ++ symbol_text n ++ line (codes " proved")
+
+unfoldable pub taken_text : Symbol → List ℕ
+taken_text n = codes "DEFTHM " ++ symbol_text n ++ line [] ++ codes "DEFTHM " ++ symbol_text n ++ line (codes " refused 3 NameTaken")

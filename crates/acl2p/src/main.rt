@@ -5,12 +5,17 @@
 ghost use Rattle.std.specs.Prelude.{◌≡◌, ◌↔◌, IsSome, false};
 ghost use Rattle.acl2p.specs.Session.{is_done, number_of};
 
+mod attempt;
 mod certifier;
 mod command;
 mod events;
-mod reader;
+mod fragment;
+mod parts;
+mod reading;
 mod report;
+mod shapes;
 mod start;
+mod symbols;
 #[cfg(test)]
 mod tests;
 mod texts;

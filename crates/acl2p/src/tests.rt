@@ -2,6 +2,7 @@ use crate::certifier::certify;
 use crate::report::Status;
 use ap_list::{Bytes, Seq};
 use ap_outside::{MemoryLibrary, MemorySink};
+use std::alloc::Global;
 use std::process::Abort;
 use std::test::Fail;
 
@@ -25,7 +26,7 @@ const REFL: &[u8] = b"(in-package \"ACL2\")\n(defthm refl (equal x x) :rule-clas
 const CERTIFIED: &[u8] =
     b"Book refl\nDEFTHM REFL\nGoal simplify 0\nDEFTHM REFL proved\nBook refl certified\n";
 
-const ROWS: [Row; 15] = [
+const ROWS: [Row; 16] = [
     Row {
         words: &["refl"],
         book: Some(REFL),
@@ -41,18 +42,18 @@ const ROWS: [Row; 15] = [
         text: b"Book gone\nAbsent\nBook gone not certified\n",
     },
     Row {
-        words: &["not_yet"],
+        words: &["plain"],
         book: Some(b"(in-package \"ACL2\") (defun f (x) x)"),
         failing: NONE,
         status: Status::NotCertified,
-        text: b"Book not_yet\nNot yet\nBook not_yet not certified\n",
+        text: b"Book plain\nDEFUN refused 1 NotSupported\nBook plain not certified\n",
     },
     Row {
         words: &["case"],
         book: Some(b"(IN-package \"ACL2\")(DefThm same nil:Rule-Classes NIL)"),
         failing: NONE,
         status: Status::NotCertified,
-        text: b"Book case\nNot yet\nBook case not certified\n",
+        text: b"Book case\nRead error 12 BadPackage at 32\nBook case not certified\n",
     },
     Row {
         words: &["case"],
@@ -87,6 +88,13 @@ const ROWS: [Row; 15] = [
         failing: NONE,
         status: Status::NotCertified,
         text: b"Book taken\nDEFTHM NOT\nDEFTHM NOT refused 3 NameTaken\nBook taken not certified\n",
+    },
+    Row {
+        words: &["e"],
+        book: Some(b""),
+        failing: NONE,
+        status: Status::NotCertified,
+        text: b"Book e\nIN-PACKAGE refused 12 NoInPackage\nBook e not certified\n",
     },
     Row {
         words: &[],
@@ -140,12 +148,7 @@ const ROWS: [Row; 15] = [
 ];
 
 /// Certifies a row's book in memory, and asserts what is seen.
-fn shows(
-    rt: &impl Abort,
-    alloc: std::alloc::Global,
-    row: &Row,
-    book: Option<&[u8]>,
-) -> Result<(), Fail> {
+fn shows(rt: &impl Abort, alloc: Global, row: &Row, book: Option<&[u8]>) -> Result<(), Fail> {
     let mut words = Vec::new(alloc);
     let mut files = Seq::new(alloc);
     for word in row.words {
@@ -166,6 +169,24 @@ fn shows(
     Ok(())
 }
 
+/// Certifies a book in memory, and asserts what is printed.
+fn prints(rt: &impl Abort, alloc: Global, book: &[u8], text: &[u8]) -> Result<(), Fail> {
+    let mut words = Vec::new(alloc);
+    words.push(String::from_str(alloc, "b")?)?;
+    let mut files = Seq::new(alloc);
+    files.push((
+        Bytes::from_slice(alloc, b"b.lisp")?,
+        Bytes::from_slice(alloc, book)?,
+    ))?;
+    let mut library = MemoryLibrary::new(files, Seq::new(alloc));
+    let mut sink = MemorySink::new(alloc, Seq::new(alloc));
+    let report = certify(alloc, words.as_slice(), &mut library, &mut sink);
+    assert_eq!(rt; sink.content(), text);
+    let certified = text.ends_with(b" certified\n") && !text.ends_with(b"not certified\n");
+    assert_eq!(rt; report.status == Status::Certified, certified);
+    Ok(())
+}
+
 #[test]
 fn the_session_prints_its_text_and_each_fault_has_its_cause(rt: HostRuntime) -> Result<(), Fail> {
     for row in &ROWS {
@@ -174,8 +195,177 @@ fn the_session_prints_its_text_and_each_fault_has_its_cause(rt: HostRuntime) -> 
     Ok(())
 }
 
+/// Each fault of reading, and each refusal: what stands after a book's first line, and the line that it prints.
+const REFUSED: &str = r##""ab => Read error 1 OpenString at 20
+#| x => Read error 2 OpenComment at 20
+ |ab => Read error 3 OpenBar at 21
+#y => Read error 4 BadHash at 20
+#\Spac => Read error 5 BadCharName at 20
+(a (b) => Read error 6 OpenList at 20
+a) => Read error 7 StrayClose at 21
+1. => Read error 8 NotInteger at 20
+(defthm w (equal x 170141183460469231731687303715884105728)) => Read error 9 IntegerTooWide at 39
+(. a) => Read error 11 BadDot at 21
+x:y => Read error 12 BadPackage at 20
+3 => FORM refused 1 NotSupported
+() => FORM refused 1 NotSupported
+'x => FORM refused 1 NotSupported
+((f) x) => FORM refused 1 NotSupported
+(3 . x) => FORM refused 1 NotSupported
+(in-package "ACL2") => IN-PACKAGE refused 1 NotSupported
+(defthmd a (equal x x) :rule-classes nil) => DEFTHMD refused 1 NotSupported
+(local . 3) => LOCAL refused 1 NotSupported
+(|a b|) => |a b| refused 1 NotSupported
+(:key) => :KEY refused 1 NotSupported
+(defthm) => DEFTHM refused 2 BadEvent
+(defthm a) => DEFTHM refused 2 BadEvent
+(defthm a x . y) => DEFTHM refused 2 BadEvent
+(defthm 3 (equal x x)) => DEFTHM refused 2 BadEvent
+(defthm nil (equal x x)) => DEFTHM refused 2 BadEvent
+(defthm :a (equal x x)) => DEFTHM refused 2 BadEvent
+(defthm *a* (equal x x)) => DEFTHM refused 2 BadEvent
+(defthm let* (equal x x)) => DEFTHM refused 2 BadEvent
+(defthm second (equal x x)) => DEFTHM refused 2 BadEvent
+(defthm 1- (equal x x)) => DEFTHM refused 2 BadEvent
+(defthm cdddar (equal x x)) => DEFTHM refused 2 BadEvent
+(defthm a x nil) => DEFTHM refused 2 BadEvent
+(defthm a x :rule-classes) => DEFTHM refused 2 BadEvent
+(defthm a x :otf-flg t) => DEFTHM refused 2 BadEvent
+(defthm a x :rule-classes nil :rule-classes nil) => DEFTHM refused 2 BadEvent
+(defthm a x :rule-classes rewrite) => DEFTHM refused 2 BadEvent
+(defthm a x :hints nil :rule-classes (:rewrite :elim)) => DEFTHM refused 2 BadEvent
+(defthm a (equal x x)) => DEFTHM refused 1 NotSupported
+(defthm a (equal x x) :rule-classes :linear) => DEFTHM refused 1 NotSupported
+(defthm a (equal x x) :rule-classes (:rewrite :type-prescription)) => DEFTHM refused 1 NotSupported
+(defthm a (equal x x) :hints nil :rule-classes nil) => DEFTHM refused 1 NotSupported
+(defthm if (equal x (f x)) :rule-classes nil) => DEFTHM refused 1 NotSupported
+(defthm a (equal x x x) :rule-classes nil) => DEFTHM refused 1 NotSupported
+(defthm a (equal *c* *c*) :rule-classes nil) => DEFTHM refused 1 NotSupported
+(defthm a (equal `x `x) :rule-classes nil) => DEFTHM refused 1 NotSupported
+(defthm a (equal '(a ,b) '(a ,b)) :rule-classes nil) => DEFTHM refused 1 NotSupported
+(defthm a (if x y z) :rule-classes nil) => DEFTHM refused 1 NotSupported"##;
+
+#[test]
+fn each_fault_and_refusal_is_printed(rt: HostRuntime) -> Result<(), Fail> {
+    let alloc = rt.alloc();
+    let mut count = 0u32;
+    for line in REFUSED.lines() {
+        if let Some((form, body)) = line.split_once(" => ") {
+            count = count.saturating_add(1);
+            let book = format!(in alloc; "(in-package \"ACL2\")\n{form}")?;
+            let text = format!(in alloc; "Book b\n{body}\nBook b not certified\n")?;
+            prints(&rt, alloc, book.as_bytes(), text.as_bytes())?;
+        }
+    }
+    assert_eq!(rt; count, 48);
+    Ok(())
+}
+
+#[test]
+fn a_book_begins_with_its_package_and_is_read_whole(rt: HostRuntime) -> Result<(), Fail> {
+    let alloc = rt.alloc();
+    let none = b"Book b\nIN-PACKAGE refused 12 NoInPackage\nBook b not certified\n";
+    let late = b"(defthm refl (equal x x) :rule-classes nil)\n(in-package \"ACL2\")\n";
+    prints(&rt, alloc, late, none)?;
+    prints(&rt, alloc, b"(in-package ACL2)", none)?;
+    let open =
+        b"(in-package \"ACL2\")\n(defthm refl (equal x x) :rule-classes nil)\n(defthm a (equal x";
+    let text = b"Book b\nRead error 6 OpenList at 74\nBook b not certified\n";
+    prints(&rt, alloc, open, text)
+}
+
+/// The equations that are proved with their two sides the same, each named in its own way.
+const PROVED: &[u8] = b"(in-package \"ACL2\") ; a comment
+(defthm a (equal 3 '#b11) :rule-classes nil)
+(defthm |a b| (equal (quote a) 'a) :rule-classes ())
+(defthm ** (equal \"s\" '\"s\") :rule-classes nil)
+#| another |# (defthm caddddr (equal () 'nil) :rule-classes nil)
+(defthm if (equal x x) :rule-classes nil)";
+
+const PROVED_TEXT: &[u8] = b"Book b
+DEFTHM A
+Goal simplify 0
+DEFTHM A proved
+DEFTHM |a b|
+Goal simplify 0
+DEFTHM |a b| proved
+DEFTHM **
+Goal simplify 0
+DEFTHM ** proved
+DEFTHM CADDDDR
+Goal simplify 0
+DEFTHM CADDDDR proved
+DEFTHM IF
+DEFTHM IF refused 3 NameTaken
+Book b not certified
+";
+
+#[test]
+fn constants_are_read_in_each_of_their_forms(rt: HostRuntime) -> Result<(), Fail> {
+    prints(&rt, rt.alloc(), PROVED, PROVED_TEXT)
+}
+
+/// So many of a byte between two texts.
+fn between(
+    alloc: Global,
+    before: &[u8],
+    byte: u8,
+    count: usize,
+    after: &[u8],
+) -> Result<Vec<u8>, Fail> {
+    let mut out = Vec::from_slice(alloc, before)?;
+    for _ in 0..count {
+        out.push(byte)?;
+    }
+    out.extend_from_slice(after)?;
+    Ok(out)
+}
+
+#[test]
+fn four_hundred_lists_may_stand_within_each_other(rt: HostRuntime) -> Result<(), Fail> {
+    let alloc = rt.alloc();
+    let first = b"(in-package \"ACL2\")\n";
+    let deep = between(alloc, first, b'(', 401, b"")?;
+    let text = b"Book b\nRead error 10 TooDeep at 420\nBook b not certified\n";
+    prints(&rt, alloc, deep.as_slice(), text)?;
+    let open = between(alloc, first, b'(', 400, b"")?;
+    let text = b"Book b\nRead error 6 OpenList at 419\nBook b not certified\n";
+    prints(&rt, alloc, open.as_slice(), text)
+}
+
+/// A theorem on two strings of the same length.
+fn strings(alloc: Global, count: usize) -> Result<Vec<u8>, Fail> {
+    let first = b"(in-package \"ACL2\")\n(defthm a (equal \"";
+    let half = between(alloc, first, b'a', count, b"\" \"")?;
+    between(
+        alloc,
+        half.as_slice(),
+        b'a',
+        count,
+        b"\") :rule-classes nil)",
+    )
+}
+
+#[test]
+fn a_term_of_more_than_4096_nodes_is_not_supported(rt: HostRuntime) -> Result<(), Fail> {
+    let alloc = rt.alloc();
+    let least = strings(alloc, 2046)?;
+    let text = b"Book b\nDEFTHM A\nGoal simplify 0\nDEFTHM A proved\nBook b certified\n";
+    prints(&rt, alloc, least.as_slice(), text)?;
+    let refused = b"Book b\nDEFTHM refused 1 NotSupported\nBook b not certified\n";
+    let large = strings(alloc, 2047)?;
+    prints(&rt, alloc, large.as_slice(), refused)?;
+    let first = b"(in-package \"ACL2\")\n(defthm a (equal x '(";
+    let mut list = Vec::from_slice(alloc, first)?;
+    for _ in 0..100_000 {
+        list.extend_from_slice(b"a ")?;
+    }
+    list.extend_from_slice(b")) :rule-classes nil)")?;
+    prints(&rt, alloc, list.as_slice(), refused)
+}
+
 /// So many blanks.
-fn blanks(alloc: std::alloc::Global, count: usize) -> Result<Vec<u8>, Fail> {
+fn blanks(alloc: Global, count: usize) -> Result<Vec<u8>, Fail> {
     let mut out = Vec::new(alloc);
     for _ in 0..count {
         out.push(32)?;

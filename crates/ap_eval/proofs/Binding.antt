@@ -1,5 +1,5 @@
 -- Formals beside their arguments, one place after another.
-use Rattle.std.proofs.Common.{◌≡◌, ℕ, zero, suc, ◌+◌, ◌-◌, ◌<◌, ◌≤◌, min, Bool, true, false, cond, List, [], ◌∷◌, length, drop, take, zip, get_or, Option, Some, None, refl, ap, sym, ◌∙◌, arith}
+use Rattle.std.proofs.Common.{◌≡◌, ℕ, zero, suc, ◌+◌, ◌-◌, ◌<◌, ◌≤◌, min, false, cond, List, [], ◌∷◌, length, drop, take, zip, get_or, Some, refl, ap, sym, ◌∙◌, arith}
 use Rattle.std.proofs.Math.Seq.{drop-cons}
 use Rattle.ap_list.specs.Lists.{lookup_by}
 use Rattle.ap_value.specs.declared.symbol.Symbol.{Symbol}

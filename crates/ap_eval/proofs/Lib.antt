@@ -5,3 +5,6 @@ pub mod PrimitivesMean
 pub mod Meant
 pub mod Binding
 pub mod Steps
+pub mod Depth
+pub mod Overflow
+pub mod Costs

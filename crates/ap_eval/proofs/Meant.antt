@@ -1,5 +1,5 @@
 -- What running gives is what the meaning gives.
-use Rattle.std.proofs.Common.{◌≡◌, ℕ, zero, suc, ◌-◌, Bool, true, false, cond, nat_eq, nat_lt, List, [], ◌∷◌, map, length, zip, Option, Some, None, unwrap_or, Result, Ok, Err, IfOk, refl, ap, sym, ◌∙◌, subst}
+use Rattle.std.proofs.Common.{◌≡◌, ℕ, zero, suc, ◌-◌, Bool, true, false, cond, nat_eq, nat_lt, List, [], ◌∷◌, map, length, zip, Option, Some, None, unwrap_or, Result, Ok, Err, IfOk, refl, ap, sym, ◌∙◌}
 use Rattle.std.proofs.Math.ListN.{length-map}
 use Rattle.ap_list.specs.Lists.{Each, with_first, all_some, lookup_by}
 use Rattle.ap_value.specs.declared.symbol.Symbol.{Symbol}
@@ -12,8 +12,8 @@ use Rattle.ap_world.specs.declared.entry.Function.{Function}
 use Rattle.ap_world.specs.declared.primitive.Primitive.{Primitive as Prim}
 use Rattle.ap_world.specs.declared.primitive.Primitive.TheVariants.{If}
 use Rattle.ap_world.specs.Primitives.{nil, prim, prim_of}
-use Rattle.ap_world.specs.Meaning.{Env, value_at, Defs, Calls, if_of, applied, prim_call, head_call, meaning, body_value, calls, ev, HasValue}
-use Rattle.ap_world.specs.Units.{nil_constant, Outcome, gives, wide, spent, large, after, Assigned, meant_by, found_at, most_nodes, sized, charged, prim_value, Run, Runs, in_order, chosen, settled, is_choice, head_run, entered, run, body_run, calls_run, metered}
+use Rattle.ap_world.specs.Meaning.{Env, value_at, Defs, Calls, if_of, applied, prim_call, head_call, meaning, body_value, calls, HasValue}
+use Rattle.ap_world.specs.Units.{nil_constant, Outcome, gives, wide, spent, large, after, Assigned, meant_by, found_at, most_nodes, sized, prim_value, Runs, in_order, chosen, settled, is_choice, head_run, entered, run, body_run, calls_run, metered}
 use Rattle.ap_world.proofs.Equations.{val_of_nil}
 use Rattle.ap_world.proofs.Fuel.{meaning_var, meaning_quote, meaning_call}
 use Rattle.ap_eval.specs.declared.stop.EvalStop.{EvalStop}
@@ -50,7 +50,7 @@ charged_is true w v n m h = cc
 charged_is false w v n m h = sized_is (nat_lt most_nodes (node_count w)) w v n m h
 
 -- a variable's value means the variable's value
-found_means : (e : Assigned) (x : Symbol) → value_at (meant_by e) x ≡ val_of (found_at e x)
+pub found_means : (e : Assigned) (x : Symbol) → value_at (meant_by e) x ≡ val_of (found_at e x)
 found_means [] x = sym val_of_nil
 found_means (p ∷ e) x = choose (symbol_eq x p.0) (found_means e x)
   where
@@ -64,7 +64,7 @@ abbrev Means : Runs → Calls → Term → Type 0
 Means r c u = (e : Assigned) (n m : ℕ) (v : Value) → run r u e n ≡ gives v m → meaning c u (meant_by e) ≡ Some (val_of v)
 
 -- the options of the arguments
-abbrev options : Calls → List Term → Env → List (Option V)
+abbrev pub options : Calls → List Term → Env → List (Option V)
 options c ts e = map (λ m. m e) (map (meaning c) ts)
 
 in_order_means : (r : Runs) (c : Calls) (ts : List Term) → Each (Means r c) ts → (e : Assigned) (n m : ℕ) (vs : List Value)
@@ -141,7 +141,7 @@ run_means r c k u = term_ind (Means r c) variable constant call u
     call : (f : Symbol) (ts : List Term) → Each (Means r c) ts → Means r c (Call f ts)
     call f ts es e n m v h = meaning_call c f ts (meant_by e) ∙ inside f ts es e n m v (sym (run_call r f ts e n) ∙ h)
 
-zip_means : (xs : List Symbol) (vs : List Value) → meant_by (zip xs vs) ≡ zip xs (map val_of vs)
+pub zip_means : (xs : List Symbol) (vs : List Value) → meant_by (zip xs vs) ≡ zip xs (map val_of vs)
 zip_means [] vs = refl
 zip_means (x ∷ xs) [] = refl
 zip_means (x ∷ xs) (v ∷ vs) = ap (λ e. (x, val_of v) ∷ e) (zip_means xs vs)

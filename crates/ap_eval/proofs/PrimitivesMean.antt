@@ -1,17 +1,16 @@
 -- What a primitive gives on values means what it gives on what they mean.
-use Rattle.std.proofs.Common.{◌≡◌, ℕ, ◌%◌, ◌<◌, Bool, true, false, cond, ℤ, pos, negsuc, ◌+ℤ◌, ◌*ℤ◌, neg_ℤ, int_lt, nat_lt, List, [], ◌∷◌, map, Option, Some, None, refl, ap, sym, ◌∙◌, subst, arith}
-use Rattle.ap_value.specs.declared.symbol.Symbol.{Symbol}
-use Rattle.ap_value.specs.declared.value.Value.{Value, fold-Value, fold-roll-Value, roll-Value, out-Value, roll-out-Value}
+use Rattle.std.proofs.Common.{◌≡◌, ℕ, ◌%◌, Bool, true, false, cond, ℤ, pos, negsuc, ◌+ℤ◌, ◌*ℤ◌, neg_ℤ, nat_lt, List, [], ◌∷◌, map, Some, None, refl, ap, sym, ◌∙◌}
+use Rattle.ap_value.specs.declared.value.Value.{Value, fold-roll-Value, roll-Value, out-Value, roll-out-Value}
 use Rattle.ap_value.specs.declared.value.Value.TheOpen.{Value-F}
-use Rattle.ap_value.specs.declared.value.Value.TheVariants.{Int, Chr, Str, Sym, Cons as Pair}
-use Rattle.ap_value.specs.Values.{Byte, byte_of, V, int, chr, str, sym as symbol, cons, val_step, val_of, value_eq}
+use Rattle.ap_value.specs.declared.value.Value.TheVariants.{Int, Chr, Str, Cons as Pair}
+use Rattle.ap_value.specs.Values.{Byte, byte_of, V, int, chr, str, cons, val_step, val_of, value_eq}
 use Rattle.ap_value.proofs.Bytes.{byte_of_code}
 use Rattle.ap_world.specs.declared.primitive.Primitive.{Primitive as Prim}
-use Rattle.ap_world.specs.declared.primitive.Primitive.TheVariants.{If, Equal, Consp, Integerp, Symbolp, Stringp, Characterp, Cons, Car, Cdr, Plus, Times, Minus, Less, CharCode, CodeChar, SymbolName, Coerce}
-use Rattle.ap_world.specs.Names.{nil_name, t_name, list_name}
-use Rattle.ap_world.specs.Primitives.{symbol_value, nil, t, truth, prim, car_of, cdr_of, int_of, char_code_of, code_char_of, symbol_name_of, chars_to, chars_from, to_list, coerce_of}
-use Rattle.ap_world.specs.Units.{nil_constant, truth_constant, narrow, is_narrow, int_constant, first_part, rest_part, code_part, character_part, name_part, characters, list_part, codes_in, coerced, unary, binary, prim_value}
-use Rattle.ap_world.proofs.Equations.{val_of_int, val_of_chr, val_of_str, val_of_sym, val_of_cons, val_of_nil, val_of_t}
+use Rattle.ap_world.specs.declared.primitive.Primitive.TheVariants.{Equal, Consp, Integerp, Symbolp, Stringp, Characterp, Cons, Car, Cdr, Plus, Times, Minus, Less, CharCode, CodeChar, SymbolName, Coerce}
+use Rattle.ap_world.specs.Names.{list_name}
+use Rattle.ap_world.specs.Primitives.{symbol_value, truth, prim, car_of, cdr_of, int_of, char_code_of, code_char_of, symbol_name_of, chars_to, chars_from, to_list, coerce_of}
+use Rattle.ap_world.specs.Units.{truth_constant, narrow, is_narrow, int_constant, first_part, rest_part, code_part, character_part, name_part, characters, list_part, codes_in, coerced, unary, binary, prim_value}
+use Rattle.ap_world.proofs.Equations.{val_of_int, val_of_chr, val_of_str, val_of_cons, val_of_nil, val_of_t}
 
 -- what one level over other values means
 level : (y : Value-F Value) → V

@@ -1,15 +1,15 @@
 -- What running gives at each kind of term, and what comes after a stop.
-use Rattle.std.proofs.Common.{◌≡◌, ◌≢◌, ℕ, zero, suc, ◌-◌, ◌<◌, ◌≤◌, List, [], ◌∷◌, ◌++◌, map, length, get_or, Result, refl, ap, sym, ◌∙◌, subst, append_assoc, arith}
+use Rattle.std.proofs.Common.{◌≡◌, ◌≢◌, ℕ, zero, suc, ◌-◌, ◌<◌, ◌≤◌, List, [], ◌∷◌, map, length, get_or, refl, ap, sym, ◌∙◌, arith}
 use Rattle.ap_value.specs.declared.symbol.Symbol.{Symbol}
 use Rattle.ap_value.specs.declared.value.Value.{Value}
 use Rattle.ap_term.specs.declared.term.Term.{Term, Var, Quote, Call}
 use Rattle.ap_term.proofs.Induction.{para_var, para_quote, para_call}
 use Rattle.ap_world.specs.Primitives.{prim_of}
 use Rattle.ap_world.specs.Meaning.{Defs}
-use Rattle.ap_world.specs.Units.{Outcome, gives, wide, spent, large, after, Assigned, found_at, charged, Run, Runs, in_order, head_run, entered, run_step, run, body_run, calls_run}
+use Rattle.ap_world.specs.Units.{Outcome, spent, after, Assigned, found_at, charged, Run, Runs, head_run, entered, run_step, run, body_run, calls_run}
 use Rattle.ap_eval.specs.declared.stop.EvalStop.{EvalStop}
 use Rattle.ap_eval.specs.declared.stop.EvalStop.TheVariants as stop
-use Rattle.ap_eval.specs.Answers.{Stopped, Answers}
+use Rattle.ap_eval.specs.Answers.{Stopped}
 
 pub run_var : (c : Runs) (x : Symbol) (e : Assigned) (n : ℕ) → run c (Var x) e n ≡ charged (found_at e x) n
 run_var c x e n = ap (λ m. m e n) (para_var (run_step c) x)

@@ -3,7 +3,7 @@ use Rattle.std.proofs.Common.{◌≡◌, ℕ, ◌↔◌, Bool, true, false, IsTr
 use Rattle.ap_value.specs.declared.symbol.Symbol.{Symbol}
 use Rattle.ap_value.specs.declared.value.Value.{Value}
 use Rattle.ap_value.specs.declared.value.Value.TheVariants.{Sym}
-use Rattle.ap_value.specs.Values.{Byte, byte_of, V, sym as symbol, val_of, bool_eq, string_eq, acl2, value_eq}
+use Rattle.ap_value.specs.Values.{Byte, byte_of, V, sym as symbol, val_of, acl2, value_eq}
 use Rattle.ap_value.proofs.Equals.{value_eq-true, value_eq-same}
 use Rattle.ap_world.specs.Primitives.{symbol_value}
 use Rattle.ap_world.proofs.Equations.{val_of_sym}

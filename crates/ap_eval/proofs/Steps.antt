@@ -1,5 +1,5 @@
 -- The steps of the machine, over plain variables.
-use Rattle.std.proofs.Common.{◌≡◌, ◌≢◌, ℕ, zero, suc, ◌+◌, ◌-◌, ◌*◌, ◌<◌, ◌≤◌, List, [], ◌∷◌, ◌++◌, map, length, zip, Bool, true, false, cond, Option, Some, None, Result, eq-eqb, refl, ap, sym, ◌∙◌, subst, append_assoc, arith}
+use Rattle.std.proofs.Common.{◌≡◌, ◌≢◌, ℕ, ◌+◌, ◌-◌, ◌<◌, ◌≤◌, List, [], ◌∷◌, ◌++◌, map, length, zip, Bool, true, false, cond, Some, None, Result, eq-eqb, refl, ap, sym, ◌∙◌, subst, append_assoc, arith}
 use Rattle.std.proofs.lemmas.List.{append-nil}
 use Rattle.ap_value.specs.declared.symbol.Symbol.{Symbol}
 use Rattle.ap_value.specs.declared.value.Value.{Value, fold-roll-Value, roll-Value, out-Value, roll-out-Value}
@@ -8,7 +8,8 @@ use Rattle.ap_value.specs.Counts.{node_step, node_count}
 use Rattle.ap_term.specs.declared.term.Term.{Term}
 use Rattle.ap_world.specs.declared.entry.Function.{Function}
 use Rattle.ap_world.specs.declared.primitive.Primitive.{Primitive}
-use Rattle.ap_world.specs.Primitives.{prim_of}
+use Rattle.ap_value.specs.Values.{val_of, value_eq}
+use Rattle.ap_world.specs.Primitives.{nil, prim_of}
 use Rattle.ap_world.specs.Meaning.{Defs}
 use Rattle.ap_world.specs.Units.{Outcome, gives, wide, spent, large, after, Assigned, prim_value, Run, Runs, in_order, chosen, settled, is_choice, head_run, run, body_run, calls_run}
 use Rattle.ap_eval.specs.declared.stop.EvalStop.{EvalStop}
@@ -17,7 +18,7 @@ use Rattle.ap_eval.specs.declared.machine.Task.{Task}
 use Rattle.ap_eval.specs.declared.machine.Task.TheVariants as task
 use Rattle.ap_eval.specs.declared.machine.Frame.{Frame}
 use Rattle.ap_eval.specs.declared.machine.Frame.TheVariants as frame
-use Rattle.ap_eval.specs.Answers.{Stopped, assigned}
+use Rattle.ap_eval.specs.Answers.{Stopped}
 use Rattle.ap_eval.specs.Machine.{Point, ready, branched, called, called_with, through, resumed, point, task_outcome, whole, Follows}
 use Rattle.ap_eval.proofs.Runs.{stopped_after, calls_below}
 
@@ -83,6 +84,29 @@ pub choice_run : (c : Runs) (t : Term) (f : Symbol) (p : Primitive) (ms : List R
     → chosen ms e n ≡ head_run c t f (prim_of f) ms e n
 choice_run c t f p ms e n some choice =
     ap (λ b. cond b (chosen ms e n) (after (in_order ms e n) (λ vs k. settled t vs (prim_value p vs) k))) (sym choice) ∙ ap (λ o. head_run c t f o ms e n) (sym some)
+
+-- another primitive's call takes its arguments in order, and so does that of a function
+pub strict_run : (c : Runs) (t : Term) (f : Symbol) (p : Primitive) (ts : List Term) (vs : List Value) (e : Assigned) (n : ℕ) → vs ≡ [] → prim_of f ≡ Some p → is_choice p ≡ false
+    → called c t f ts vs e n ≡ head_run c t f (prim_of f) (map (run c) ts) e n
+strict_run c t f p ts vs e n none some strict =
+    ap (λ us. called c t f ts us e n) none ∙ ap (λ o. after (in_order (map (run c) ts) e n) (ready c t f o)) some
+    ∙ sym (ap (λ b. cond b (chosen (map (run c) ts) e n) (after (in_order (map (run c) ts) e n) (λ us k. settled t us (prim_value p us) k))) strict)
+    ∙ ap (λ o. head_run c t f o (map (run c) ts) e n) (sym some)
+
+pub function_run : (c : Runs) (t : Term) (f : Symbol) (ts : List Term) (vs : List Value) (e : Assigned) (n : ℕ) → vs ≡ [] → prim_of f ≡ None
+    → called c t f ts vs e n ≡ head_run c t f (prim_of f) (map (run c) ts) e n
+function_run c t f ts vs e n none other =
+    ap (λ us. called c t f ts us e n) none ∙ ap (λ o. after (in_order (map (run c) ts) e n) (ready c t f o)) other
+    ∙ ap (λ o. head_run c t f o (map (run c) ts) e n) (sym other)
+
+-- a test's value chooses the branch that runs
+pub branch_run : (c : Runs) (on off branch : Term) (e : Assigned) (v : Value) (n : ℕ) (b : Bool) → b ≡ value_eq (val_of v) nil → branch ≡ cond b off on
+    → run c branch e n ≡ branched c on off e v n
+branch_run c on off branch e v n b tested chosen = ap (λ u. run c u e n) chosen ∙ go b ∙ ap (λ b. cond b (run c off e n) (run c on e n)) tested
+  where
+    go : (b : Bool) → run c (cond b off on) e n ≡ cond b (run c off e n) (run c on e n)
+    go true = refl
+    go false = refl
 
 -- through a frame that is put last
 through_last : (D : Defs) (fs gs : List Frame) (g : Frame) (p q : Point) → gs ≡ fs ++ g ∷ [] → through D g p ≡ q → (resumed D gs p).outcome ≡ (resumed D fs q).outcome

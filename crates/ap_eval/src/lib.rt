@@ -4,6 +4,7 @@
 mod bindings;
 mod kinds;
 mod knowing;
+pub mod laws;
 mod machine;
 mod parts;
 mod primitives;

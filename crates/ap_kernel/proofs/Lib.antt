@@ -5,3 +5,7 @@ pub mod Parts
 pub mod Assumed
 pub mod CallsStand
 pub mod Typed
+pub mod EquationsStand
+pub mod ChoicesStand
+pub mod SameTerms
+pub mod TestWorld

@@ -26,7 +26,7 @@ use Rattle.ap_kernel.proofs.Standing.{stand}
 use Rattle.ap_kernel.proofs.Assumed.{fact_says}
 
 -- two masks that share no type
-apart : (m o i : ℕ) → bit_and m o ≡ 0 → bit_at m i ≡ 1 → bit_at o i ≡ 1 → ⊥
+pub apart : (m o i : ℕ) → bit_and m o ≡ 0 → bit_at m i ≡ 1 → bit_at o i ≡ 1 → ⊥
 apart m o i h k l =
     let e : min (bit_at m i) (bit_at o i) ≡ 0 = sym (bit_at_and m o i) ∙ ap (λ n. bit_at n i) h ∙ bit_at-zero i in
     absurd (omega arith)

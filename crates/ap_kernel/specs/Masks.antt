@@ -1,8 +1,9 @@
 -- What a mask says of a term under facts, and when it leaves one value alone.
-use Rattle.std.specs.Prelude.{ℕ, Bool, cond, not, ◌&&◌, ◌||◌, nat_eq, bit_and, pos}
+use Rattle.std.specs.Prelude.{◌≡◌, ℕ, Bool, cond, not, ◌&&◌, ◌||◌, nat_eq, bit_and, pos, [], ◌∷◌}
+use Rattle.ap_value.specs.declared.symbol.Symbol.{Symbol}
 use Rattle.ap_value.specs.declared.value.Value.{Value}
 use Rattle.ap_value.specs.Values.{V, int, val_of, value_eq}
-use Rattle.ap_term.specs.declared.term.Term.{Term, Quote}
+use Rattle.ap_term.specs.declared.term.Term.{Term, Quote, Call}
 use Rattle.ap_world.specs.declared.entry.Mask.{Mask}
 use Rattle.ap_world.specs.Primitives.{nil, t}
 use Rattle.ap_world.specs.Meaning.{Env, Defs, HasValue}
@@ -39,3 +40,7 @@ typed_mode m v = cond (has_only m v) Equal Iff
 
 abbrev pub typed_made : Ctx → Term → Mask → Value → Equiv
 typed_made c u m v = record { ctx = c; mode = typed_mode m (val_of v); lhs = u; rhs = Quote v }
+
+-- a call of this function on one argument
+abbrev pub IsCallOf : Symbol → Term → Type 0
+IsCallOf f u = (a : Term) × (u ≡ Call f (a ∷ []))

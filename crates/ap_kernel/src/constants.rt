@@ -78,6 +78,22 @@ pub(crate) fn t_term(alloc: Global) -> Result<Term, NoMemory>
     Ok(Term::Quote(Value::Sym(acl2(alloc, b"T")?)))
 }
 
+/// The symbol `equal`.
+#[tactic(auto, unfolding(ap_world::specs::Names::equal_name))]
+pub(crate) fn equal_symbol(alloc: Global) -> Result<Symbol, NoMemory>
+    ensures { IfOk result (λ s. s ≡ equal_name) }
+{
+    acl2(alloc, b"EQUAL")
+}
+
+/// The symbol `not`.
+#[tactic(auto, unfolding(ap_world::specs::Names::not_name))]
+pub(crate) fn not_symbol(alloc: Global) -> Result<Symbol, NoMemory>
+    ensures { IfOk result (λ s. s ≡ not_name) }
+{
+    acl2(alloc, b"NOT")
+}
+
 /// The symbol `if`.
 #[tactic(auto, unfolding(ap_world::specs::Names::if_name))]
 pub(crate) fn if_symbol(alloc: Global) -> Result<Symbol, NoMemory>

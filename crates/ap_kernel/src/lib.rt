@@ -5,30 +5,49 @@
 //! hold. Its fields are private: the rows below alone make one, and each row promises that its answer
 //! stands in the world that it is handed, and exactly what the answer is. What a row asks is proved by its
 //! caller: that the objects handed in stand, that terms and facts are terms of the world, and the row's own
-//! conditions.
+//! conditions. No row refuses; want of memory alone keeps it from answering.
 //!
-//! | row | from, to | stands here |
+//! # The rows that answer an equivalence
+//!
+//! | row | leads from, to | what it copies |
 //! |---|---|---|
-//! | [`refl`] | a term to itself | yes |
-//! | [`trans`] | by way of a middle term | yes |
-//! | [`weaken_mode`] | equality as equivalence under `iff` | yes |
-//! | [`cong`] | a call to the call of what its arguments lead to | yes |
-//! | [`branch`] | an `if` to the `if` of what its parts lead to | yes |
-//! | [`by_fact`] | a fact's term to `'T` or `'NIL` | yes |
-//! | [`by_type`] | a term to the one value that its mask leaves | yes |
-//! | `cons_equal`, `if_shape` | the shapes of `equal` and of `if` | not yet |
-//! | `open_def`, `apply_theorem`, `fold` | definitions, theorems and computed calls | not yet |
-//! | `by_certificate`, `both_not_less` | linear arithmetic | not yet |
-//! | `rewrite_literal`, `split_if`, `tidy`, `drop_literal`, `use_equality`, `fertilise`, `generalise`, `eliminate`, `use_fact`, `cases`, `induct`, `chain` | a clause to clauses | not yet |
+//! | [`refl`] | a term to itself | the term, once for each side |
+//! | [`trans`] | the first left side to the last right side | nothing |
+//! | [`weaken_mode`] | the same, equality as equivalence under `iff` | nothing |
+//! | [`cong`] | a call to the call of what its arguments lead to | the function's name, for each side |
+//! | [`branch`] | an `if` to the `if` of what its parts lead to | nothing |
+//! | [`by_fact`] | a fact's term to `'T` or `'NIL` | the fact's term |
+//! | [`by_type`] | a term to the one value that its mask leaves | the term |
+//! | [`cons_equal`] | an equation to what its sides, a fact or the parts of conses say | the equation, and the conses' parts |
+//! | [`if_shape`] | an `if` to the branch that is chosen, or to its simplest shape | the `if`, and what the right side has of it |
+//! | `open_def` | a call of a defined function to its body's instance | not built yet |
+//! | `apply_theorem` | the instance of a theorem's left side to that of its right side | not built yet |
+//! | `fold` | a call on constants to its value | not built yet |
+//! | `by_certificate`, `both_not_less` | an inequality or an equation to `'T` or `'NIL` | not built yet |
 //!
-//! What is copied: facts never, as they are shared, but where [`assume`] makes a longer list; terms where
-//! an equivalence must own what it was lent, which is in [`refl`], [`by_fact`] and [`by_type`]. [`trans`],
-//! [`weaken_mode`], [`branch`] and [`cong`] move the terms of what they are handed.
+//! An equivalence owns its sides, so that it can be taken apart and its terms moved into the next one: so a
+//! row that is lent a term copies it. What is handed in by value is moved. Facts are shared and never
+//! copied, but where [`assume`] makes a longer list; [`cons_equal`] and [`if_shape`] copy parts of what they
+//! were lent once more, for the right side.
+//!
+//! # The rows that answer a reduction
+//!
+//! None is built yet. To come, each from a clause to the clauses that are left: `rewrite_literal`,
+//! `split_if`, `tidy`, `drop_literal`, `use_equality`, `fertilise`, `generalise`, `eliminate`, `use_fact`,
+//! `cases`, `induct`; and `chain`, of one reduction after another.
+//!
+//! # What isn't a row
+//!
+//! [`assume`] gives the facts that a term's truth or falsehood adds to a context. [`equation_leads`] and
+//! [`is_choice`] test what [`cons_equal`] and [`if_shape`] ask of a term, and [`bare_test`] finds the term
+//! whose mask [`if_shape`] is handed. A [`TypeOracle`] says which types a term can have.
 #![tactic(auto)]
 
 mod assuming;
 mod calls;
+mod choices;
 mod constants;
+mod equations;
 mod facts;
 mod objects;
 mod plain;
@@ -42,6 +61,8 @@ pub use ap_value::{Symbol, Value};
 pub use ap_world::{Mask, World};
 pub use assuming::{assume, assumed_facts_hold};
 pub use calls::{branch, cong};
+pub use choices::{bare_test, if_shape, is_choice};
+pub use equations::{cons_equal, equation_leads};
 pub use facts::by_fact;
 pub use objects::{Ctx, Equiv, Mode};
 pub use plain::{refl, trans, weaken_mode};
@@ -50,3 +71,5 @@ pub use types::{TypeOracle, by_type};
 
 #[cfg(test)]
 mod tests;
+#[cfg(test)]
+mod written;

@@ -1,4 +1,5 @@
-use crate::{Body, Form, ReadError, forms};
+use crate::{Body, Form, ReadError, ReadKind, forms};
+use ap_tokens::{FaultKind, over};
 use ap_value::{Bytes, NoMemory, Symbol};
 use std::alloc::Global;
 use std::test::Fail;
@@ -10,41 +11,91 @@ fn after_first_line(alloc: Global, rest: &[u8]) -> Result<Bytes, NoMemory> {
     Ok(text)
 }
 
+/// The kind of a fault, as a call of the tokens or of the forms answers it.
+#[derive(Clone, Copy, PartialEq)]
+enum Kind {
+    Next(FaultKind),
+    Forms(ReadKind),
+}
+
+/// The first fault among the first twenty tokens of a text.
+fn token_fault(text: &[u8]) -> Option<(Kind, usize)> {
+    let mut tokens = over(text);
+    for _ in 0..20 {
+        if let Err(fault) = tokens.next() {
+            return Some((Kind::Next(fault.kind), fault.place));
+        }
+    }
+    None
+}
+
+fn form_fault(alloc: Global, text: &[u8]) -> Option<(Kind, usize)> {
+    match forms(alloc, text) {
+        Err(ReadError::Fault { place, kind }) => Some((Kind::Forms(kind), place)),
+        _ => None,
+    }
+}
+
+/// The fault of a text, as the call that has faults of this kind answers it.
+fn fault_like(alloc: Global, kind: Kind, text: &[u8]) -> Option<(Kind, usize)> {
+    match kind {
+        Kind::Next(_) => token_fault(text),
+        Kind::Forms(_) => form_fault(alloc, text),
+    }
+}
+
 #[test]
-fn each_fault_has_its_place(rt: HostRuntime) -> Result<(), Fail> {
+fn each_fault_kind_has_its_place(rt: HostRuntime) -> Result<(), Fail> {
     let alloc = rt.alloc();
     let open = [b'('; 401];
+    for (rest, kind, place) in [
+        (b"\"ab".as_slice(), Kind::Next(FaultKind::OpenString), 20),
+        (b"#| x", Kind::Next(FaultKind::OpenComment), 20),
+        (b"(a b|c", Kind::Next(FaultKind::OpenBar), 23),
+        (b"(a #y)", Kind::Next(FaultKind::BadHash), 23),
+        (b"'#\\Spac", Kind::Next(FaultKind::BadCharName), 21),
+        (b"(a \"b)", Kind::Forms(ReadKind::OpenString), 23),
+        (b"(a) #| #| |#", Kind::Forms(ReadKind::OpenComment), 24),
+        (b"a\\", Kind::Forms(ReadKind::OpenBar), 20),
+        (b"#x1g", Kind::Forms(ReadKind::BadHash), 20),
+        (b"#\\Nul", Kind::Forms(ReadKind::BadCharName), 20),
+        (&open[1..], Kind::Forms(ReadKind::OpenList), 419),
+        (b"a)", Kind::Forms(ReadKind::StrayClose), 21),
+        (b"1.", Kind::Forms(ReadKind::NotInteger), 20),
+        (
+            b"(defthm w (equal x 170141183460469231731687303715884105728))",
+            Kind::Forms(ReadKind::IntegerTooWide),
+            39,
+        ),
+        (&open, Kind::Forms(ReadKind::TooDeep), 420),
+        (b"(. a)", Kind::Forms(ReadKind::BadDot), 21),
+        (b"x:y", Kind::Forms(ReadKind::BadPackage), 20),
+    ] {
+        let text = after_first_line(alloc, rest)?;
+        let fault = fault_like(alloc, kind, text.as_slice());
+        assert!(rt; fault == Some((kind, place)), "at {place}");
+    }
+    Ok(())
+}
+
+#[test]
+fn a_fault_is_at_the_first_byte_of_its_token(rt: HostRuntime) -> Result<(), Fail> {
+    let alloc = rt.alloc();
     for (rest, number, place) in [
-        (b"\"ab".as_slice(), 1, 20),
-        (b"#| x", 2, 20),
-        (b"(a b|c", 3, 23),
-        (b"#y", 4, 20),
-        (b"#\\Spac", 5, 20),
-        (&open[1..], 6, 419),
-        (b"(a '", 6, 23),
+        (b"(a '".as_slice(), 6, 23),
         (b"(a . b", 6, 20),
-        (b"a)", 7, 21),
         (b"(a ')", 7, 24),
         (b"(a . ')", 7, 26),
-        (b"1.", 8, 20),
         (b"(a . 1/2)", 8, 25),
         (b"-.5", 8, 20),
         (b"+1.5E-2", 8, 20),
-        (
-            b"(defthm w (equal x 170141183460469231731687303715884105728))",
-            9,
-            39,
-        ),
         (b"#x-80000000000000000000000000000001", 9, 20),
-        (&open, 10, 420),
         (b".", 11, 20),
         (b"'.", 11, 21),
-        (b"(. a)", 11, 21),
         (b"(a . )", 11, 23),
         (b"(a . b c)", 11, 23),
         (b"(a . . b)", 11, 23),
         (b"...", 11, 20),
-        (b"x:y", 12, 20),
         (b"acl2:x", 12, 20),
         (b"::x", 12, 20),
     ] {

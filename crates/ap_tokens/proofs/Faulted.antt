@@ -1,5 +1,5 @@
 -- Where a fault is answered, and what is wrong there.
-use Rattle.std.proofs.Common.{◌≡◌, ℕ, ◌+◌, ◌<◌, ◌≤◌, ◌==◌, ◌&&◌, ◌||◌, Bool, true, false, List, [], ◌∷◌, ◌++◌, length, take, drop, Option, Some, None, Result, Ok, Err, zero, suc, refl, sym, ap, subst, ◌∙◌, arith, append_assoc, length-append}
+use Rattle.std.proofs.Common.{◌≡◌, ◌≢◌, ℕ, ◌+◌, ◌<◌, ◌≤◌, ◌==◌, ◌&&◌, ◌||◌, Bool, true, false, List, [], ◌∷◌, ◌++◌, length, take, drop, Option, Some, None, Result, Ok, Err, zero, suc, refl, sym, ap, subst, ◌∙◌, arith, append_assoc, length-append}
 use Rattle.std.specs.Prelude.{if◌then◌else◌, is_some}
 use Rattle.std.proofs.lemmas.List.{take-append-drop, length-take-le, length-drop}
 use Rattle.ap_tokens.specs.declared.token.Kind.{Kind}
@@ -11,6 +11,7 @@ use Rattle.ap_tokens.specs.declared.gap.Start.{Start}
 use Rattle.ap_tokens.specs.declared.gap.Start.TheVariants as start
 use Rattle.ap_tokens.specs.declared.gap.Step.{Step}
 use Rattle.ap_tokens.specs.declared.gap.Step.TheVariants.{Pass, Stay, Open}
+use Rattle.ap_tokens.specs.declared.hash.Base.{Base}
 use Rattle.ap_tokens.specs.declared.hash.Hash.{Hash}
 use Rattle.ap_tokens.specs.declared.hash.Hash.TheVariants as hash
 use Rattle.ap_tokens.specs.declared.tokens.Lead.{Lead}
@@ -81,46 +82,57 @@ string_fault None t k s e =
         let g : ◌≡◌ {A = Option ℕ} (Some n) None = sym o ∙ s in
         cc
 
-atom_fault : (o : Option ℕ) (c : ℕ) (t : List ℕ) (k : FaultKind) → lead_of c ≡ lead.Atom → atom_by c o ≡ Err k → Broken k (c ∷ t)
-atom_fault (Some n) c t k d e = absurd (by_test (n == 0 && c == 46) e)
+abbrev Here : ℕ → List ℕ → Type 0
+Here c t = start_of (c ∷ t) ≡ start.Other
+
+atom_fault : (o : Option ℕ) (c : ℕ) (t : List ℕ) (k : FaultKind) → Here c t → lead_of c ≡ lead.Atom → atom_by c o ≡ Err k → Broken k (c ∷ t)
+atom_fault (Some n) c t k h d e = absurd (by_test (n == 0 && c == 46) e)
   where
     by_test : (x : Bool) → ◌≡◌ {A = Result (Kind × ℕ) FaultKind} (if x then Ok (kinds.Dot, 1) else Ok (kinds.Atom, 1 + n)) (Err k) → ⊥
     by_test true h = cc
     by_test false h = cc
-atom_fault None c t k d e = let w : faults.OpenBar ≡ k = cc in subst (λ i. Broken i (c ∷ t)) w (c, (t, (refl, d)))
+atom_fault None c t k h d e = let w : faults.OpenBar ≡ k = cc in subst (λ i. Broken i (c ∷ t)) w (h, (c, (t, (refl, d))))
 
-bad_hash : (t : List ℕ) (k : FaultKind) → faults.BadHash ≡ k → Broken k (35 ∷ t)
-bad_hash t k w = subst (λ i. Broken i (35 ∷ t)) w (t, refl)
+bad_hash : (t : List ℕ) (k : FaultKind) → Here 35 t → ((c : ℕ) (u : List ℕ) → t ≢ 92 ∷ c ∷ u) → faults.BadHash ≡ k → Broken k (35 ∷ t)
+bad_hash t k h n w = subst (λ i. Broken i (35 ∷ t)) w (h, (t, (refl, n)))
 
 where_fault : (b : Bool) (k : Kind) (n : ℕ) (f g : FaultKind) → where_true b k n f ≡ Err g → f ≡ g
 where_fault true k n f g e = absurd cc
 where_fault false k n f g e = cc
 
-hash_fault : (h : Hash) (c : ℕ) (t : List ℕ) (k : FaultKind) → Hashed h c → hashed_by h t ≡ Err k → Broken k (35 ∷ c ∷ t)
-hash_fault hash.Character c [] k w e = bad_hash (c ∷ []) k cc
-hash_fault hash.Character c (d ∷ t) k w e =
+-- no backslash follows
+no_character : (c : ℕ) (t : List ℕ) → c ≢ 92 → (d : ℕ) (u : List ℕ) → c ∷ t ≢ 92 ∷ d ∷ u
+no_character c t n d u e = let p : c ≡ 92 = cc in n p
+
+no_base : (b : Base) (c : ℕ) → hash_of (c ∷ []) ≡ hash.Number b → c ≢ 92
+no_base b c w e = let p : hash.Character ≡ hash.Number b = ap (λ x. hash_of (x ∷ [])) (sym e) ∙ w in cc
+
+hash_fault : (h : Hash) (c : ℕ) (t : List ℕ) (k : FaultKind) → Here 35 (c ∷ t) → Hashed h c → hashed_by h t ≡ Err k → Broken k (35 ∷ c ∷ t)
+hash_fault hash.Character c [] k h w e = bad_hash (c ∷ []) k h (λ d u x. cc) cc
+hash_fault hash.Character c (d ∷ t) k h w e =
     let z = where_fault (run_len t == 0 || is_some (char_name (take (1 + run_len t) (d ∷ t)))) kinds.Character (3 + run_len t) faults.BadCharName k e in
     subst (λ i. Broken i (35 ∷ c ∷ d ∷ t)) z (d, (t, ap (λ x. 35 ∷ x ∷ d ∷ t) w))
-hash_fault (hash.Number b) c t k w e =
-    bad_hash (c ∷ t) k (where_fault (is_number_of b (take (run_len t) t)) kinds.Based (2 + run_len t) faults.BadHash k e)
-hash_fault hash.Bad c t k w e = bad_hash (c ∷ t) k cc
+hash_fault (hash.Number b) c t k h w e =
+    bad_hash (c ∷ t) k h (no_character c t (no_base b c w)) (where_fault (is_number_of b (take (run_len t) t)) kinds.Based (2 + run_len t) faults.BadHash k e)
+hash_fault hash.Bad c t k h w e = bad_hash (c ∷ t) k h (no_character c t w) cc
 
-lead_fault : (d : Lead) (c : ℕ) (t : List ℕ) (k : FaultKind) → lead_of c ≡ d → Led d c → token_by d c t ≡ Err k → Broken k (c ∷ t)
+lead_fault : (d : Lead) (c : ℕ) (t : List ℕ) (k : FaultKind) → Here c t → lead_of c ≡ d → Led d c → token_by d c t ≡ Err k → Broken k (c ∷ t)
 unfolding hashed_of
-lead_fault lead.LeftParen c t k s p e = absurd cc
-lead_fault lead.RightParen c t k s p e = absurd cc
-lead_fault lead.Quote c t k s p e = absurd cc
-lead_fault lead.Backquote c t k s p e = absurd cc
-lead_fault lead.Comma c t k s p e = absurd cc
-lead_fault lead.Text c t k s p e = subst (λ x. Broken k (x ∷ t)) (sym p) (string_fault (string_len false t) t k refl e)
-lead_fault lead.Hash c [] k s p e = subst (λ x. Broken k (x ∷ [])) (sym p) (bad_hash [] k cc)
-lead_fault lead.Hash c (d ∷ t) k s p e =
-    subst (λ x. Broken k (x ∷ d ∷ t)) (sym p) (hash_fault (hash_of (d ∷ [])) d t k (hashed (hash_of (d ∷ [])) d refl) e)
-lead_fault lead.Atom c t k s p e = atom_fault (atom_len (c == 124) (c == 92) t) c t k s e
+lead_fault lead.LeftParen c t k h s p e = absurd cc
+lead_fault lead.RightParen c t k h s p e = absurd cc
+lead_fault lead.Quote c t k h s p e = absurd cc
+lead_fault lead.Backquote c t k h s p e = absurd cc
+lead_fault lead.Comma c t k h s p e = absurd cc
+lead_fault lead.Text c t k h s p e = subst (λ x. Broken k (x ∷ t)) (sym p) (string_fault (string_len false t) t k refl e)
+lead_fault lead.Hash c [] k h s p e = subst (λ x. Broken k (x ∷ [])) (sym p) (bad_hash [] k (subst (λ x. Here x []) p h) (λ d u x. cc) cc)
+lead_fault lead.Hash c (d ∷ t) k h s p e =
+    subst (λ x. Broken k (x ∷ d ∷ t)) (sym p)
+    (hash_fault (hash_of (d ∷ [])) d t k (subst (λ x. Here x (d ∷ t)) p h) (hashed (hash_of (d ∷ [])) d refl) e)
+lead_fault lead.Atom c t k h s p e = atom_fault (atom_len (c == 124) (c == 92) t) c t k h s e
 
-token_fault : (c : ℕ) (t : List ℕ) (k : FaultKind) → token_of c t ≡ Err k → Broken k (c ∷ t)
+token_fault : (c : ℕ) (t : List ℕ) (k : FaultKind) → Here c t → token_of c t ≡ Err k → Broken k (c ∷ t)
 unfolding token_of
-token_fault c t k e = lead_fault (lead_of c) c t k refl (led c) e
+token_fault c t k h e = lead_fault (lead_of c) c t k h refl (led c) e
 
 abbrev Next : Type 0
 Next = Result (Option (Seen × At)) TokenFault
@@ -141,7 +153,7 @@ cut_fault a h f c t (Err k) p w broken e =
 
 here_fault : (a h : At) (f : TokenFault) (t : List ℕ) → h.rest ≡ t → Passes a.place a.rest h → ◌≡◌ {A = Next} (token_here h.place t) (Err f) → Faulty a.place a.rest f
 here_fault a h f [] w p e = absurd cc
-here_fault a h f (c ∷ t) w p e = cut_fault a h f c t (token_of c t) p w (λ k g. token_fault c t k g) e
+here_fault a h f (c ∷ t) w p e = cut_fault a h f c t (token_of c t) p w (λ k g. token_fault c t k (subst (λ x. start_of x ≡ start.Other) w p.here) g) e
 
 pub faulted : (a : At) (f : TokenFault) → next_of a ≡ Err f → Faulty a.place a.rest f
 unfolding next_of

@@ -87,7 +87,7 @@ text_spelled (Some m) t l n s e =
 abbrev pub Hashed : Hash → ℕ → Type 0
 Hashed hash.Character c = c ≡ 92
 Hashed (hash.Number b) c = hash_of (c ∷ []) ≡ hash.Number b
-Hashed hash.Bad c = Unit {0}
+Hashed hash.Bad c = c ≢ 92
 
 pub hashed : (h : Hash) (c : ℕ) → hash_of (c ∷ []) ≡ h → Hashed h c
 hashed hash.Character c e = by_test (c == 92) refl (c == 120 || c == 88) (c == 111 || c == 79) (c == 98 || c == 66) e
@@ -99,7 +99,11 @@ hashed hash.Character c e = by_test (c == 92) refl (c == 120 || c == 88) (c == 1
     by_test false p false false true h = absurd cc
     by_test false p false false false h = absurd cc
 hashed (hash.Number b) c e = e
-hashed hash.Bad c e = tt
+hashed hash.Bad c e = by_test (c == 92) refl (c == 120 || c == 88) (c == 111 || c == 79) (c == 98 || c == 66) e
+  where
+    by_test : (a : Bool) → (c == 92) ≡ a → (x y z : Bool) → hash_by a x y z ≡ hash.Bad → c ≢ 92
+    by_test true p x y z h = absurd cc
+    by_test false p x y z h = differ c 92 p
 
 name_of_one : (a b : Bool) (r : ℕ) (t : List ℕ) → (r == 0) ≡ a → (a || b) ≡ true → (take r t ≡ []) ⊎ (b ≡ true)
 name_of_one true b r t p e = inl (ap (λ i. take i t) (same r 0 p))

@@ -1,5 +1,5 @@
 -- What the grammar says of the next token.
-use Rattle.std.specs.Prelude.{◌≡◌, ℕ, ◌+◌, ◌<◌, List, ◌∷◌, ◌++◌, length, Ok, Some}
+use Rattle.std.specs.Prelude.{◌≡◌, ◌≢◌, ℕ, ◌+◌, ◌<◌, List, ◌∷◌, ◌++◌, length, Ok, Some}
 use Rattle.ap_tokens.specs.declared.token.Kind.{Kind}
 use Rattle.ap_tokens.specs.declared.gap.Start.TheVariants as start
 use Rattle.ap_tokens.specs.Gaps.{At, start_of}
@@ -34,12 +34,13 @@ pub record Answered (a : At) (k : Kind) (u : List ℕ) : Type 0 where
   pub kind : token.kind ≡ k
   pub rest : after.rest ≡ u
 
--- what is wrong with a text at the place of a fault; that it begins with no token is said beside it
+-- What is wrong with a text at the place of a fault, by how it begins: a text is broken in one of these ways at most.
+-- That it begins with no token is said beside it.
 abbrev pub Broken : FaultKind → List ℕ → Type 0
 Broken faults.OpenComment t = (v : List ℕ) × ((t ≡ 35 ∷ 124 ∷ v) × ((u : List ℕ) → Comment 0 v u → ⊥))
 Broken faults.OpenString t = (v : List ℕ) × ((t ≡ 34 ∷ v) × ((u : List ℕ) → Quoted v u → ⊥))
-Broken faults.OpenBar t = (c : ℕ) × ((v : List ℕ) × ((t ≡ c ∷ v) × (lead_of c ≡ lead.Atom)))
-Broken faults.BadHash t = (v : List ℕ) × (t ≡ 35 ∷ v)
+Broken faults.OpenBar t = (start_of t ≡ start.Other) × ((c : ℕ) × ((v : List ℕ) × ((t ≡ c ∷ v) × (lead_of c ≡ lead.Atom))))
+Broken faults.BadHash t = (start_of t ≡ start.Other) × ((v : List ℕ) × ((t ≡ 35 ∷ v) × ((c : ℕ) (u : List ℕ) → v ≢ 92 ∷ c ∷ u)))
 Broken faults.BadCharName t = (c : ℕ) × ((v : List ℕ) × (t ≡ 35 ∷ 92 ∷ c ∷ v))
 
 -- From place p and text t on, blanks and whole comments lead to the place of the fault.

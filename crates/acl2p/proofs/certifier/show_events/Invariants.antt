@@ -4,8 +4,8 @@ use Rattle.acl2p.proofs.Showing.{SoFar}
 use Rattle.acl2p.proofs.certifier.show_events.Given as goal
 
 -- the text of the events so far was gained, and what is left gives the rest
-abbrev pub invariant-loop-line : goal.invariant-loop-line
-invariant-loop-line g l = record {
-  so_far : SoFar (g.S.Sink.content l.fn.sink) (g.S.Sink.content l.sink) (events_of l.lines l.fn.world) (events_of (drop l.line-index l.lines) l.world);
+abbrev pub invariant-loop-form : goal.invariant-loop-form
+invariant-loop-form g l = record {
+  so_far : SoFar (g.S.Sink.content l.fn.sink) (g.S.Sink.content l.sink) (events_of l.events l.fn.world) (events_of (drop l.form-index l.events) l.world);
   later : g.S.Sink.faults l.fn.sink ≤ g.S.Sink.faults l.sink;
 }

@@ -1,5 +1,4 @@
-use Rattle.std.proofs.Common.{◌≡◌, ◌∙◌, sym, ap, ℕ, ◌+◌, ◌<◌, ◌≤◌, min, false, None, length, drop, zip, ◌∷◌, get_or, rules, arith}
-use Rattle.std.proofs.Math.Seq.{drop-cons}
+use Rattle.std.proofs.Common.{◌≡◌, ◌∙◌, sym, ap, ◌<◌, ◌≤◌, min, false, length, rules}
 use Rattle.ap_list.specs.Lists.{lookup_by}
 use Rattle.ap_value.specs.Values.{symbol_eq}
 use Rattle.ap_eval.proofs.Binding.{bound_next, bound_end}

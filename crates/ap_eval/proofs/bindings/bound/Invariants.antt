@@ -1,4 +1,4 @@
-use Rattle.std.proofs.Common.{◌≡◌, ◌≤◌, drop, zip, length}
+use Rattle.std.proofs.Common.{◌≡◌, drop, zip}
 use Rattle.ap_list.specs.Lists.{lookup_by}
 use Rattle.ap_value.specs.Values.{symbol_eq}
 use Rattle.ap_eval.proofs.bindings.bound.Given as goal

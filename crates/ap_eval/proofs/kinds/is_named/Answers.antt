@@ -1,4 +1,4 @@
-use Rattle.std.proofs.Common.{◌≡◌, true, false, refl, rules}
+use Rattle.std.proofs.Common.{◌≡◌, true, false, rules}
 use Rattle.ap_eval.proofs.Sameness.{spelt_named, keyword_named}
 use Rattle.ap_eval.proofs.kinds.is_named.Goals as goal
 

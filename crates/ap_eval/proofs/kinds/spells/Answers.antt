@@ -1,4 +1,4 @@
-use Rattle.std.proofs.Common.{◌≡◌, ◌↔◌, ◌<◌, ℕ, IsTrue, slice_index, rules}
+use Rattle.std.proofs.Common.{◌≡◌, ◌↔◌, IsTrue, rules}
 use Rattle.ap_value.proofs.Bytes.{texts_meant, AreSmall}
 use Rattle.ap_eval.proofs.kinds.spells.Goals as goal
 

@@ -1,4 +1,4 @@
-use Rattle.std.proofs.Common.{◌≡◌, neg_ℤ, rules}
+use Rattle.std.proofs.Common.{neg_ℤ, rules}
 use Rattle.std.specs.Option.{SomeIff}
 use mir.Val.{SFits}
 use mir.Syntax.{w128}

@@ -1,9 +1,6 @@
-use Rattle.std.proofs.Common.{◌≡◌, ◌≢◌, ◌∙◌, ◌+◌, ◌-◌, ◌<◌, ◌≤◌, ◌∷◌, ◌++◌, [], true, Some, None, length, drop, map, refl, ap, sym, rules}
-use Rattle.ap_world.specs.Primitives.{prim_of}
+use Rattle.std.proofs.Common.{◌≡◌, Some, length, refl, rules}
 use Rattle.ap_world.specs.World.{function_of}
-use Rattle.ap_world.specs.Units.{is_choice, run, head_run, calls_run}
 use Rattle.ap_eval.specs.Answers.{assigned}
-use Rattle.ap_eval.specs.Machine.{point, ready}
 use Rattle.ap_eval.proofs.Steps.{body_step}
 use Rattle.ap_eval.proofs.running.enter_body.Goals as goal
 

@@ -1,9 +1,7 @@
-use Rattle.std.proofs.Common.{◌≡◌, ◌≢◌, ◌∙◌, ◌+◌, ◌-◌, ◌<◌, ◌≤◌, ◌∷◌, ◌++◌, [], true, Some, None, length, drop, map, refl, ap, sym, rules}
-use Rattle.ap_world.specs.Primitives.{prim_of}
+use Rattle.std.proofs.Common.{◌≡◌, ◌<◌, ◌≤◌, ◌∷◌, [], length, refl, rules}
 use Rattle.ap_world.specs.World.{function_of}
-use Rattle.ap_world.specs.Units.{is_choice, run, head_run, calls_run}
+use Rattle.ap_world.specs.Units.{calls_run}
 use Rattle.ap_eval.specs.Answers.{assigned}
-use Rattle.ap_eval.specs.Machine.{point, ready}
 use Rattle.ap_eval.proofs.Runs.{three_terms}
 use Rattle.ap_eval.proofs.Steps.{test_step, few_chosen, many_chosen}
 use Rattle.ap_eval.proofs.running.enter_if.Goals.{in_default-via-then-terms-lt3, in_default-via-else-terms-lt3+else-terms-lt4}

@@ -1,8 +1,7 @@
-use Rattle.std.proofs.Common.{◌≡◌, ◌≢◌, ◌∙◌, ◌+◌, ◌-◌, ◌<◌, ◌≤◌, ◌∷◌, ◌++◌, [], true, Some, None, length, drop, map, refl, ap, sym, rules}
+use Rattle.std.proofs.Common.{◌≡◌, None, ap, sym, rules}
 use Rattle.ap_world.specs.Primitives.{prim_of}
 use Rattle.ap_world.specs.World.{function_of}
-use Rattle.ap_world.specs.Units.{is_choice, run, head_run, calls_run}
-use Rattle.ap_eval.specs.Answers.{assigned}
+use Rattle.ap_world.specs.Units.{calls_run}
 use Rattle.ap_eval.specs.Machine.{point, ready}
 use Rattle.ap_eval.proofs.Steps.{follows_same}
 use Rattle.ap_eval.proofs.running.finish.Goals as goal

@@ -1,9 +1,6 @@
-use Rattle.std.proofs.Common.{◌≡◌, ◌≢◌, ◌∙◌, ◌+◌, ◌-◌, ◌<◌, ◌≤◌, ◌∷◌, ◌++◌, [], true, Some, None, length, drop, take, map, refl, ap, sym, rules}
-use Rattle.ap_world.specs.Primitives.{prim_of}
+use Rattle.std.proofs.Common.{◌-◌, ◌<◌, length, drop, take, refl, rules}
 use Rattle.ap_world.specs.World.{function_of}
-use Rattle.ap_world.specs.Units.{is_choice, run, head_run, calls_run}
 use Rattle.ap_eval.specs.Answers.{assigned}
-use Rattle.ap_eval.specs.Machine.{point, ready}
 use Rattle.ap_eval.proofs.Binding.{first_and_rest}
 use Rattle.ap_eval.proofs.Steps.{argument_step}
 use Rattle.ap_eval.proofs.running.next_argument.Goals as goal

@@ -1,0 +1,178 @@
+ghost use Rattle.std.specs.Prelude.{◌≡◌, IsTrue, IfOk, IfSome, is_some};
+ghost use Rattle.std.specs.Option.{option_map};
+ghost use Rattle.ap_list.specs.Lists.{lookup_by};
+ghost use Rattle.ap_term.specs.Equal.{term_eq};
+ghost use Rattle.ap_world.specs.Sound.{known};
+ghost use Rattle.ap_world.specs.World.{function_of};
+ghost use Rattle.ap_kernel.specs.Standing.{KnownFacts, Stands};
+ghost use Rattle.ap_kernel.specs.Equations.{equal_of, truth_constant, cons_parts, apart, sides_lead, equation_leads, equation_made, seen_parts, seen_leads};
+
+use crate::calls::if_term;
+use crate::constants::{equal_symbol, nil_term, t_term};
+use crate::objects::{Ctx, Equiv, Mode};
+use crate::shapes::{ShapeRef, shape_of};
+use ap_list::{NoMemory, Seq};
+use ap_term::{Term, copy_term, same_term};
+use ap_value::{Value, copy};
+use ap_world::World;
+use std::alloc::Global;
+
+/// The two parts of a cons: terms, or values that are constants.
+#[derive(Clone, Copy)]
+enum Parts<'a> {
+    Terms(&'a Term, &'a Term),
+    Constants(&'a Value, &'a Value),
+}
+
+/// Where an equation leads: to `'T` or `'NIL`, or to the equations of its sides' parts.
+#[derive(Clone, Copy)]
+enum Leads<'a> {
+    Truth(bool),
+    Apart(Parts<'a>, Parts<'a>),
+}
+
+/// Whether two terms are one, as the test that definitions choose by. Takes no memory.
+pub(crate) fn is_same(a: &Term, b: &Term) -> bool
+    ensures { result ≡ term_eq a.now b.now }
+{
+    same_term(a, b)
+}
+
+/// Whether a term is `(equal a b)`. Takes no memory.
+fn is_equation(t: &Term, a: &Term, b: &Term) -> bool
+    ensures { result ≡ term_eq (equal_of a.now b.now) t.now }
+{
+    match shape_of(t) {
+        ShapeRef::Equal(x, y) => is_same(a, x) && is_same(b, y),
+        _ => false,
+    }
+}
+
+/// The sign of the first fact on `(equal a b)`, which isn't built for it.
+fn sign_of(facts: &[(Term, bool)], a: &Term, b: &Term) -> Option<bool>
+    ensures { result ≡ lookup_by term_eq facts.now (equal_of a.now b.now) }
+{
+    for (t, sign) in facts {
+        if is_equation(t, a, b) {
+            return Some(*sign);
+        }
+    }
+    None
+}
+
+/// The two parts of a cons, lent, where the term is one.
+fn cons_parts(t: &Term) -> Option<Parts<'_>>
+    ensures { option_map seen_parts result ≡ cons_parts t.now }
+{
+    match shape_of(t) {
+        ShapeRef::Cons(a, b) => Some(Parts::Terms(a, b)),
+        ShapeRef::Constant(Value::Cons(a, b)) => Some(Parts::Constants(a.get(), b.get())),
+        _ => None,
+    }
+}
+
+/// Where `(equal a b)` leads, if it does.
+fn sides_lead<'a>(facts: &[(Term, bool)], a: &'a Term, b: &'a Term) -> Option<Leads<'a>>
+    ensures { option_map seen_leads result ≡ sides_lead facts.now a.now b.now }
+{
+    if is_same(a, b) {
+        return Some(Leads::Truth(true));
+    }
+    if let Some(sign) = sign_of(facts, b, a) {
+        return Some(Leads::Truth(sign));
+    }
+    let first = cons_parts(a)?;
+    let second = cons_parts(b)?;
+    Some(Leads::Apart(first, second))
+}
+
+/// Where a term leads, if it is such an equation.
+fn leads_of<'a>(facts: &[(Term, bool)], t: &'a Term) -> Option<Leads<'a>>
+    ensures { option_map seen_leads result ≡ equation_leads facts.now t.now }
+{
+    match shape_of(t) {
+        ShapeRef::Equal(a, b) => sides_lead(facts, a, b),
+        _ => None,
+    }
+}
+
+/// `(equal a b)`
+fn equal_term(alloc: Global, a: Term, b: Term) -> Result<Term, NoMemory>
+    ensures { IfOk result (λ u. u ≡ equal_of a b) }
+{
+    let mut sides = Seq::new(alloc);
+    sides.push(a)?;
+    sides.push(b)?;
+    Ok(Term::Call(equal_symbol(alloc)?, sides))
+}
+
+/// `'T` or `'NIL`
+fn truth_term(alloc: Global, sign: bool) -> Result<Term, NoMemory>
+    ensures { IfOk result (λ u. u ≡ truth_constant sign) }
+{
+    if sign { t_term(alloc) } else { nil_term(alloc) }
+}
+
+/// The two parts, copied.
+fn own_parts(alloc: Global, parts: Parts<'_>) -> Result<(Term, Term), NoMemory>
+    ensures { IfOk result (λ p. p ≡ seen_parts parts.entry) }
+{
+    match parts {
+        Parts::Terms(a, b) => Ok((copy_term(alloc, a)?, copy_term(alloc, b)?)),
+        Parts::Constants(a, b) => {
+            let first = Term::Quote(copy(alloc, a)?);
+            let rest = Term::Quote(copy(alloc, b)?);
+            Ok((first, rest))
+        }
+    }
+}
+
+/// The equations of the parts of two conses.
+fn apart(alloc: Global, a: Parts<'_>, b: Parts<'_>) -> Result<Term, NoMemory>
+    ensures { IfOk result (λ u. u ≡ apart (seen_parts a.entry) (seen_parts b.entry)) }
+{
+    let (a_first, a_rest) = own_parts(alloc, a)?;
+    let (b_first, b_rest) = own_parts(alloc, b)?;
+    let first = equal_term(alloc, a_first, b_first)?;
+    let rest = equal_term(alloc, a_rest, b_rest)?;
+    if_term(alloc, first, rest, nil_term(alloc)?)
+}
+
+/// Where an equation leads, built.
+fn own_leads(alloc: Global, leads: Leads<'_>) -> Result<Term, NoMemory>
+    ensures { IfOk result (λ u. u ≡ seen_leads leads.entry) }
+{
+    match leads {
+        Leads::Truth(sign) => truth_term(alloc, sign),
+        Leads::Apart(a, b) => apart(alloc, a, b),
+    }
+}
+
+/// Whether [`cons_equal`] leads on from a term: it is an equation of a term and itself, or one whose sides
+/// exchanged are the term of a fact, or one of two conses. Takes no memory.
+pub fn equation_leads(ctx: &Ctx, t: &Term) -> bool
+    ensures { result ≡ is_some (equation_leads ctx.now.0 t.now) }
+{
+    leads_of(ctx.facts(), t).is_some()
+}
+
+/// From an equation, under equality: of a term and itself to `'T`; where the first fact on the equation
+/// with its sides exchanged is true to `'T`, where it is false to `'NIL`; else, of two conses, to the `if`
+/// of the equation of their first parts, the equation of their second parts, and `'NIL`. A constant that
+/// is a cons counts as the cons of its parts as constants. It copies the equation, since an equivalence
+/// owns its sides, and the parts of conses, since the left side keeps its own.
+pub fn cons_equal(alloc: Global, w: &World, ctx: &Ctx, t: &Term) -> Result<Equiv, NoMemory>
+    requires facts { KnownFacts (function_of w.now.entries) ctx.now.0 }
+    requires term { IsTrue (known (function_of w.now.entries) t.now) }
+    requires leads { IsTrue (is_some (equation_leads ctx.now.0 t.now)) }
+    ensures stands { IfOk result (λ q. Stands (function_of w.now.entries) q) }
+    ensures made { IfOk result (λ q. IfSome (equation_leads ctx.now.0 t.now) (λ u. q ≡ equation_made ctx.now t.now u)) }
+{
+    w.is_sound();
+    let Some(leads) = leads_of(ctx.facts(), t) else {
+        unreachable!()
+    };
+    let lhs = copy_term(alloc, t)?;
+    let rhs = own_leads(alloc, leads)?;
+    Ok(Equiv::made(ctx.share()?, Mode::Equal, lhs, rhs))
+}

@@ -1,0 +1,13 @@
+pub mod Meant
+pub mod Tokens
+pub mod Strings
+pub mod Characters
+pub mod Bytes
+pub mod Integers
+pub mod Names
+pub mod Shapes
+pub mod Symbols
+pub mod Folds
+pub mod Stands
+pub mod Values
+pub mod Read
