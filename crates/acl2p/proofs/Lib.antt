@@ -1,6 +1,5 @@
 pub mod Constants
 pub mod Grammars
 pub mod Calls
-pub mod Starting
 pub mod Proving
 pub mod Showing

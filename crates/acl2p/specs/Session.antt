@@ -1,8 +1,7 @@
 -- The session: what is printed, which status and which world the words and the books give.
 use Rattle.std.specs.Prelude.{◌≡◌, ℕ, Bool, true, false, cond, List, [], ◌∷◌, ◌++◌, Option, Some, None, Result, Ok, Err, codes, IfSome}
-use Rattle.ap_world.specs.Sound.{not_function}
+use Rattle.ap_world.specs.Ground.{ground}
 use Rattle.ap_world.specs.World.{Shown}
-use Rattle.ap_world.specs.declared.entry.Entry.TheVariants as entry
 use Rattle.ap_outside.specs.declared.library.BookRead.{BookRead}
 use Rattle.ap_outside.specs.declared.library.BookRead.TheVariants.{Absent, TooLong, Found}
 use Rattle.ap_tokens.specs.Gaps.{at}
@@ -19,9 +18,9 @@ use Rattle.acl2p.specs.Shapes.{is_package}
 use Rattle.acl2p.specs.Events.{event_of}
 use Rattle.acl2p.specs.Texts.{usage_text, opening, closing, absent_text, too_long_text, read_error_text, no_package_text}
 
--- the world that a session begins with: `not`, and nothing disabled
+-- the world that a session begins with: the ground world, with everything enabled
 unfoldable pub start : Shown
-start = record { entries = entry.Function not_function ∷ []; theory = record { disabled = [] } }
+start = record { entries = ground; theory = record { disabled = [] } }
 
 -- a book's text between its first and last lines, whether it is certified, and the world after it
 pub record Body : Type 0 where

@@ -245,6 +245,24 @@ x:y => Read error 12 BadPackage at 20
 (defthm a (equal '(a ,b) '(a ,b)) :rule-classes nil) => DEFTHM refused 1 NotSupported
 (defthm a (if x y z) :rule-classes nil) => DEFTHM refused 1 NotSupported"##;
 
+/// Names that are taken: a primitive's, a function's and a rule's of the ground world.
+const TAKEN: [&str; 4] = ["COERCE", "NOT", "MAKE-CHARACTER-LIST", "COERCE-INVERSE"];
+
+#[test]
+fn names_of_the_ground_world_are_taken(rt: HostRuntime) -> Result<(), Fail> {
+    let alloc = rt.alloc();
+    for name in TAKEN {
+        let book = format!(in alloc;
+            "(in-package \"ACL2\")\n(defthm {name} (equal x x) :rule-classes nil)"
+        )?;
+        let text = format!(in alloc;
+            "Book b\nDEFTHM {name}\nDEFTHM {name} refused 3 NameTaken\nBook b not certified\n"
+        )?;
+        prints(&rt, alloc, book.as_bytes(), text.as_bytes())?;
+    }
+    Ok(())
+}
+
 #[test]
 fn each_fault_and_refusal_is_printed(rt: HostRuntime) -> Result<(), Fail> {
     let alloc = rt.alloc();
