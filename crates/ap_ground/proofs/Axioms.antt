@@ -5,23 +5,22 @@ use Rattle.std.proofs.lemmas.Bool.{ltb-false}
 use Rattle.std.proofs.lemmas.Int.{ints}
 use borrow.Author.Differences.{up, down, sum_is_lem, product_is}
 use Rattle.ap_list.specs.Lists.{Each}
-use Rattle.ap_value.specs.Values.{V, Byte, int, chr, str, sym as symbol, cons, value_eq, byte_of}
+use Rattle.ap_value.specs.Values.{V, Byte, int, chr, str, cons, value_eq, byte_of}
 use Rattle.ap_value.proofs.Equals.{value_eq-same}
 use Rattle.ap_value.proofs.Bytes.{byte_of_code}
 use Rattle.ap_term.specs.declared.term.Term.{Term}
-use Rattle.ap_world.specs.declared.entry.Theorem.{Theorem}
 use Rattle.ap_world.specs.Names.{equal_name, list_name, string_name, x_name, y_name, z_name}
 use Rattle.ap_world.specs.Primitives.{nil, t, truth, is_cons, is_character, is_string, int_of, car_of, cdr_of, char_code_of, code_char_of, coerce_of, chars_to, chars_from, symbol_value}
 use Rattle.ap_world.specs.Meaning.{Env, value_at, Valid}
 use Rattle.ap_world.specs.Sound.{known, GoodTheorem}
-use Rattle.ap_world.specs.Ground.{one, two, x, y, z, zero_constant, one_constant, ground_rules, fix_function, implies_function, car_cons, cdr_cons, car_cdr_elim, commutativity_of_plus, associativity_of_plus, commutativity_2_of_plus, unicity_of_0, commutativity_of_times, associativity_of_times, commutativity_2_of_times, unicity_of_1, times_zero, distributivity, code_char_char_code, coerce_inverse}
+use Rattle.ap_world.specs.Ground.{two, ground_rules, fix_function, implies_function, car_cons, cdr_cons, car_cdr_elim, commutativity_of_plus, associativity_of_plus, commutativity_2_of_plus, unicity_of_0, commutativity_of_times, associativity_of_times, commutativity_2_of_times, unicity_of_1, times_zero, distributivity, code_char_char_code, coerce_inverse}
 use Rattle.ap_world.proofs.TotalMeaning.{Apply, Models, val, valid_of}
 use Rattle.ap_world.proofs.Equations.{names_open, vals, knowing, val_equal, not_nil-eq, t_isnt_nil, t-not_nil, val_of_int, val_of_sym}
 use Rattle.ap_ground.proofs.Meanings.{ground_heads}
 use Rattle.ap_ground.proofs.Valued.{nil-is_nil}
 use Rattle.ap_ground.proofs.Totality.{G}
 use Rattle.ap_ground.proofs.There.{has_fix, has_implies}
-use Rattle.ap_ground.proofs.Meant.{truth-nil, list-is_list, val_fix, val_implies, fix_val, implies_val}
+use Rattle.ap_ground.proofs.Meant.{list-is_list, val_fix, val_implies, fix_val, implies_val}
 
 -- the laws of integers that the standard library doesn't state
 swap : (a b c : ℤ) → a +ℤ (b +ℤ c) ≡ b +ℤ (a +ℤ c)

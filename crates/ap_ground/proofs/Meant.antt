@@ -1,13 +1,13 @@
 -- What calls of some functions of the ground world give.
-use Rattle.std.proofs.Common.{◌≡◌, ℕ, zero, suc, ◌+◌, Bool, true, false, not, cond, List, [], ◌∷◌, map, length, ℤ, pos, negsuc, ◌+ℤ◌, neg_ℤ, int_lt, nat_abs, Some, refl, ap, sym, ◌∙◌, arith}
+use Rattle.std.proofs.Common.{◌≡◌, ℕ, suc, ◌+◌, Bool, true, false, not, cond, List, [], ◌∷◌, length, ℤ, pos, negsuc, ◌+ℤ◌, neg_ℤ, int_lt, nat_abs, refl, ap, ◌∙◌, arith}
 use Rattle.std.proofs.Math.Numerals.{one-add}
 use Rattle.std.proofs.lemmas.Int.{ints}
-use Rattle.ap_value.specs.Values.{V, Byte, int, chr, str, sym as symbol, cons, value_eq}
+use Rattle.ap_value.specs.Values.{V, Byte, int, str, cons, value_eq}
 use Rattle.ap_value.proofs.Equals.{value_eq-same}
 use Rattle.ap_world.specs.Names.{acl2_count_name, endp_name, fix_name, implies_name, integer_abs_name, len_name, length_name, list_name, natp_name, not_name, p_name, q_name, x_name}
 use Rattle.ap_term.specs.declared.term.Term.{Term, Call}
 use Rattle.ap_world.specs.Meaning.{Env}
-use Rattle.ap_world.specs.Primitives.{nil, t, truth, is_cons, int_of, car_of, cdr_of, chars_to, symbol_value}
+use Rattle.ap_world.specs.Primitives.{nil, t, truth, is_cons, int_of, chars_to, symbol_value}
 use Rattle.ap_world.specs.Ground.{implies_function, endp_function, fix_function, natp_function, integer_abs_function, len_function, length_function, acl2_count_function}
 use Rattle.ap_world.proofs.TotalMeaning.{Apply, Models, val, apply_is}
 use Rattle.ap_world.proofs.Equations.{vals, t-not_nil, prim_of_not, prim_of_natp, prim_of_implies, prim_of_acl2_count, val_defined, val_of_int, val_of_sym}

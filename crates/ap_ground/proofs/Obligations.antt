@@ -4,26 +4,23 @@ use Rattle.std.proofs.Common.{◌≡◌, ◌≢◌, ℕ, suc, ◌+◌, Bool, tru
 use Rattle.std.proofs.lemmas.Int.{ints}
 use Rattle.ap_list.specs.Lists.{Each}
 use Rattle.ap_value.specs.declared.symbol.Symbol.{Symbol}
-use Rattle.ap_value.specs.Values.{V, int, chr, str, sym as symbol, cons, symbol_eq}
+use Rattle.ap_value.specs.Values.{V, cons, symbol_eq}
 use Rattle.ap_value.proofs.Equals.{symbol_eq-same}
 use Rattle.ap_term.specs.declared.term.Term.{Term, out-Term}
 use Rattle.ap_term.specs.declared.term.Term.TheOpen.{Term-F}
 use Rattle.ap_term.specs.Equal.{term_eq}
-use Rattle.ap_world.specs.declared.entry.Case.{Case}
-use Rattle.ap_world.specs.declared.entry.Function.{Function}
 use Rattle.ap_world.specs.Names.{a_name, acl2_count_name, car_name, cdr_name, consp_name, endp_name, equal_name, less_name, not_name, x_name, y_name}
-use Rattle.ap_world.specs.Primitives.{nil, t, is_cons}
+use Rattle.ap_world.specs.Primitives.{nil, is_cons}
 use Rattle.ap_world.specs.Meaning.{Env, value_at, Valid}
-use Rattle.ap_world.specs.Recursion.{cases_of, decrease, natural_obligations, falling_obligations, count_of, natp_of}
+use Rattle.ap_world.specs.Recursion.{natural_obligations, falling_obligations, count_of, natp_of}
 use Rattle.ap_world.specs.Ground.{one, two, x, y, a, true_listp_function, len_function, acl2_count_function, append_function, member_equal_function, make_character_list_function, natp_function, endp_function, not_function}
-use Rattle.ap_world.proofs.TotalMeaning.{Apply, Models, val, AnyTrue, valid_of}
-use Rattle.ap_world.proofs.Equations.{names_open, vals, knowing, t_isnt_nil, t-not_nil}
+use Rattle.ap_world.proofs.TotalMeaning.{Apply, Models, val, valid_of}
+use Rattle.ap_world.proofs.Equations.{names_open, vals, knowing, t_isnt_nil}
 use Rattle.ap_world.proofs.Written.{out_call, differs, instances, clauses, recursion}
 use Rattle.ap_ground.proofs.Meanings.{ground_heads}
-use Rattle.ap_ground.proofs.Valued.{nil-is_nil}
 use Rattle.ap_ground.proofs.Totality.{G}
 use Rattle.ap_ground.proofs.There.{there}
-use Rattle.ap_ground.proofs.Meant.{count_v, truth-nil, val_not, val_endp, val_natp, val_count, not_val, endp_val, natp_val, count_val}
+use Rattle.ap_ground.proofs.Meant.{truth-nil, val_not, val_endp, val_natp, val_count, not_val, endp_val, natp_val, count_val}
 
 -- a part counts less than the cons
 below_first : (m n : ℕ) → int_lt (pos m) (pos (suc (m + n))) ≡ true

@@ -9,7 +9,6 @@ use Rattle.ap_world.specs.declared.entry.Function.{Function}
 use Rattle.ap_world.specs.declared.entry.Entry.{Entry}
 use Rattle.ap_world.specs.declared.entry.Entry.TheVariants as entry
 use Rattle.ap_world.specs.Names.{acl2_count_name, append_name, endp_name, integer_abs_name, len_name, length_name, make_character_list_name, member_equal_name, natp_name, not_name, true_listp_name}
-use Rattle.ap_world.specs.Primitives.{prim_of}
 use Rattle.ap_world.specs.Meaning.{Defs, Total, CallValue}
 use Rattle.ap_world.specs.Sound.{known}
 use Rattle.ap_world.specs.World.{function_of, has_name, are_taken}

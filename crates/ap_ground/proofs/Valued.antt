@@ -1,15 +1,15 @@
 -- A function has a value at all arguments because a recursion on the argument's size gives it one.
-use Rattle.std.proofs.Common.{◌≡◌, ℕ, suc, ◌+◌, Bool, true, false, not, List, [], ◌∷◌, ◌++◌, length, zip, pos, ◌+ℤ◌, neg_ℤ, int_lt, Some, None, refl, sym, ap, ◌∙◌, subst}
+use Rattle.std.proofs.Common.{◌≡◌, ℕ, suc, ◌+◌, Bool, true, false, not, List, [], ◌∷◌, length, zip, pos, ◌+ℤ◌, Some, refl, subst}
 use Rattle.std.proofs.Math.Nat.{add_comm}
 use Rattle.std.proofs.lemmas.Bool.{eq-eqb}
 use Rattle.ap_value.specs.declared.symbol.Symbol.{Symbol}
-use Rattle.ap_value.specs.Values.{V, int, chr, str, sym as symbol, cons, value_eq, byte_of}
+use Rattle.ap_value.specs.Values.{V, int, chr, str, cons, value_eq, byte_of}
 use Rattle.ap_value.proofs.Equals.{value_eq-same}
 use Rattle.ap_world.specs.declared.entry.Function.{Function}
 use Rattle.ap_world.specs.Names.{p_name, a_name, x_name, y_name, not_name, endp_name, integer_abs_name, true_listp_name, len_name, length_name, acl2_count_name, append_name, member_equal_name, make_character_list_name}
 use Rattle.ap_world.specs.Primitives.{nil, t, truth, is_cons, is_character, int_of}
 use Rattle.ap_world.specs.Meaning.{Defs, calls, meaning, CallValue}
-use Rattle.ap_world.specs.Ground.{not_function, endp_function, integer_abs_function, true_listp_function, len_function, length_function, acl2_count_function, append_function, member_equal_function, make_character_list_function}
+use Rattle.ap_world.specs.Ground.{not_function, endp_function, true_listp_function, len_function, acl2_count_function, append_function, member_equal_function, make_character_list_function}
 use Rattle.ap_world.proofs.Fuel.{calls_more}
 use Rattle.ap_world.proofs.Equations.{vals, val_of_nil, val_of_t, val_of_int, val_of_sym, t-not_nil}
 use Rattle.ap_ground.proofs.Meanings.{meanings}

@@ -1,6 +1,6 @@
 -- The terms that a row of the table writes: Lisp without its parentheses, each head with the number of its
 -- arguments.
-use Rattle.std.specs.Prelude.{pos, List, [], ◌∷◌, map}
+use Rattle.std.specs.Prelude.{pos, List, [], ◌∷◌}
 use Rattle.ap_value.specs.declared.value.Value.TheVariants.{Int, Sym}
 use Rattle.ap_value.specs.Values.{acl2}
 use Rattle.ap_term.specs.declared.term.Term.{Term, Var, Quote, Call}

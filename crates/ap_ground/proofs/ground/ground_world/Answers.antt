@@ -1,7 +1,7 @@
-use Rattle.std.proofs.Common.{◌≡◌, true, Err, ap, sym, ◌∙◌}
+use Rattle.std.proofs.Common.{◌≡◌, true, Err, ap, ◌∙◌}
 use Rattle.std.specs.Vec.Iter.{into_iter_items}
 use Rattle.ap_world.specs.World.{Shown, are_taken}
-use Rattle.ap_ground.proofs.Begun.{functions_fit, none_taken, whole_begun, defined_begun, good_begun, whole_next, defined_next, good_next, good_first, free_first}
+use Rattle.ap_ground.proofs.Begun.{functions_fit, none_taken, whole_begun, defined_begun, good_begun, whole_next, defined_next, good_next, free_first}
 use Rattle.ap_ground.proofs.ground.ground_world.Goals as goal
 
 pub add_functions-requires : goal.add_functions-requires

@@ -1,4 +1,4 @@
-use Rattle.std.proofs.Common.{◌≡◌, List, [], ◌++◌, map}
+use Rattle.std.proofs.Common.{◌≡◌, [], ◌++◌, map}
 use Rattle.std.specs.Vec.Iter.{into_iter_items}
 use Rattle.ap_list.specs.Lists.{Each}
 use Rattle.ap_world.specs.declared.entry.Entry.TheVariants as entry

@@ -1,4 +1,4 @@
-use Rattle.std.proofs.Common.{◌≡◌, sym, ◌∙◌}
+use Rattle.std.proofs.Common.{sym, ◌∙◌}
 use Rattle.ap_world.specs.Ground.{append_function}
 use Rattle.ap_world.proofs.Equations.{names_open}
 use Rattle.ap_ground.proofs.Made.{if_made, two_added}
