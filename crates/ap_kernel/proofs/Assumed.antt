@@ -66,7 +66,7 @@ parts_known D u y e s k = tt
 pub assumed_known : (D : Defs) (u : Term) (s : Bool) → known D u ≡ true → KnownFacts D (assumed u s)
 assumed_known D u s k = assumed_each (λ (p : Term × Bool). known D p.0 ≡ true) (λ u s k. parts_known D u (shape_of u) (shape_says u) s k) u s k
 
-both_each : {A : Type 0} (P : A → Type 0) (xs ys : List A) → Each P xs → Each P ys → Each P (xs ++ ys)
+pub both_each : {A : Type 0} (P : A → Type 0) (xs ys : List A) → Each P xs → Each P ys → Each P (xs ++ ys)
 both_each P [] ys ps qs = qs
 both_each P (x ∷ xs) ys ps qs = (ps.0, both_each P xs ys ps.1 qs)
 

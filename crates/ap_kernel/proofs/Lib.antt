@@ -8,4 +8,5 @@ pub mod Typed
 pub mod EquationsStand
 pub mod ChoicesStand
 pub mod SameTerms
+pub mod Reduced
 pub mod TestWorld

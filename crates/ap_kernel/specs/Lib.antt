@@ -5,4 +5,5 @@ pub mod Answers
 pub mod Masks
 pub mod Equations
 pub mod Choices
+pub mod Reductions
 pub mod Laws

@@ -32,9 +32,19 @@
 //!
 //! # The rows that answer a reduction
 //!
-//! None is built yet. To come, each from a clause to the clauses that are left: `rewrite_literal`,
-//! `split_if`, `tidy`, `drop_literal`, `use_equality`, `fertilise`, `generalise`, `eliminate`, `use_fact`,
-//! `cases`, `induct`; and `chain`, of one reduction after another.
+//! A [`Reduction`] says that its first clause is valid where all that it is reduced to are.
+//!
+//! | row | leads from a clause to | what it copies |
+//! |---|---|---|
+//! | [`rewrite_literal`] | the clause with a literal as an equivalence leads from it | the other literals |
+//! | [`drop_literal`] | the clause without a literal | the other literals |
+//! | [`chain`] | what the clauses of a reduction are reduced to in their turn | nothing |
+//! | `split_if`, `tidy`, `use_equality` | its cases, its plain form, the clause with a variable solved | not built yet |
+//! | `fertilise`, `generalise`, `eliminate` | what the processes of these names leave | not built yet |
+//! | `use_fact`, `cases`, `induct` | what these hints and inductions leave | not built yet |
+//!
+//! A reduction owns both its clause, which is moved, and those that it leads to: so literals that stand in
+//! both are copied once.
 //!
 //! # What isn't a row
 //!
@@ -45,27 +55,33 @@
 
 mod assuming;
 mod calls;
+mod chaining;
 mod choices;
 mod constants;
 mod equations;
 mod facts;
+mod literals;
 mod objects;
 mod plain;
+mod reductions;
 mod shapes;
 mod shared;
 mod types;
 
 pub use ap_list::{NoMemory, Seq};
-pub use ap_term::Term;
+pub use ap_term::{Clause, Term};
 pub use ap_value::{Symbol, Value};
 pub use ap_world::{Mask, World};
 pub use assuming::{assume, assumed_facts_hold};
 pub use calls::{branch, cong};
+pub use chaining::chain;
 pub use choices::{bare_test, if_shape, is_choice};
 pub use equations::{cons_equal, equation_leads};
 pub use facts::by_fact;
+pub use literals::{drop_literal, rewrite_literal};
 pub use objects::{Ctx, Equiv, Mode};
 pub use plain::{refl, trans, weaken_mode};
+pub use reductions::Reduction;
 pub use shared::Shared;
 pub use types::{TypeOracle, by_type};
 

@@ -2,7 +2,8 @@
 ghost use Rattle.std.specs.Prelude.{◌≡◌, IsTrue, IfOk, length, map};
 ghost use Rattle.ap_list.specs.Lists.{all_true};
 ghost use Rattle.ap_world.specs.Primitives.{prim_of, prim_arity};
-ghost use Rattle.ap_world.specs.Sound.{known, is_head, not_function};
+ghost use Rattle.ap_world.specs.Ground.{not_function};
+ghost use Rattle.ap_world.specs.Sound.{known, is_head};
 ghost use Rattle.ap_world.specs.World.{function_of};
 ghost use Rattle.ap_kernel.specs.Standing.{HasGround, KnownFacts};
 
@@ -90,7 +91,7 @@ pub(crate) fn term(alloc: Global, text: &[u8]) -> Result<Term, NoMemory> {
 }
 
 /// The definition of `not`: `(if p nil t)`, of the formal `p`.
-#[tactic(auto, unfolding(ap_world::specs::Sound::not_function))]
+#[tactic(auto, unfolding(ap_world::specs::Ground::not_function, ap_world::specs::Names::p_name))]
 fn not_function(alloc: Global) -> Result<Function, NoMemory>
     ensures { IfOk result (λ f. f ≡ not_function) }
 {

@@ -1,0 +1,167 @@
+-- Clauses with one literal replaced, and reductions of one after another.
+use Rattle.std.proofs.Common.{◌≡◌, ◌≢◌, ℕ, zero, suc, ◌+◌, Bool, true, false, List, [], ◌∷◌, ◌++◌, map, take, drop, Some, None, slice_get, ◌⊎◌, inl, inr, refl, ap, sym, ◌∙◌, subst, append_assoc}
+use Rattle.ap_list.specs.Lists.{Each, AnyOf, joined}
+use Rattle.ap_value.specs.Values.{value_eq}
+use Rattle.ap_term.specs.declared.term.Term.{Term}
+use Rattle.ap_term.specs.declared.term.Clause.{Clause}
+use Rattle.ap_world.specs.Primitives.{nil}
+use Rattle.ap_world.specs.Meaning.{Env, Defs, Total, FactHolds, Valid}
+use Rattle.ap_world.specs.Sound.{known}
+use Rattle.ap_world.proofs.Knowing.{true_each}
+use Rattle.ap_world.proofs.TotalMeaning.{Apply, Models, models, val, AnyTrue, valid_is, valid_of}
+use Rattle.ap_world.proofs.Equations.{nil-eq, eq-not_nil}
+use Rattle.ap_kernel.specs.declared.objects.Equiv.{Equiv}
+use Rattle.ap_kernel.specs.declared.reductions.Reduction.{Reduction}
+use Rattle.ap_kernel.specs.Standing.{HasGround, FactsHold, Stands}
+use Rattle.ap_kernel.specs.Assume.{assumed}
+use Rattle.ap_kernel.specs.Answers.{turned}
+use Rattle.ap_kernel.specs.Reductions.{KnownClause, Reduces, put_at, others, all_false, to_one, dropped, rewritten, chained}
+use Rattle.ap_kernel.proofs.Standing.{agree}
+use Rattle.ap_kernel.proofs.Assumed.{both_each, assumed_holds}
+use Rattle.ap_kernel.proofs.CallsStand.{both_nil, turned_end}
+
+-- lists in parts: what holds of some element, and of each
+pub any_left : {A : Type 0} (P : A → Type 0) (xs ys : List A) → AnyOf P xs → AnyOf P (xs ++ ys)
+any_left P [] ys h = absurd h
+any_left P (x ∷ xs) ys (inl h) = inl h
+any_left P (x ∷ xs) ys (inr h) = inr (any_left P xs ys h)
+
+pub any_right : {A : Type 0} (P : A → Type 0) (xs ys : List A) → AnyOf P ys → AnyOf P (xs ++ ys)
+any_right P [] ys h = h
+any_right P (x ∷ xs) ys h = inr (any_right P xs ys h)
+
+pub any_either : {A : Type 0} (P : A → Type 0) (xs ys : List A) → AnyOf P (xs ++ ys) → AnyOf P xs ⊎ AnyOf P ys
+any_either P [] ys h = inr h
+any_either P (x ∷ xs) ys (inl h) = inl (inl h)
+any_either P (x ∷ xs) ys (inr h) = later (any_either P xs ys h)
+  where
+    later : AnyOf P xs ⊎ AnyOf P ys → AnyOf P (x ∷ xs) ⊎ AnyOf P ys
+    later (inl k) = inl (inr k)
+    later (inr k) = inr k
+
+any_take : {A : Type 0} (P : A → Type 0) (i : ℕ) (xs : List A) → AnyOf P (take i xs) → AnyOf P xs
+any_take P zero xs h = absurd h
+any_take P (suc i) [] h = absurd h
+any_take P (suc i) (x ∷ xs) (inl h) = inl h
+any_take P (suc i) (x ∷ xs) (inr h) = inr (any_take P i xs h)
+
+any_drop : {A : Type 0} (P : A → Type 0) (i : ℕ) (xs : List A) → AnyOf P (drop i xs) → AnyOf P xs
+any_drop P zero xs h = h
+any_drop P (suc i) [] h = absurd h
+any_drop P (suc i) (x ∷ xs) h = inr (any_drop P i xs h)
+
+pub any_others : {A : Type 0} (P : A → Type 0) (i : ℕ) (xs : List A) → AnyOf P (others i xs) → AnyOf P xs
+any_others P i xs h = go (any_either P (take i xs) (drop (i + 1) xs) h)
+  where
+    go : AnyOf P (take i xs) ⊎ AnyOf P (drop (i + 1) xs) → AnyOf P xs
+    go (inl k) = any_take P i xs k
+    go (inr k) = any_drop P (i + 1) xs k
+
+-- of a list with an element replaced: one of the others, or one of those that are put there
+pub any_put : {A : Type 0} (P : A → Type 0) (i : ℕ) (ys xs : List A) → AnyOf P (put_at i ys xs) → AnyOf P (others i xs) ⊎ AnyOf P ys
+any_put P i ys xs h = go (any_either P (take i xs) (ys ++ drop (i + 1) xs) h)
+  where
+    back : AnyOf P ys ⊎ AnyOf P (drop (i + 1) xs) → AnyOf P (others i xs) ⊎ AnyOf P ys
+    back (inl k) = inr k
+    back (inr k) = inl (any_right P (take i xs) (drop (i + 1) xs) k)
+
+    go : AnyOf P (take i xs) ⊎ AnyOf P (ys ++ drop (i + 1) xs) → AnyOf P (others i xs) ⊎ AnyOf P ys
+    go (inl k) = inl (any_left P (take i xs) (drop (i + 1) xs) k)
+    go (inr k) = back (any_either P ys (drop (i + 1) xs) k)
+
+pub any_at : {A : Type 0} (P : A → Type 0) (xs : List A) (i : ℕ) (x : A) → slice_get xs i ≡ Some x → P x → AnyOf P xs
+any_at P [] i x h p = absurd (no_value h)
+  where
+    no_value : None ≡ Some x → ⊥
+    no_value k = cc
+any_at P (y ∷ ys) zero x h p = let same : y ≡ x = cc in inl (subst P (sym same) p)
+any_at P (y ∷ ys) (suc i) x h p = inr (any_at P ys i x h p)
+
+each_take : {A : Type 0} (P : A → Type 0) (i : ℕ) (xs : List A) → Each P xs → Each P (take i xs)
+each_take P zero xs h = tt
+each_take P (suc i) [] h = tt
+each_take P (suc i) (x ∷ xs) h = (h.0, each_take P i xs h.1)
+
+each_drop : {A : Type 0} (P : A → Type 0) (i : ℕ) (xs : List A) → Each P xs → Each P (drop i xs)
+each_drop P zero xs h = h
+each_drop P (suc i) [] h = tt
+each_drop P (suc i) (x ∷ xs) h = each_drop P i xs h.1
+
+pub each_append : {A : Type 0} (P : A → Type 0) (xs ys : List A) → Each P xs → Each P ys → Each P (xs ++ ys)
+each_append P [] ys h k = k
+each_append P (x ∷ xs) ys h k = (h.0, each_append P xs ys h.1 k)
+
+pub each_parts : {A : Type 0} (P : A → Type 0) (xs ys : List A) → Each P (xs ++ ys) → Each P xs × Each P ys
+each_parts P [] ys h = (tt, h)
+each_parts P (x ∷ xs) ys h = let p = each_parts P xs ys h.1 in ((h.0, p.0), p.1)
+
+pub each_put : {A : Type 0} (P : A → Type 0) (i : ℕ) (ys xs : List A) → Each P ys → Each P xs → Each P (put_at i ys xs)
+each_put P i ys xs h k = each_append P (take i xs) (ys ++ drop (i + 1) xs) (each_take P i xs k) (each_append P ys (drop (i + 1) xs) h (each_drop P (i + 1) xs k))
+
+-- some literal is other than nil, or each is nil
+pub any_or : (A : Apply) (e : Env) (ts : List Term) → AnyTrue A e ts ⊎ Each (λ u. val A u e ≡ nil) ts
+any_or A e [] = inr tt
+any_or A e (t ∷ ts) = go (value_eq (val A t e) nil) refl (any_or A e ts)
+  where
+    go : (b : Bool) → value_eq (val A t e) nil ≡ b → AnyTrue A e ts ⊎ Each (λ u. val A u e ≡ nil) ts → AnyTrue A e (t ∷ ts) ⊎ Each (λ u. val A u e ≡ nil) (t ∷ ts)
+    go false q h = inl (inl (eq-not_nil (val A t e) q))
+    go true q (inl h) = inl (inr h)
+    go true q (inr h) = inr (nil-eq (val A t e) q, h)
+
+-- the facts of literals that are nil hold
+pub all_false_hold : (D : Defs) (A : Apply) → Models D A → HasGround D → (e : Env) (ts : List Term) → Each (λ u. known D u ≡ true) ts → Each (λ u. val A u e ≡ nil) ts → FactsHold D e (all_false ts)
+all_false_hold D A ms ground e [] ks hs = tt
+all_false_hold D A ms ground e (t ∷ ts) ks hs =
+    both_each (FactHolds D e) (assumed t false) (all_false ts) (assumed_holds D A ms ground e t false ks.0 hs.0) (all_false_hold D A ms ground e ts ks.1 hs.1)
+
+-- a clause is reduced to one of known literals where under each assignment that one's being held is the clause's
+pub to_one_reduces : (D : Defs) → Total D → (c : Clause) (ts : List Term) → KnownClause D c → Each (λ u. known D u ≡ true) ts
+    → ((A : Apply) → Models D A → (e : Env) → AnyTrue A e ts → AnyTrue A e c.0) → Reduces D (to_one c ts)
+to_one_reduces D total c ts k ks h =
+    let (A, ms) = models D total in
+    record { start = k; goals = (ks, tt); valid = λ valid. valid_of D A ms c.0 (true_each (known D) c.0 k) (λ e. h A ms e (valid_is D A ms ts valid.0 e)) }
+
+pub dropped_reduces : (D : Defs) → Total D → (c : Clause) (i : ℕ) → KnownClause D c → Reduces D (dropped c i)
+dropped_reduces D total c i k =
+    to_one_reduces D total c (others i c.0) k (each_put (λ u. known D u ≡ true) i [] c.0 tt k) (λ A ms e h. any_others (λ u. val A u e ≢ nil) i c.0 h)
+
+pub rewritten_reduces : (D : Defs) → Total D → HasGround D → (c : Clause) (i : ℕ) (q : Equiv) → KnownClause D c → Stands D q → slice_get c.0 i ≡ Some q.lhs
+    → q.ctx.0 ≡ all_false (others i c.0) → Reduces D (rewritten c i q.rhs)
+rewritten_reduces D total ground c i q k s at facts =
+    to_one_reduces D total c (put_at i (q.rhs ∷ []) c.0) k (each_put (λ u. known D u ≡ true) i (q.rhs ∷ []) c.0 (s.right, tt) k)
+    (λ A ms e h. go A ms e (any_or A e (others i c.0)) (any_put (λ u. val A u e ≢ nil) i (q.rhs ∷ []) c.0 h))
+  where
+    go : (A : Apply) → Models D A → (e : Env) → AnyTrue A e (others i c.0) ⊎ Each (λ u. val A u e ≡ nil) (others i c.0)
+        → AnyTrue A e (others i c.0) ⊎ AnyTrue A e (q.rhs ∷ []) → AnyTrue A e c.0
+    go A ms e (inl h) l = any_others (λ u. val A u e ≢ nil) i c.0 h
+    go A ms e (inr nils) (inl h) = any_others (λ u. val A u e ≢ nil) i c.0 h
+    go A ms e (inr nils) (inr (inr h)) = absurd h
+    go A ms e (inr nils) (inr (inl h)) =
+        let held : FactsHold D e q.ctx.0 = subst (FactsHold D e) (sym facts)
+        (all_false_hold D A ms ground e (others i c.0) (each_put (λ u. known D u ≡ true) i [] c.0 tt k) nils) in
+        any_at (λ u. val A u e ≢ nil) c.0 i q.lhs at (λ isnil. h ((both_nil q.mode (val A q.lhs e) (val A q.rhs e) (agree D A ms q s e held)).0 isnil))
+
+pub chained_reduces : (D : Defs) (a : Reduction) (rs : List Reduction) → Reduces D a → Each (Reduces D) rs → map (λ (r : Reduction). r.from) rs ≡ a.to → Reduces D (chained a rs)
+chained_reduces D a rs s es e = record {
+  start = s.start;
+  goals = all_known rs es;
+  valid = λ h. s.valid (subst (Each (λ (c : Clause). Valid D c.0)) e (all_valid rs es h));
+}
+  where
+    all_known : (rs : List Reduction) → Each (Reduces D) rs → Each (KnownClause D) (joined (map (λ (r : Reduction). r.to) rs))
+    all_known [] es = tt
+    all_known (r ∷ rs) es = each_append (KnownClause D) r.to (joined (map (λ (r : Reduction). r.to) rs)) es.0.goals (all_known rs es.1)
+
+    all_valid : (rs : List Reduction) → Each (Reduces D) rs → Each (λ (c : Clause). Valid D c.0) (joined (map (λ (r : Reduction). r.to) rs))
+        → Each (λ (c : Clause). Valid D c.0) (map (λ (r : Reduction). r.from) rs)
+    all_valid [] es h = tt
+    all_valid (r ∷ rs) es h =
+        let p = each_parts (λ (c : Clause). Valid D c.0) r.to (joined (map (λ (r : Reduction). r.to) rs)) h in
+        (es.0.valid p.0, all_valid rs es.1 p.1)
+
+-- one reduction more is taken from the end
+pub join_step : (out : List Clause) (old new : List Reduction) (r : Reduction) (all : List Clause) → out ++ joined (map (λ (r : Reduction). r.to) (turned old)) ≡ all → old ≡ new ++ r ∷ []
+    → (out ++ r.to) ++ joined (map (λ (r : Reduction). r.to) (turned new)) ≡ all
+join_step out old new r all h e =
+    append_assoc out r.to (joined (map (λ (r : Reduction). r.to) (turned new)))
+    ∙ ap (λ xs. out ++ joined (map (λ (r : Reduction). r.to) xs)) (sym (ap turned e ∙ turned_end new r)) ∙ h

@@ -1,0 +1,48 @@
+-- When a reduction stands in a world, and what each row on a clause answers.
+use Rattle.std.specs.Prelude.{ℕ, false, ◌+◌, IsTrue, List, [], ◌∷◌, ◌++◌, map, take, drop}
+use Rattle.ap_list.specs.Lists.{Each, joined}
+use Rattle.ap_term.specs.declared.term.Term.{Term}
+use Rattle.ap_term.specs.declared.term.Clause.{Clause}
+use Rattle.ap_world.specs.Meaning.{Defs, Valid}
+use Rattle.ap_world.specs.Sound.{known}
+use Rattle.ap_kernel.specs.declared.reductions.Reduction.{Reduction}
+use Rattle.ap_kernel.specs.Standing.{Facts}
+use Rattle.ap_kernel.specs.Assume.{assumed}
+
+-- each literal is a term of the world
+abbrev pub KnownClause : Defs → Clause → Type 0
+KnownClause D c = Each (λ u. IsTrue (known D u)) c.0
+
+-- its clauses are of terms of the world, and the one it is from is valid where all that it is to are
+pub record Reduces (D : Defs) (r : Reduction) : Type 0 where
+  pub start : KnownClause D r.from
+  pub goals : Each (KnownClause D) r.to
+  pub valid : Each (λ (c : Clause). Valid D c.0) r.to → Valid D r.from.0
+
+-- a list in which what is at a place is replaced by a list
+abbrev pub put_at : {A : Type 0} → ℕ → List A → List A → List A
+put_at i ys xs = take i xs ++ (ys ++ drop (i + 1) xs)
+
+-- all but what is at the place
+abbrev pub others : {A : Type 0} → ℕ → List A → List A
+others i xs = put_at i [] xs
+
+-- what is assumed where each of the terms is nil
+abbrev pub all_false : List Term → Facts
+all_false ts = joined (map (λ u. assumed u false) ts)
+
+-- a reduction to one clause
+abbrev pub to_one : Clause → List Term → Reduction
+to_one c ts = record { from = c; to = record { 0 = ts } ∷ [] }
+
+-- the literal at the place is left out
+abbrev pub dropped : Clause → ℕ → Reduction
+dropped c i = to_one c (others i c.0)
+
+-- the literal at the place becomes this term
+abbrev pub rewritten : Clause → ℕ → Term → Reduction
+rewritten c i u = to_one c (put_at i (u ∷ []) c.0)
+
+-- the clauses that each of a reduction's own clauses is reduced to, one after another
+abbrev pub chained : Reduction → List Reduction → Reduction
+chained a rs = record { from = a.from; to = joined (map (λ (r : Reduction). r.to) rs) }

@@ -1,0 +1,83 @@
+ghost use Rattle.std.specs.Prelude.{◌≡◌, ◌∷◌, [], ◌<◌, IfOk, IsTrue, length, map, slice_get, Some};
+ghost use Rattle.ap_list.specs.Lists.{Each};
+ghost use Rattle.ap_world.specs.World.{function_of};
+ghost use Rattle.ap_kernel.specs.Standing.{HasGround, Stands};
+ghost use Rattle.ap_kernel.specs.Reductions.{KnownClause, Reduces, put_at, others, all_false, to_one, dropped, rewritten, chained};
+
+use crate::objects::Equiv;
+use crate::reductions::Reduction;
+use ap_list::{NoMemory, Seq};
+use ap_term::{Clause, Term, copy_terms};
+use ap_world::World;
+use std::alloc::Global;
+
+/// A copy of a list of terms in which the term at a place is replaced by a list, which is moved.
+pub(crate) fn put_at(
+    alloc: Global,
+    terms: &[Term],
+    place: usize,
+    put: Seq<Term>,
+) -> Result<Seq<Term>, NoMemory>
+    requires { place < length terms.now }
+    ensures { IfOk result (λ out. out ≡ put_at place put terms.now) }
+{
+    let mut out = copy_terms(alloc, &terms[..place])?;
+    out.append(put)?;
+    out.append(copy_terms(alloc, &terms[place + 1..])?)?;
+    Ok(out)
+}
+
+/// A reduction to one clause.
+pub(crate) fn to_one(alloc: Global, from: Clause, to: Seq<Term>) -> Result<Reduction, NoMemory>
+    ensures { IfOk result (λ r. r ≡ to_one from to) }
+{
+    let mut goals = Seq::new(alloc);
+    goals.push(Clause(to))?;
+    Ok(Reduction::made(from, goals))
+}
+
+/// From a clause to the clause without the literal at a place. It copies the other literals, since the
+/// reduction owns both clauses.
+pub fn drop_literal(
+    alloc: Global,
+    w: &World,
+    c: Clause,
+    index: usize,
+) -> Result<Reduction, NoMemory>
+    requires clause { KnownClause (function_of w.now.entries) c }
+    requires place { index < length c.0 }
+    ensures stands { IfOk result (λ r. Reduces (function_of w.now.entries) r) }
+    ensures made { IfOk result (λ r. r ≡ dropped c index) }
+{
+    w.is_sound();
+    let left = put_at(alloc, c.0.as_slice(), index, Seq::new(alloc))?;
+    let answer = to_one(alloc, c, left)?;
+    Ok(answer)
+}
+
+/// From a clause to the clause in which the literal at a place becomes what it leads to, where all other
+/// literals are assumed false in clause order. It copies the other literals, since the reduction owns both
+/// clauses; the new literal is moved.
+pub fn rewrite_literal(
+    alloc: Global,
+    w: &World,
+    c: Clause,
+    index: usize,
+    e: Equiv,
+) -> Result<Reduction, NoMemory>
+    requires ground { HasGround (function_of w.now.entries) }
+    requires clause { KnownClause (function_of w.now.entries) c }
+    requires leads { Stands (function_of w.now.entries) e }
+    requires place { slice_get c.0 index ≡ Some e.lhs }
+    requires facts { e.ctx.0 ≡ all_false (others index c.0) }
+    ensures stands { IfOk result (λ r. Reduces (function_of w.now.entries) r) }
+    ensures made { IfOk result (λ r. r ≡ rewritten c index e.rhs) }
+{
+    w.is_sound();
+    let (_, _, _, rhs) = e.into_parts();
+    let mut put = Seq::new(alloc);
+    put.push(rhs)?;
+    let literals = put_at(alloc, c.0.as_slice(), index, put)?;
+    let answer = to_one(alloc, c, literals)?;
+    Ok(answer)
+}
