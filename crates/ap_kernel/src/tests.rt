@@ -79,17 +79,21 @@ fn is_answer(q: &Equiv, is_iff: bool, from: &Term, to: &Term) -> bool {
     matches!(q.mode(), Mode::Iff) == is_iff && same_term(q.lhs(), from) && same_term(q.rhs(), to)
 }
 
+/// Whether the fact that a term has a sign leads, as the sign's mode, from the term to a constant.
+fn fact_leads(alloc: Global, t: &Term, sign: bool, to: &[u8]) -> Result<bool, NoMemory> {
+    let world = World::bare(alloc);
+    let ctx = context(alloc, t, sign)?;
+    let answer = first_fact(alloc, &world, &ctx)?;
+    let to = term(alloc, to)?;
+    Ok(is_answer(&answer, sign, t, &to))
+}
+
 #[test]
 fn a_fact_leads_to_its_truth(rt: HostRuntime) -> Result<(), Fail> {
     let alloc = rt.alloc();
-    let world = World::bare(alloc);
     let t = term(alloc, b"(CONSP X)")?;
-    let truth = term(alloc, b"'T")?;
-    let yes = first_fact(alloc, &world, &context(alloc, &t, true)?)?;
-    assert!(rt; is_answer(&yes, true, &t, &truth));
-    let falsehood = term(alloc, b"'NIL")?;
-    let no = first_fact(alloc, &world, &context(alloc, &t, false)?)?;
-    assert!(rt; is_answer(&no, false, &t, &falsehood));
+    assert!(rt; fact_leads(alloc, &t, true, b"'T")?);
+    assert!(rt; fact_leads(alloc, &t, false, b"'NIL")?);
     Ok(())
 }
 
