@@ -162,7 +162,7 @@ bare_test_known D u k = go (shape_of u) (shape_says u)
 abbrev turned_by : Bool → Bool → Bool
 turned_by odd x = cond odd (not x) x
 
-not_nil : (x : Bool) → value_eq (truth x) nil ≡ not x
+pub not_nil : (x : Bool) → value_eq (truth x) nil ≡ not x
 not_nil true = t-not_nil
 not_nil false = value_eq-same nil
 
@@ -249,7 +249,7 @@ head_not : (D : Defs) → HasGround D → is_head D not_name (prim_of not_name) 
 unfolding not_function
 head_not D ground = rw (prim_of_not, ground) refl
 
-known_not : (D : Defs) → HasGround D → (a : Term) → known D a ≡ true → known D (not_of a) ≡ true
+pub known_not : (D : Defs) → HasGround D → (a : Term) → known D a ≡ true → known D (not_of a) ≡ true
 known_not D ground a k = known_by D not_name (a ∷ []) (head_not D ground) (true_each (known D) (a ∷ []) (k, tt))
 
 known_branches : (D : Defs) → HasGround D → (k : Bool) (a b c : Term) → known D a ≡ true → known D b ≡ true → known D c ≡ true → known D (by_branches k a b c) ≡ true

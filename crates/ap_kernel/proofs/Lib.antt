@@ -9,4 +9,5 @@ pub mod EquationsStand
 pub mod ChoicesStand
 pub mod SameTerms
 pub mod Reduced
+pub mod Splitting
 pub mod TestWorld

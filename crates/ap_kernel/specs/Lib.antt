@@ -6,4 +6,5 @@ pub mod Masks
 pub mod Equations
 pub mod Choices
 pub mod Reductions
+pub mod Splits
 pub mod Laws

@@ -39,7 +39,8 @@
 //! | [`rewrite_literal`] | the clause with a literal as an equivalence leads from it | the other literals |
 //! | [`drop_literal`] | the clause without a literal | the other literals |
 //! | [`chain`] | what the clauses of a reduction are reduced to in their turn | nothing |
-//! | `split_if`, `tidy`, `use_equality` | its cases, its plain form, the clause with a variable solved | not built yet |
+//! | [`split_if`] | its two cases, for an `if` within a literal | the literals, for each case |
+//! | `tidy`, `use_equality` | its plain form, the clause with a variable solved | not built yet |
 //! | `fertilise`, `generalise`, `eliminate` | what the processes of these names leave | not built yet |
 //! | `use_fact`, `cases`, `induct` | what these hints and inductions leave | not built yet |
 //!
@@ -66,6 +67,7 @@ mod plain;
 mod reductions;
 mod shapes;
 mod shared;
+mod splits;
 mod types;
 
 pub use ap_list::{NoMemory, Seq};
@@ -83,6 +85,7 @@ pub use objects::{Ctx, Equiv, Mode};
 pub use plain::{refl, trans, weaken_mode};
 pub use reductions::Reduction;
 pub use shared::Shared;
+pub use splits::split_if;
 pub use types::{TypeOracle, by_type};
 
 #[cfg(test)]

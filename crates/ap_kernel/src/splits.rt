@@ -1,0 +1,160 @@
+ghost use Rattle.std.specs.Prelude.{◌≡◌, ◌∷◌, [], ◌<◌, IfOk, IsTrue, length, is_some, Some};
+ghost use Rattle.std.specs.Option.{option_map, option_copied};
+ghost use Rattle.ap_world.specs.Clauses.{negate};
+ghost use Rattle.ap_world.specs.World.{function_of};
+ghost use Rattle.ap_kernel.specs.Standing.{HasGround};
+ghost use Rattle.ap_kernel.specs.Shapes.{shape_of};
+ghost use Rattle.ap_kernel.specs.Reductions.{KnownClause, Reduces, put_at};
+ghost use Rattle.ap_kernel.specs.Splits.{part_at, with_part, choice_at, choice_in, split_made};
+
+use crate::choices::not_term;
+use crate::literals::put_at;
+use crate::reductions::Reduction;
+use crate::shapes::{ShapeRef, shape_of};
+use ap_list::{NoMemory, Seq};
+use ap_term::{Clause, Term, copy_term};
+use ap_value::copy_symbol;
+use ap_world::World;
+use std::alloc::Global;
+
+/// The part of a term that the places of arguments lead to, the outermost first. Takes no memory.
+fn part_at<'a>(t: &'a Term, at: &[u32]) -> Option<&'a Term>
+    ensures { option_copied result ≡ part_at at.now t.now }
+{
+    let [place, rest @ ..] = at else {
+        return Some(t);
+    };
+    let Term::Call(_, arguments) = t else {
+        return None;
+    };
+    part_at(arguments.get(*place as usize)?, rest)
+}
+
+/// The parts of the `if` at a place of a term, where there is one. Takes no memory.
+fn choice_at<'a>(t: &'a Term, at: &[u32]) -> Option<(&'a Term, &'a Term, &'a Term)>
+    ensures { option_map (λ p. (p.0.now, p.1.now, p.2.now)) result ≡ choice_at at.now t.now }
+{
+    match shape_of(part_at(t, at)?) {
+        ShapeRef::If(a, b, c) => Some((a, b, c)),
+        _ => None,
+    }
+}
+
+/// A copy of a term in which the part at a place is another one, which is moved.
+fn with_part(alloc: Global, t: &Term, at: &[u32], put: Term) -> Result<Option<Term>, NoMemory>
+    ensures { IfOk result (λ o. o ≡ with_part at.now put t.now) }
+{
+    let [place, rest @ ..] = at else {
+        return Ok(Some(put));
+    };
+    let Term::Call(f, arguments) = t else {
+        return Ok(None);
+    };
+    let place = *place as usize;
+    let Some(argument) = arguments.get(place) else {
+        return Ok(None);
+    };
+    let Some(changed) = with_part(alloc, argument, rest, put)? else {
+        return Ok(None);
+    };
+    let mut one = Seq::new(alloc);
+    one.push(changed)?;
+    let arguments = put_at(alloc, arguments.as_slice(), place, one)?;
+    Ok(Some(Term::Call(copy_symbol(alloc, f)?, arguments)))
+}
+
+/// The negation: of `(not a)` it is `a`, of another term the call of `not` on it.
+pub(crate) fn negated(alloc: Global, t: &Term) -> Result<Term, NoMemory>
+    ensures { IfOk result (λ u. u ≡ negate t.now) }
+{
+    match shape_of(t) {
+        ShapeRef::Not(a) => copy_term(alloc, a),
+        _ => not_term(alloc, copy_term(alloc, t)?),
+    }
+}
+
+/// The literals with two in the place of one.
+fn with_two(
+    alloc: Global,
+    literals: &[Term],
+    index: usize,
+    first: Term,
+    second: Term,
+) -> Result<Clause, NoMemory>
+    requires { index < length literals.now }
+    ensures { IfOk result (λ c. c.0 ≡ put_at index (first ∷ second ∷ []) literals.now) }
+{
+    let mut two = Seq::new(alloc);
+    two.push(first)?;
+    two.push(second)?;
+    Ok(Clause(put_at(alloc, literals, index, two)?))
+}
+
+/// The two cases of a literal, its test and its branches: of the branch where the test is true first.
+fn two_cases(
+    alloc: Global,
+    literals: &[Term],
+    index: usize,
+    test: &Term,
+    yes: Term,
+    no: Term,
+) -> Result<Seq<Clause>, NoMemory>
+    requires { index < length literals.now }
+    ensures { IfOk result (λ cs. cs ≡ record { 0 = put_at index (negate test.now ∷ yes ∷ []) literals.now } ∷ record { 0 = put_at index (test.now ∷ no ∷ []) literals.now } ∷ []) }
+{
+    let mut cases = Seq::new(alloc);
+    let negation = negated(alloc, test)?;
+    cases.push(with_two(alloc, literals, index, negation, yes)?)?;
+    let test = copy_term(alloc, test)?;
+    cases.push(with_two(alloc, literals, index, test, no)?)?;
+    Ok(cases)
+}
+
+/// The two cases of an `if` within a literal, where there is one.
+fn cases_at(
+    alloc: Global,
+    c: &Clause,
+    index: usize,
+    at: &[u32],
+) -> Result<Option<Seq<Clause>>, NoMemory>
+    ensures { IfOk result (λ o. option_map (λ cs. record { from = c.now; to = cs }) o ≡ split_made c.now index at.now) }
+{
+    let Some(literal) = c.0.get(index) else {
+        return Ok(None);
+    };
+    let Some((test, yes, no)) = choice_at(literal, at) else {
+        return Ok(None);
+    };
+    let Some(yes) = with_part(alloc, literal, at, copy_term(alloc, yes)?)? else {
+        return Ok(None);
+    };
+    let Some(no) = with_part(alloc, literal, at, copy_term(alloc, no)?)? else {
+        return Ok(None);
+    };
+    let cases = two_cases(alloc, c.0.as_slice(), index, test, yes, no)?;
+    Ok(Some(cases))
+}
+
+/// From a clause to two, for an `if` within one of its literals: the first has the negation of the test
+/// before that literal and in it the first branch in the place of the `if`, the second the test and the
+/// second branch. The places of arguments lead to the `if`, the outermost first. It copies the literals for
+/// both, since the reduction owns all three clauses.
+pub fn split_if(
+    alloc: Global,
+    w: &World,
+    c: Clause,
+    index: usize,
+    at: &Seq<u32>,
+) -> Result<Reduction, NoMemory>
+    requires ground { HasGround (function_of w.now.entries) }
+    requires clause { KnownClause (function_of w.now.entries) c }
+    requires choice { IsTrue (is_some (choice_in c index at.now)) }
+    ensures stands { IfOk result (λ r. Reduces (function_of w.now.entries) r) }
+    ensures made { IfOk result (λ r. split_made c index at.now ≡ Some r) }
+{
+    w.is_sound();
+    let Some(cases) = cases_at(alloc, &c, index, at.as_slice())? else {
+        unreachable!()
+    };
+    Ok(Reduction::made(c, cases))
+}
