@@ -159,7 +159,7 @@ bare_test_known D u k = go (shape_of u) (shape_says u)
     go y h = k
 
 -- the other truth where a number is odd
-abbrev turned_by : Bool → Bool → Bool
+abbrev pub turned_by : Bool → Bool → Bool
 turned_by odd x = cond odd (not x) x
 
 pub not_nil : (x : Bool) → value_eq (truth x) nil ≡ not x

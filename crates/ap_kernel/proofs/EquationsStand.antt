@@ -59,7 +59,7 @@ val_nil_constant A e = val_quote A _ e ∙ val_of_nil
 pub val_t_constant : (A : Apply) (e : Env) → val A t_constant e ≡ t
 val_t_constant A e = val_quote A _ e ∙ val_of_t
 
-val_truth_constant : (A : Apply) (s : Bool) (e : Env) → val A (truth_constant s) e ≡ truth s
+pub val_truth_constant : (A : Apply) (s : Bool) (e : Env) → val A (truth_constant s) e ≡ truth s
 val_truth_constant A true e = val_t_constant A e
 val_truth_constant A false e = val_nil_constant A e
 

@@ -11,3 +11,4 @@ pub mod SameTerms
 pub mod Reduced
 pub mod Splitting
 pub mod TestWorld
+pub mod Tidied

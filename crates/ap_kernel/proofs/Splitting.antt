@@ -292,7 +292,7 @@ split_reduces D total ground c i is r k h =
     let (v, first, by_yes) = then_some (with_part is p.1 u) (λ v. and_then (with_part is p.2 u) (λ w. Some (cases_of c i p.0 v w))) r by_parts in
     let (w, second, made) = then_some (with_part is p.2 u) (λ w. Some (cases_of c i p.0 v w)) r by_yes in
     let same : cases_of c i p.0 v w ≡ r = cc in
-    subst (Reduces D) same (reduces u p v w at (choice_there is u p there) first second)
+    subst (Reduces D) {x = cases_of c i p.0 v w} same (reduces u p v w at (choice_there is u p there) first second)
   where
     reduces : (u : Term) (p : Term × Term × Term) (v w : Term) → slice_get c.0 i ≡ Some u → part_at is u ≡ Some (if_of p.0 p.1 p.2) → with_part is p.1 u ≡ Some v → with_part is p.2 u ≡ Some w
         → Reduces D (cases_of c i p.0 v w)

@@ -7,4 +7,5 @@ pub mod Equations
 pub mod Choices
 pub mod Reductions
 pub mod Splits
+pub mod Tidying
 pub mod Laws

@@ -28,7 +28,7 @@ enum Chosen<'a> {
 }
 
 /// A term without the calls of `not` around it, and whether their number is odd. Takes no memory.
-fn bare(t: &Term) -> (&Term, bool)
+pub(crate) fn bare(t: &Term) -> (&Term, bool)
     ensures term { result.0.now ≡ (bare t.now).0 }
     ensures odd { result.1 ≡ (bare t.now).1 }
 {

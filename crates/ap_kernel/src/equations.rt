@@ -107,7 +107,7 @@ fn equal_term(alloc: Global, a: Term, b: Term) -> Result<Term, NoMemory>
 }
 
 /// `'T` or `'NIL`
-fn truth_term(alloc: Global, sign: bool) -> Result<Term, NoMemory>
+pub(crate) fn truth_term(alloc: Global, sign: bool) -> Result<Term, NoMemory>
     ensures { IfOk result (λ u. u ≡ truth_constant sign) }
 {
     if sign { t_term(alloc) } else { nil_term(alloc) }

@@ -40,7 +40,8 @@
 //! | [`drop_literal`] | the clause without a literal | the other literals |
 //! | [`chain`] | what the clauses of a reduction are reduced to in their turn | nothing |
 //! | [`split_if`] | its two cases, for an `if` within a literal | the literals, for each case |
-//! | `tidy`, `use_equality` | its plain form, the clause with a variable solved | not built yet |
+//! | [`tidy`] | its plain form, or no clause where that holds by itself | the literals that are kept |
+//! | `use_equality` | the clause with a variable solved | not built yet |
 //! | `fertilise`, `generalise`, `eliminate` | what the processes of these names leave | not built yet |
 //! | `use_fact`, `cases`, `induct` | what these hints and inductions leave | not built yet |
 //!
@@ -68,6 +69,7 @@ mod reductions;
 mod shapes;
 mod shared;
 mod splits;
+mod tidying;
 mod types;
 
 pub use ap_list::{NoMemory, Seq};
@@ -86,6 +88,7 @@ pub use plain::{refl, trans, weaken_mode};
 pub use reductions::Reduction;
 pub use shared::Shared;
 pub use splits::split_if;
+pub use tidying::tidy;
 pub use types::{TypeOracle, by_type};
 
 #[cfg(test)]

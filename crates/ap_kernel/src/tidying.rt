@@ -1,0 +1,116 @@
+ghost use Rattle.std.specs.Prelude.{◌≡◌, IfOk};
+ghost use Rattle.ap_list.specs.Lists.{is_among};
+ghost use Rattle.ap_term.specs.Equal.{term_eq};
+ghost use Rattle.ap_world.specs.World.{function_of};
+ghost use Rattle.ap_kernel.specs.Standing.{HasGround};
+ghost use Rattle.ap_kernel.specs.Shapes.{shape_of};
+ghost use Rattle.ap_kernel.specs.Reductions.{KnownClause, Reduces};
+ghost use Rattle.ap_kernel.specs.Tidying.{negated_bare, plain, tidied, is_opposed, decides, holds_by_itself, tidy_goals, tidy_made};
+
+use crate::assuming::is_constant;
+use crate::choices::{bare, not_term};
+use crate::constants::is_nil;
+use crate::equations::{is_same, truth_term};
+use crate::reductions::Reduction;
+use crate::shapes::{ShapeRef, shape_of};
+use ap_list::{NoMemory, Seq};
+use ap_term::{Clause, Term, copy_term};
+use ap_world::World;
+use std::alloc::Global;
+
+/// The negation of a term that is no call of `not`.
+fn negated_bare(alloc: Global, t: &Term) -> Result<Term, NoMemory>
+    ensures { IfOk result (λ u. u ≡ negated_bare (shape_of t.now) t.now) }
+{
+    match shape_of(t) {
+        ShapeRef::Constant(v) => truth_term(alloc, is_nil(v)),
+        _ => not_term(alloc, copy_term(alloc, t)?),
+    }
+}
+
+/// A literal with `(not (not a))` taken for `a`, and the negation of a constant for its constant.
+fn plain(alloc: Global, t: &Term) -> Result<Term, NoMemory>
+    ensures { IfOk result (λ u. u ≡ plain t.now) }
+{
+    let (term, odd) = bare(t);
+    if odd {
+        negated_bare(alloc, term)
+    } else {
+        copy_term(alloc, term)
+    }
+}
+
+/// Whether a term is one of a list. Takes no memory.
+fn is_among(t: &Term, terms: &[Term]) -> bool
+    ensures { result ≡ is_among term_eq t.now terms.now }
+{
+    for u in terms {
+        if is_same(t, u) {
+            return true;
+        }
+    }
+    false
+}
+
+/// The literals in plain form, without `'NIL` and without those that stand before.
+fn tidied(alloc: Global, terms: &[Term]) -> Result<Seq<Term>, NoMemory>
+    ensures { IfOk result (λ out. out ≡ tidied terms.now) }
+{
+    let mut out = Seq::new(alloc);
+    for t in terms {
+        let literal = plain(alloc, t)?;
+        if !is_constant(false, &literal) && !is_among(&literal, out.as_slice()) {
+            out.push(literal)?;
+        }
+    }
+    Ok(out)
+}
+
+/// Whether a term is the negation of one of a list. Takes no memory.
+fn is_opposed(terms: &[Term], t: &Term) -> bool
+    ensures { result ≡ is_opposed terms.now (shape_of t.now) }
+{
+    match shape_of(t) {
+        ShapeRef::Not(a) => is_among(a, terms),
+        _ => false,
+    }
+}
+
+/// Whether a clause has a constant other than `nil`, or a literal and its negation. Takes no memory.
+fn holds_by_itself(terms: &[Term]) -> bool
+    ensures { result ≡ holds_by_itself terms.now }
+{
+    for t in terms {
+        if is_constant(true, t) || is_opposed(terms, t) {
+            return true;
+        }
+    }
+    false
+}
+
+/// The clauses that tidying leaves of literals in plain form.
+fn tidy_goals(alloc: Global, terms: Seq<Term>) -> Result<Seq<Clause>, NoMemory>
+    ensures { IfOk result (λ cs. cs ≡ tidy_goals terms) }
+{
+    let mut goals = Seq::new(alloc);
+    if !holds_by_itself(terms.as_slice()) {
+        goals.push(Clause(terms))?;
+    }
+    Ok(goals)
+}
+
+/// From a clause to its plain form, in which `(not (not a))` is `a`, the negation of a constant is that
+/// constant, and `'NIL` and the literals that stand before are left out; or to no clause, where that has a
+/// constant other than `nil`, or a literal and its negation. It copies the literals that it keeps, since
+/// the reduction owns both clauses.
+pub fn tidy(alloc: Global, w: &World, c: Clause) -> Result<Reduction, NoMemory>
+    requires ground { HasGround (function_of w.now.entries) }
+    requires clause { KnownClause (function_of w.now.entries) c }
+    ensures stands { IfOk result (λ r. Reduces (function_of w.now.entries) r) }
+    ensures made { IfOk result (λ r. r ≡ tidy_made c) }
+{
+    w.is_sound();
+    let literals = tidied(alloc, c.0.as_slice())?;
+    let goals = tidy_goals(alloc, literals)?;
+    Ok(Reduction::made(c, goals))
+}
