@@ -12,3 +12,4 @@ pub mod Reduced
 pub mod Splitting
 pub mod TestWorld
 pub mod Tidied
+pub mod Solved

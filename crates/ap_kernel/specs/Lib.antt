@@ -8,4 +8,5 @@ pub mod Choices
 pub mod Reductions
 pub mod Splits
 pub mod Tidying
+pub mod Solving
 pub mod Laws

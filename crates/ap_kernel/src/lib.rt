@@ -41,7 +41,7 @@
 //! | [`chain`] | what the clauses of a reduction are reduced to in their turn | nothing |
 //! | [`split_if`] | its two cases, for an `if` within a literal | the literals, for each case |
 //! | [`tidy`] | its plain form, or no clause where that holds by itself | the literals that are kept |
-//! | `use_equality` | the clause with a variable solved | not built yet |
+//! | [`use_equality`] | the clause with a variable replaced that a literal solves | the other literals |
 //! | `fertilise`, `generalise`, `eliminate` | what the processes of these names leave | not built yet |
 //! | `use_fact`, `cases`, `induct` | what these hints and inductions leave | not built yet |
 //!
@@ -51,8 +51,8 @@
 //! # What isn't a row
 //!
 //! [`assume`] gives the facts that a term's truth or falsehood adds to a context. [`equation_leads`] and
-//! [`is_choice`] test what [`cons_equal`] and [`if_shape`] ask of a term, and [`bare_test`] finds the term
-//! whose mask [`if_shape`] is handed. A [`TypeOracle`] says which types a term can have.
+//! [`is_choice`] test what [`cons_equal`] and [`if_shape`] ask of a term, [`is_solvable`] what
+//! [`use_equality`] asks of a literal, and [`bare_test`] finds the term whose mask [`if_shape`] is handed. A [`TypeOracle`] says which types a term can have.
 #![tactic(auto)]
 
 mod assuming;
@@ -68,6 +68,7 @@ mod plain;
 mod reductions;
 mod shapes;
 mod shared;
+mod solving;
 mod splits;
 mod tidying;
 mod types;
@@ -87,6 +88,7 @@ pub use objects::{Ctx, Equiv, Mode};
 pub use plain::{refl, trans, weaken_mode};
 pub use reductions::Reduction;
 pub use shared::Shared;
+pub use solving::{is_solvable, use_equality};
 pub use splits::split_if;
 pub use tidying::tidy;
 pub use types::{TypeOracle, by_type};

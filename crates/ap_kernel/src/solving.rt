@@ -1,0 +1,166 @@
+ghost use Rattle.std.specs.Prelude.{◌≡◌, ◌∷◌, [], IfOk, IsTrue, is_some, map, Some};
+ghost use Rattle.std.specs.Option.{option_map};
+ghost use Rattle.ap_value.specs.Values.{symbol_eq};
+ghost use Rattle.ap_term.specs.declared.term.Term.{out-Term};
+ghost use Rattle.ap_term.specs.Terms.{subst_of};
+ghost use Rattle.ap_world.specs.World.{function_of};
+ghost use Rattle.ap_kernel.specs.Standing.{HasGround};
+ghost use Rattle.ap_kernel.specs.Reductions.{KnownClause, Reduces, to_one};
+ghost use Rattle.ap_kernel.specs.Solving.{any_true, occurs, side_solved, sides_solved, solved_by, solved_made};
+
+use crate::literals::{put_at, to_one};
+use crate::reductions::Reduction;
+use crate::shapes::{ShapeRef, shape_of};
+use ap_list::{NoMemory, Seq};
+use ap_term::{Clause, Term, copy_term};
+use ap_value::{Symbol, copy_symbol};
+use ap_world::World;
+use std::alloc::Global;
+
+/// Whether two symbols are one, as the test that definitions choose by. Takes no memory.
+fn is_symbol(a: &Symbol, b: &Symbol) -> bool
+    ensures { result ≡ symbol_eq a.now b.now }
+{
+    a.keyword == b.keyword && a.name.as_slice() == b.name.as_slice()
+}
+
+/// Whether a variable occurs in a term. Takes no memory.
+#[cycle(occurring)]
+fn occurs(x: &Symbol, t: &Term) -> bool
+    ensures { result ≡ occurs x.now t.now }
+{
+    match t {
+        Term::Var(y) => is_symbol(x, y),
+        Term::Quote(_) => false,
+        Term::Call(_, ts) => occurs_in(x, ts.as_slice()),
+    }
+}
+
+#[cycle(occurring)]
+fn occurs_in(x: &Symbol, ts: &[Term]) -> bool
+    ensures { result ≡ any_true (map (occurs x.now) ts.now) }
+{
+    for t in ts {
+        if occurs(x, t) {
+            return true;
+        }
+    }
+    false
+}
+
+/// A copy of a term in which a variable is replaced.
+#[cycle(replacing)]
+fn replaced(alloc: Global, t: &Term, x: &Symbol, by: &Term) -> Result<Term, NoMemory>
+    ensures { IfOk result (λ u. u ≡ subst_of ((x.now, by.now) ∷ []) t.now) }
+{
+    match t {
+        Term::Var(y) => {
+            if is_symbol(y, x) {
+                return copy_term(alloc, by);
+            }
+            Ok(Term::Var(copy_symbol(alloc, y)?))
+        }
+        Term::Quote(_) => copy_term(alloc, t),
+        Term::Call(f, ts) => Ok(Term::Call(
+            copy_symbol(alloc, f)?,
+            replaced_in(alloc, ts.as_slice(), x, by)?,
+        )),
+    }
+}
+
+/// A copy of terms in which a variable is replaced.
+#[cycle(replacing)]
+fn replaced_in(alloc: Global, ts: &[Term], x: &Symbol, by: &Term) -> Result<Seq<Term>, NoMemory>
+    ensures { IfOk result (λ us. us ≡ map (subst_of ((x.now, by.now) ∷ [])) ts.now) }
+{
+    let mut out = Seq::new(alloc);
+    for t in ts {
+        out.push(replaced(alloc, t, x, by)?)?;
+    }
+    Ok(out)
+}
+
+/// A side that is a variable, with the other side, where it doesn't occur in that. Takes no memory.
+fn side_solved<'a>(a: &'a Term, b: &'a Term) -> Option<(&'a Symbol, &'a Term)>
+    ensures { option_map (λ p. (p.0.now, p.1.now)) result ≡ side_solved (out-Term a.now) b.now }
+{
+    match a {
+        Term::Var(x) => {
+            if occurs(x, b) {
+                return None;
+            }
+            Some((x, b))
+        }
+        Term::Quote(_) => None,
+        Term::Call(_, _) => None,
+    }
+}
+
+/// The side of an equation that is solved, with the other side: the left one where it is. Takes no memory.
+fn sides_solved<'a>(a: &'a Term, b: &'a Term) -> Option<(&'a Symbol, &'a Term)>
+    ensures { option_map (λ p. (p.0.now, p.1.now)) result ≡ sides_solved a.now b.now }
+{
+    match side_solved(a, b) {
+        Some(solved) => Some(solved),
+        None => side_solved(b, a),
+    }
+}
+
+/// The variable that a literal solves, and what replaces it. Takes no memory.
+fn solved_by(t: &Term) -> Option<(&Symbol, &Term)>
+    ensures { option_map (λ p. (p.0.now, p.1.now)) result ≡ solved_by t.now }
+{
+    match shape_of(t) {
+        ShapeRef::Not(a) => match shape_of(a) {
+            ShapeRef::Equal(l, r) => sides_solved(l, r),
+            _ => None,
+        },
+        _ => None,
+    }
+}
+
+/// Whether [`use_equality`] takes a literal: it is the negation of an equation of which a side is a variable
+/// that doesn't occur in the other. Takes no memory.
+pub fn is_solvable(t: &Term) -> bool
+    ensures { result ≡ is_some (solved_by t.now) }
+{
+    solved_by(t).is_some()
+}
+
+/// The other literals with the variable replaced that the literal at a place solves, if it does.
+fn solved_literals(alloc: Global, c: &Clause, index: usize) -> Result<Option<Seq<Term>>, NoMemory>
+    ensures { IfOk result (λ o. option_map (λ ts. to_one c.now ts) o ≡ solved_made c.now index) }
+{
+    let Some(literal) = c.0.get(index) else {
+        return Ok(None);
+    };
+    let Some((x, by)) = solved_by(literal) else {
+        return Ok(None);
+    };
+    let others = put_at(alloc, c.0.as_slice(), index, Seq::new(alloc))?;
+    Ok(Some(replaced_in(alloc, others.as_slice(), x, by)?))
+}
+
+/// From a clause to the clause without the literal at a place, the negation of an equation, and with a
+/// variable that is one of its sides replaced by the other side, in which it doesn't occur. Where both sides
+/// are variables, the left one is replaced. It copies the other literals, since the reduction owns both
+/// clauses.
+pub fn use_equality(
+    alloc: Global,
+    w: &World,
+    c: Clause,
+    index: usize,
+) -> Result<Reduction, NoMemory>
+    requires ground { HasGround (function_of w.now.entries) }
+    requires clause { KnownClause (function_of w.now.entries) c }
+    requires solved { IsTrue (is_some (solved_made c index)) }
+    ensures stands { IfOk result (λ r. Reduces (function_of w.now.entries) r) }
+    ensures made { IfOk result (λ r. solved_made c index ≡ Some r) }
+{
+    w.is_sound();
+    let Some(literals) = solved_literals(alloc, &c, index)? else {
+        unreachable!()
+    };
+    let answer = to_one(alloc, c, literals)?;
+    Ok(answer)
+}
