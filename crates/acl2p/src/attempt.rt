@@ -7,10 +7,9 @@ ghost use Rattle.ap_world.specs.Meaning.{Valid};
 ghost use Rattle.acl2p.specs.Fragment.{Plain};
 ghost use Rattle.acl2p.specs.Attempt.{is_proved, same_sides, attempt_of};
 
-use crate::symbols::is_named;
 use ap_list::{Bytes, NoMemory};
 use ap_term::{Term, same_term};
-use ap_value::Symbol;
+use ap_value::{Symbol, is_named};
 use ap_world::World;
 use std::alloc::Global;
 

@@ -6,11 +6,11 @@ ghost use Rattle.ap_term.specs.declared.term.Term.TheVariants.{Quote};
 ghost use Rattle.acl2p.specs.Fragment.{small, conses, list_value, nil_value, quote_name, constant_of, symbol_term, takes, quoted_term, call_term, headed_term, list_term, seen_of, term_of, translated, value_in, IsCounted, Counted, Plain};
 
 use crate::parts::symbol;
-use crate::symbols::{acl2, is_constant, is_named, is_starred};
+use crate::symbols::{is_constant, is_starred};
 use ap_list::{Boxed, Bytes, NoMemory, Seq};
 use ap_reader::{Body, Form};
 use ap_term::{Term, size};
-use ap_value::{Symbol, Value, copy_bytes, copy_symbol};
+use ap_value::{Symbol, Value, acl2, copy_bytes, copy_symbol, is_named};
 use std::alloc::Global;
 
 /// The most nodes that a term or a constant may have.

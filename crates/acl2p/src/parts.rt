@@ -1,9 +1,8 @@
 ghost use Rattle.std.specs.Prelude.{◌≡◌, option_map};
 ghost use Rattle.acl2p.specs.Parts.{symbol_in, items_in, front_in, string_in, head_of, is_symbol};
 
-use crate::symbols::is_named;
 use ap_reader::{Body, Form};
-use ap_value::Symbol;
+use ap_value::{Symbol, is_named};
 
 /// The symbol that a form is.
 pub(crate) fn symbol(form: &Form) -> Option<&Symbol>

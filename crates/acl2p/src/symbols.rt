@@ -3,27 +3,7 @@ ghost use Rattle.ap_value.specs.Values.{symbol_eq, acl2};
 ghost use Rattle.ap_world.specs.Names.{t_name, nil_name};
 ghost use Rattle.acl2p.specs.Symbols.{is_constant, is_starred, are_turns, is_accessor, is_logical, is_listing, is_arithmetic, is_macro, is_name};
 
-use ap_list::{Bytes, NoMemory};
-use ap_value::Symbol;
-use std::alloc::Global;
-
-/// The symbol of package `ACL2` with this name.
-pub(crate) fn acl2(alloc: Global, name: &[u8]) -> Result<Symbol, NoMemory>
-    ensures { IfOk result (λ s. s ≡ acl2 name.now) }
-{
-    let name = Bytes::from_slice(alloc, name)?;
-    Ok(Symbol {
-        keyword: false,
-        name,
-    })
-}
-
-/// Whether a symbol is the one of package `ACL2` with this name.
-pub(crate) fn is_named(symbol: &Symbol, name: &[u8]) -> bool
-    ensures { result ≡ symbol_eq symbol.now (acl2 name.now) }
-{
-    !symbol.keyword && symbol.name.as_slice() == name
-}
+use ap_value::{Symbol, is_named};
 
 /// Whether a symbol is a constant: `t`, `nil` or a keyword.
 #[tactic(auto, unfolding(ap_world::specs::Names::t_name, ap_world::specs::Names::nil_name))]

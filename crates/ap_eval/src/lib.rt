@@ -11,8 +11,6 @@ mod primitives;
 mod running;
 mod spending;
 mod stop;
-#[cfg(test)]
-mod tests;
 mod texts;
 
 pub use ap_list::{NoMemory, Seq};

@@ -11,6 +11,3 @@ pub use ap_list::{NoMemory, Seq};
 pub use ap_term::{Clause, Term};
 pub use splitting::split;
 pub use tidying::{is_closed, tidied, tidy};
-
-#[cfg(test)]
-mod tests;

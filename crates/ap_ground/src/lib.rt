@@ -11,6 +11,3 @@ mod written;
 pub use ap_list::NoMemory;
 pub use ap_world::World;
 pub use ground::ground_world;
-
-#[cfg(test)]
-mod tests;

@@ -5,10 +5,9 @@ ghost use Rattle.ap_world.specs.Primitives.{symbol_value, nil, t};
 ghost use Rattle.ap_world.specs.Names.{if_name, not_name, equal_name};
 ghost use Rattle.ap_world.specs.Recursion.{nil_constant, t_constant};
 
-use crate::shapes::is_named;
-use ap_list::{Bytes, NoMemory};
+use ap_list::NoMemory;
 use ap_term::Term;
-use ap_value::{Symbol, Value};
+use ap_value::{Symbol, Value, acl2, is_named};
 use std::alloc::Global;
 
 /// Each byte is below 256. Costs nothing: a caller's proof learns it so.
@@ -49,17 +48,6 @@ pub(crate) fn is_t(v: &Value) -> bool
     ensures { result ≡ value_eq (val_of v.now) t }
 {
     is_symbol(v, b"T")
-}
-
-/// The symbol of package `ACL2` with this name.
-pub(crate) fn acl2(alloc: Global, name: &[u8]) -> Result<Symbol, NoMemory>
-    ensures { IfOk result (λ s. s ≡ acl2 name.now) }
-{
-    let name = Bytes::from_slice(alloc, name)?;
-    Ok(Symbol {
-        keyword: false,
-        name,
-    })
 }
 
 /// The constant `'NIL`.

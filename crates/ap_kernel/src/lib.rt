@@ -92,8 +92,3 @@ pub use solving::{is_solvable, use_equality};
 pub use splits::split_if;
 pub use tidying::tidy;
 pub use types::{TypeOracle, by_type};
-
-#[cfg(test)]
-mod tests;
-#[cfg(test)]
-mod written;

@@ -3,9 +3,8 @@ ghost use Rattle.ap_value.specs.Values.{acl2, symbol_eq, val_of, value_eq};
 ghost use Rattle.ap_world.specs.Primitives.{symbol_value, nil, t};
 ghost use Rattle.ap_kernel.specs.Shapes.{head_of, shape_of, seen, constant_says};
 
-use ap_list::Bytes;
 use ap_term::Term;
-use ap_value::{Symbol, Value};
+use ap_value::{Symbol, Value, is_named};
 
 /// What the head of a call is, of those that the kernel looks at.
 #[derive(Clone, Copy, Debug)]
@@ -26,13 +25,6 @@ pub(crate) enum ShapeRef<'a> {
     Equal(&'a Term, &'a Term),
     Cons(&'a Term, &'a Term),
     Other,
-}
-
-/// Whether a symbol is the one of package `ACL2` with this name.
-pub(crate) fn is_named(symbol: &Symbol, name: &[u8]) -> bool
-    ensures { result ≡ symbol_eq symbol.now (acl2 name.now) }
-{
-    !symbol.keyword && symbol.name.as_slice() == name
 }
 
 /// What a head is.

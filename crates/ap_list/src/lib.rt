@@ -14,6 +14,3 @@ pub type NoMemory = std::alloc::AllocError;
 
 /// A list of bytes: a text of a book, a name, what is printed.
 pub type Bytes = Seq<u8>;
-
-#[cfg(test)]
-mod tests;

@@ -9,6 +9,3 @@ mod reading;
 pub use ap_list::{Bytes, NoMemory, Seq};
 pub use name::{GoalName, same_name};
 pub use reading::printing_has_one_reading;
-
-#[cfg(test)]
-mod tests;

@@ -20,6 +20,3 @@ pub use memory_library::{FailFreeLibrary, MemoryLibrary};
 pub use memory_sink::{FailFreeSink, MemorySink};
 pub use sink::{Sink, put_all};
 pub use writer_sink::WriterSink;
-
-#[cfg(test)]
-mod tests;

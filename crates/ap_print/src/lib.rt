@@ -8,6 +8,3 @@ mod value;
 pub use ap_term::{Bytes, Clause, NoMemory, Seq, Symbol, Term, Value};
 pub use term::{print_clause, print_term};
 pub use value::print_value;
-
-#[cfg(test)]
-mod tests;

@@ -14,6 +14,3 @@ mod text;
 pub use fault::{ReadError, ReadKind};
 pub use form::{Body, Form};
 pub use text::{forms, one_answer};
-
-#[cfg(test)]
-mod tests;

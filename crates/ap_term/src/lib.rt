@@ -16,6 +16,3 @@ pub use atoms::reads_back;
 pub use order::{term_less, term_order_is_total};
 pub use steps::{Spent, Steps};
 pub use term::{Clause, Subst, Term, copy_symbols, copy_term, copy_terms, same_term, size};
-
-#[cfg(test)]
-mod tests;

@@ -14,6 +14,3 @@ pub use hash::char_named;
 pub use laws::next_law;
 pub use token::{FaultKind, Kind, Token, TokenFault};
 pub use tokens::{Tokens, over};
-
-#[cfg(test)]
-mod tests;

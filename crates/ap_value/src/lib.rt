@@ -6,8 +6,7 @@ mod symbol;
 mod value;
 
 pub use ap_list::{Boxed, Bytes, NoMemory, Seq};
-pub use symbol::{BookName, Symbol, copy_bytes, copy_symbol, same_bytes, same_symbol};
+pub use symbol::{
+    BookName, Symbol, acl2, copy_bytes, copy_symbol, is_named, same_bytes, same_symbol,
+};
 pub use value::{Value, acl2_count, copy, nodes, same};
-
-#[cfg(test)]
-mod tests;

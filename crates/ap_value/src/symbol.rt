@@ -1,5 +1,5 @@
 ghost use Rattle.std.specs.Prelude.{◌≡◌, ◌<◌, ◌↔◌, ℕ, IsTrue, IfOk, slice_index, map};
-ghost use Rattle.ap_value.specs.Values.{byte_of};
+ghost use Rattle.ap_value.specs.Values.{acl2, byte_of, symbol_eq};
 
 use ap_list::{Bytes, NoMemory};
 use std::alloc::Global;
@@ -65,4 +65,22 @@ pub fn copy_symbol(alloc: Global, symbol: &Symbol) -> Result<Symbol, NoMemory>
         keyword: symbol.keyword,
         name,
     })
+}
+
+/// The symbol of package `ACL2` with a name as it is read, in upper case.
+pub fn acl2(alloc: Global, name: &[u8]) -> Result<Symbol, NoMemory>
+    ensures { IfOk result (λ s. s ≡ acl2 name.now) }
+{
+    let name = Bytes::from_slice(alloc, name)?;
+    Ok(Symbol {
+        keyword: false,
+        name,
+    })
+}
+
+/// Whether a symbol is the one of package `ACL2` with this name. Takes no memory.
+pub fn is_named(symbol: &Symbol, name: &[u8]) -> bool
+    ensures { result ≡ symbol_eq symbol.now (acl2 name.now) }
+{
+    !symbol.keyword && symbol.name.as_slice() == name
 }

@@ -25,6 +25,3 @@ pub use theorems::{
     walk_is_bounded, walk_is_cut, walk_is_visit_and_children,
 };
 pub use walking::serial;
-
-#[cfg(test)]
-mod tests;

@@ -19,6 +19,3 @@ pub use entry::{
 pub use primitive::{Primitive, primitive_of};
 pub use theory::{Rune, Theory, copy_rune, copy_theory, same_rune};
 pub use world::{AddError, World};
-
-#[cfg(test)]
-mod tests;

@@ -3,7 +3,7 @@ ghost use Rattle.ap_list.specs.Lists.{lookup_by};
 ghost use Rattle.ap_value.specs.Values.{symbol_eq, acl2};
 ghost use Rattle.ap_world.specs.Primitives.{prim_of};
 
-use ap_value::Symbol;
+use ap_value::{Symbol, is_named};
 
 /// The primitives: the functions that no definition gives. Their values are those of the manual's topics
 /// of these names.
@@ -27,13 +27,6 @@ pub enum Primitive {
     CodeChar,
     SymbolName,
     Coerce,
-}
-
-/// Whether a symbol is the one of package `ACL2` with this name.
-fn is_named(symbol: &Symbol, name: &[u8]) -> bool
-    ensures { result ≡ symbol_eq symbol.now (acl2 name.now) }
-{
-    !symbol.keyword && symbol.name.as_slice() == name
 }
 
 /// What stands beside the name in a table.
