@@ -10,6 +10,5 @@ pub mod ChoicesStand
 pub mod SameTerms
 pub mod Reduced
 pub mod Splitting
-pub mod TestWorld
 pub mod Tidied
 pub mod Solved
