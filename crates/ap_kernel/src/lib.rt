@@ -51,8 +51,9 @@
 //! # What isn't a row
 //!
 //! [`assume`] gives the facts that a term's truth or falsehood adds to a context. [`equation_leads`] and
-//! [`is_choice`] test what [`cons_equal`] and [`if_shape`] ask of a term, [`is_solvable`] what
-//! [`use_equality`] asks of a literal, and [`bare_test`] finds the term whose mask [`if_shape`] is handed. A [`TypeOracle`] says which types a term can have.
+//! [`is_choice`] test what [`cons_equal`] and [`if_shape`] ask of a term, [`is_choice_in`] and
+//! [`is_solvable`] what [`split_if`] and [`use_equality`] ask of a literal, and [`bare_test`] finds the
+//! term whose mask [`if_shape`] is handed. A [`TypeOracle`] says which types a term can have.
 #![tactic(auto)]
 
 mod assuming;
@@ -89,6 +90,6 @@ pub use plain::{refl, trans, weaken_mode};
 pub use reductions::Reduction;
 pub use shared::Shared;
 pub use solving::{is_solvable, use_equality};
-pub use splits::split_if;
+pub use splits::{is_choice_in, split_if};
 pub use tidying::tidy;
 pub use types::{TypeOracle, by_type};

@@ -119,12 +119,15 @@ fn solved_by(t: &Term) -> Option<(&Symbol, &Term)>
     }
 }
 
-/// Whether [`use_equality`] takes a literal: it is the negation of an equation of which a side is a variable
-/// that doesn't occur in the other. Takes no memory.
-pub fn is_solvable(t: &Term) -> bool
-    ensures { result ≡ is_some (solved_by t.now) }
+/// Whether [`use_equality`] takes the literal at a place: it is the negation of an equation of which a side
+/// is a variable that doesn't occur in the other. Takes no memory.
+pub fn is_solvable(c: &Clause, index: usize) -> bool
+    ensures { result ≡ is_some (solved_made c.now index) }
 {
-    solved_by(t).is_some()
+    match c.0.get(index) {
+        Some(literal) => solved_by(literal).is_some(),
+        None => false,
+    }
 }
 
 /// The other literals with the variable replaced that the literal at a place solves, if it does.

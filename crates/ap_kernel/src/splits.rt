@@ -135,6 +135,16 @@ fn cases_at(
     Ok(Some(cases))
 }
 
+/// Whether the places of arguments lead to an `if` in the literal at a place. Takes no memory.
+pub fn is_choice_in(c: &Clause, index: usize, at: &Seq<u32>) -> bool
+    ensures { result ≡ is_some (choice_in c.now index at.now) }
+{
+    match c.0.get(index) {
+        Some(literal) => choice_at(literal, at.as_slice()).is_some(),
+        None => false,
+    }
+}
+
 /// From a clause to two, for an `if` within one of its literals: the first has the negation of the test
 /// before that literal and in it the first branch in the place of the `if`, the second the test and the
 /// second branch. The places of arguments lead to the `if`, the outermost first. It copies the literals for
