@@ -3,6 +3,8 @@
 #![tactic(auto)]
 
 #[cfg(test)]
+mod clauses;
+#[cfg(test)]
 mod evaluation;
 #[cfg(test)]
 mod goals;

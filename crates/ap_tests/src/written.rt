@@ -138,7 +138,7 @@ pub(crate) fn is_known(w: &World, t: &Term) -> bool
 }
 
 #[cycle(knowing)]
-fn are_known(w: &World, ts: &[Term]) -> bool
+pub(crate) fn are_known(w: &World, ts: &[Term]) -> bool
     ensures { result ≡ all_true (map (known (function_of w.now.entries)) ts.now) }
 {
     for t in ts {
