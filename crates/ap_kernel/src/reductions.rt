@@ -19,8 +19,8 @@ impl Reduction {
         Reduction { from, to }
     }
 
-    /// The parts, moved.
-    pub(crate) fn into_parts(self) -> (Clause, Seq<Clause>)
+    /// The parts, moved. Takes no memory.
+    pub fn into_parts(self) -> (Clause, Seq<Clause>)
         ensures { result ≡ record { 0 = self.from; 1 = self.to } }
     {
         let Reduction { from, to } = self;
