@@ -9,7 +9,7 @@ use Rattle.ap_world.specs.declared.entry.Theorem.{Theorem}
 use Rattle.ap_world.specs.declared.entry.Entry.{Entry}
 use Rattle.ap_world.specs.declared.entry.Entry.TheVariants as entry
 use Rattle.ap_world.specs.Meaning.{Defs, Total, CallValue}
-use Rattle.ap_world.specs.Types.{Has}
+use Rattle.ap_world.specs.Types.{Has, all_types}
 use Rattle.ap_world.specs.Sound.{given_function, DefinedAlike, GoodFunction, GoodTheorem, Good, Sound}
 use Rattle.ap_world.specs.World.{as_function, entry_of, function_of}
 use Rattle.ap_world.specs.Ground.{not_function, implies_function, iff_function, atom_function, endp_function, null_function, eq_function, eql_function, numeric_equal_function, acl2_numberp_function, rationalp_function, booleanp_function, fix_function, ifix_function, natp_function, posp_function, nfix_function, zp_function, zip_function, zerop_function, plusp_function, minusp_function, max_function, min_function, abs_function, integer_abs_function, true_listp_function, len_function, length_function, acl2_count_function, append_function, member_equal_function, make_character_list_function, ground_functions, ground_rules, ground, named_in}
@@ -23,6 +23,7 @@ use Rattle.ap_ground.proofs.Meanings.{ground_heads}
 use Rattle.ap_ground.proofs.Totality.{G, ground_total}
 use Rattle.ap_ground.proofs.There.{has_not, has_implies, has_iff, has_atom, has_endp, has_null, has_eq, has_eql, has_numeric_equal, has_acl2_numberp, has_rationalp, has_booleanp, has_fix, has_ifix, has_natp, has_posp, has_nfix, has_zp, has_zip, has_zerop, has_plusp, has_minusp, has_max, has_min, has_abs, has_integer_abs, has_true_listp, has_len, has_length, has_acl2_count, has_append, has_member_equal, has_make_character_list}
 use Rattle.ap_ground.proofs.Obligations.{natural, true_listp_falls, len_falls, acl2_count_falls, append_falls, member_equal_falls, make_character_list_falls}
+use Rattle.ap_ground.proofs.Masked.{by_body, by_calls, not_masked, implies_masked, iff_masked, atom_masked, endp_masked, null_masked, eq_masked, eql_masked, numeric_equal_masked, acl2_numberp_masked, rationalp_masked, booleanp_masked, fix_masked, ifix_masked, natp_masked, posp_masked, zp_masked, zip_masked, zerop_masked, plusp_masked, minusp_masked, abs_masked, integer_abs_masked, true_listp_masked, len_masked, length_masked, acl2_count_masked, make_character_list_masked}
 use Rattle.ap_ground.proofs.Axioms.{rules_good}
 
 -- a list of functions defines what its names stand for
@@ -39,7 +40,7 @@ given_there : (f : Symbol) (g : Function) → G f ≡ Some g → IfSome (given_f
 given_there f g here = subst (λ o. IfSome o (DefinedAlike g)) (sym here ∙ listed ground_functions f) (record { formals = refl; body = refl; measure = refl })
 
 -- any value is in the mask of all ten types
-any_value : (f : Symbol) (n : ℕ) (vs : List V) (v : V) → n ≡ length vs → CallValue G f vs v → Has (record { 0 = 1023 }) v
+any_value : (f : Symbol) (n : ℕ) (vs : List V) (v : V) → n ≡ length vs → CallValue G f vs v → Has all_types v
 any_value f n vs v l h = has_all v
 
 module _ (A : Apply) (m : Models G A) where
@@ -53,7 +54,7 @@ module _ (A : Apply) (m : Models G A) where
     measure_known = refl;
     given = given_there _ not_function has_not;
     recursion = record { plain = simp recursion; cases = refl };
-    mask = any_value _ _;
+    mask = by_body A m not_function has_not (not_masked A m);
   }
 
   implies_good : GoodFunction G implies_function
@@ -66,7 +67,7 @@ module _ (A : Apply) (m : Models G A) where
     measure_known = refl;
     given = given_there _ implies_function has_implies;
     recursion = record { plain = simp recursion; cases = refl };
-    mask = any_value _ _;
+    mask = by_body A m implies_function has_implies (implies_masked A m);
   }
 
   iff_good : GoodFunction G iff_function
@@ -79,7 +80,7 @@ module _ (A : Apply) (m : Models G A) where
     measure_known = refl;
     given = given_there _ iff_function has_iff;
     recursion = record { plain = simp recursion; cases = refl };
-    mask = any_value _ _;
+    mask = by_body A m iff_function has_iff (iff_masked A m);
   }
 
   atom_good : GoodFunction G atom_function
@@ -92,7 +93,7 @@ module _ (A : Apply) (m : Models G A) where
     measure_known = refl;
     given = given_there _ atom_function has_atom;
     recursion = record { plain = simp recursion; cases = refl };
-    mask = any_value _ _;
+    mask = by_body A m atom_function has_atom (atom_masked A m);
   }
 
   endp_good : GoodFunction G endp_function
@@ -105,7 +106,7 @@ module _ (A : Apply) (m : Models G A) where
     measure_known = refl;
     given = given_there _ endp_function has_endp;
     recursion = record { plain = simp recursion; cases = refl };
-    mask = any_value _ _;
+    mask = by_body A m endp_function has_endp (endp_masked A m);
   }
 
   null_good : GoodFunction G null_function
@@ -118,7 +119,7 @@ module _ (A : Apply) (m : Models G A) where
     measure_known = refl;
     given = given_there _ null_function has_null;
     recursion = record { plain = simp recursion; cases = refl };
-    mask = any_value _ _;
+    mask = by_body A m null_function has_null (null_masked A m);
   }
 
   eq_good : GoodFunction G eq_function
@@ -131,7 +132,7 @@ module _ (A : Apply) (m : Models G A) where
     measure_known = refl;
     given = given_there _ eq_function has_eq;
     recursion = record { plain = simp recursion; cases = refl };
-    mask = any_value _ _;
+    mask = by_body A m eq_function has_eq (eq_masked A m);
   }
 
   eql_good : GoodFunction G eql_function
@@ -144,7 +145,7 @@ module _ (A : Apply) (m : Models G A) where
     measure_known = refl;
     given = given_there _ eql_function has_eql;
     recursion = record { plain = simp recursion; cases = refl };
-    mask = any_value _ _;
+    mask = by_body A m eql_function has_eql (eql_masked A m);
   }
 
   numeric_equal_good : GoodFunction G numeric_equal_function
@@ -157,7 +158,7 @@ module _ (A : Apply) (m : Models G A) where
     measure_known = refl;
     given = given_there _ numeric_equal_function has_numeric_equal;
     recursion = record { plain = simp recursion; cases = refl };
-    mask = any_value _ _;
+    mask = by_body A m numeric_equal_function has_numeric_equal (numeric_equal_masked A m);
   }
 
   acl2_numberp_good : GoodFunction G acl2_numberp_function
@@ -170,7 +171,7 @@ module _ (A : Apply) (m : Models G A) where
     measure_known = refl;
     given = given_there _ acl2_numberp_function has_acl2_numberp;
     recursion = record { plain = simp recursion; cases = refl };
-    mask = any_value _ _;
+    mask = by_body A m acl2_numberp_function has_acl2_numberp (acl2_numberp_masked A m);
   }
 
   rationalp_good : GoodFunction G rationalp_function
@@ -183,7 +184,7 @@ module _ (A : Apply) (m : Models G A) where
     measure_known = refl;
     given = given_there _ rationalp_function has_rationalp;
     recursion = record { plain = simp recursion; cases = refl };
-    mask = any_value _ _;
+    mask = by_body A m rationalp_function has_rationalp (rationalp_masked A m);
   }
 
   booleanp_good : GoodFunction G booleanp_function
@@ -196,7 +197,7 @@ module _ (A : Apply) (m : Models G A) where
     measure_known = refl;
     given = given_there _ booleanp_function has_booleanp;
     recursion = record { plain = simp recursion; cases = refl };
-    mask = any_value _ _;
+    mask = by_body A m booleanp_function has_booleanp (booleanp_masked A m);
   }
 
   fix_good : GoodFunction G fix_function
@@ -209,7 +210,7 @@ module _ (A : Apply) (m : Models G A) where
     measure_known = refl;
     given = given_there _ fix_function has_fix;
     recursion = record { plain = simp recursion; cases = refl };
-    mask = any_value _ _;
+    mask = by_body A m fix_function has_fix (fix_masked A m);
   }
 
   ifix_good : GoodFunction G ifix_function
@@ -222,7 +223,7 @@ module _ (A : Apply) (m : Models G A) where
     measure_known = refl;
     given = given_there _ ifix_function has_ifix;
     recursion = record { plain = simp recursion; cases = refl };
-    mask = any_value _ _;
+    mask = by_body A m ifix_function has_ifix (ifix_masked A m);
   }
 
   natp_good : GoodFunction G natp_function
@@ -235,7 +236,7 @@ module _ (A : Apply) (m : Models G A) where
     measure_known = refl;
     given = given_there _ natp_function has_natp;
     recursion = record { plain = simp recursion; cases = refl };
-    mask = any_value _ _;
+    mask = by_body A m natp_function has_natp (natp_masked A m);
   }
 
   posp_good : GoodFunction G posp_function
@@ -248,7 +249,7 @@ module _ (A : Apply) (m : Models G A) where
     measure_known = refl;
     given = given_there _ posp_function has_posp;
     recursion = record { plain = simp recursion; cases = refl };
-    mask = any_value _ _;
+    mask = by_body A m posp_function has_posp (posp_masked A m);
   }
 
   nfix_good : GoodFunction G nfix_function
@@ -274,7 +275,7 @@ module _ (A : Apply) (m : Models G A) where
     measure_known = refl;
     given = given_there _ zp_function has_zp;
     recursion = record { plain = simp recursion; cases = refl };
-    mask = any_value _ _;
+    mask = by_body A m zp_function has_zp (zp_masked A m);
   }
 
   zip_good : GoodFunction G zip_function
@@ -287,7 +288,7 @@ module _ (A : Apply) (m : Models G A) where
     measure_known = refl;
     given = given_there _ zip_function has_zip;
     recursion = record { plain = simp recursion; cases = refl };
-    mask = any_value _ _;
+    mask = by_body A m zip_function has_zip (zip_masked A m);
   }
 
   zerop_good : GoodFunction G zerop_function
@@ -300,7 +301,7 @@ module _ (A : Apply) (m : Models G A) where
     measure_known = refl;
     given = given_there _ zerop_function has_zerop;
     recursion = record { plain = simp recursion; cases = refl };
-    mask = any_value _ _;
+    mask = by_body A m zerop_function has_zerop (zerop_masked A m);
   }
 
   plusp_good : GoodFunction G plusp_function
@@ -313,7 +314,7 @@ module _ (A : Apply) (m : Models G A) where
     measure_known = refl;
     given = given_there _ plusp_function has_plusp;
     recursion = record { plain = simp recursion; cases = refl };
-    mask = any_value _ _;
+    mask = by_body A m plusp_function has_plusp (plusp_masked A m);
   }
 
   minusp_good : GoodFunction G minusp_function
@@ -326,7 +327,7 @@ module _ (A : Apply) (m : Models G A) where
     measure_known = refl;
     given = given_there _ minusp_function has_minusp;
     recursion = record { plain = simp recursion; cases = refl };
-    mask = any_value _ _;
+    mask = by_body A m minusp_function has_minusp (minusp_masked A m);
   }
 
   max_good : GoodFunction G max_function
@@ -365,7 +366,7 @@ module _ (A : Apply) (m : Models G A) where
     measure_known = refl;
     given = given_there _ abs_function has_abs;
     recursion = record { plain = simp recursion; cases = refl };
-    mask = any_value _ _;
+    mask = by_body A m abs_function has_abs (abs_masked A m);
   }
 
   integer_abs_good : GoodFunction G integer_abs_function
@@ -378,7 +379,7 @@ module _ (A : Apply) (m : Models G A) where
     measure_known = refl;
     given = given_there _ integer_abs_function has_integer_abs;
     recursion = record { plain = simp recursion; cases = refl };
-    mask = any_value _ _;
+    mask = by_body A m integer_abs_function has_integer_abs (integer_abs_masked A m);
   }
 
   true_listp_good : GoodFunction G true_listp_function
@@ -391,7 +392,7 @@ module _ (A : Apply) (m : Models G A) where
     measure_known = simp (has_acl2_count, knowing, ground_heads);
     given = given_there _ true_listp_function has_true_listp;
     recursion = record { recurs = simp recursion; unnested = simp recursion; cases = refl; natural = natural A m; falls = true_listp_falls A m };
-    mask = any_value _ _;
+    mask = by_calls A m true_listp_function has_true_listp (true_listp_masked A m);
   }
 
   len_good : GoodFunction G len_function
@@ -404,7 +405,7 @@ module _ (A : Apply) (m : Models G A) where
     measure_known = simp (has_acl2_count, knowing, ground_heads);
     given = given_there _ len_function has_len;
     recursion = record { recurs = simp recursion; unnested = simp recursion; cases = refl; natural = natural A m; falls = len_falls A m };
-    mask = any_value _ _;
+    mask = by_calls A m len_function has_len (len_masked A m);
   }
 
   length_good : GoodFunction G length_function
@@ -417,7 +418,7 @@ module _ (A : Apply) (m : Models G A) where
     measure_known = refl;
     given = given_there _ length_function has_length;
     recursion = record { plain = simp recursion; cases = refl };
-    mask = any_value _ _;
+    mask = by_body A m length_function has_length (length_masked A m);
   }
 
   acl2_count_good : GoodFunction G acl2_count_function
@@ -430,7 +431,7 @@ module _ (A : Apply) (m : Models G A) where
     measure_known = simp (has_acl2_count, knowing, ground_heads);
     given = given_there _ acl2_count_function has_acl2_count;
     recursion = record { recurs = simp recursion; unnested = simp recursion; cases = refl; natural = natural A m; falls = acl2_count_falls A m };
-    mask = any_value _ _;
+    mask = by_calls A m acl2_count_function has_acl2_count (acl2_count_masked A m);
   }
 
   append_good : GoodFunction G append_function
@@ -469,7 +470,7 @@ module _ (A : Apply) (m : Models G A) where
     measure_known = simp (has_acl2_count, knowing, ground_heads);
     given = given_there _ make_character_list_function has_make_character_list;
     recursion = record { recurs = simp recursion; unnested = simp recursion; cases = refl; natural = natural A m; falls = make_character_list_falls A m };
-    mask = any_value _ _;
+    mask = by_calls A m make_character_list_function has_make_character_list (make_character_list_masked A m);
   }
 
   functions_good : Each (GoodFunction G) ground_functions

@@ -2,6 +2,7 @@ pub mod Axioms
 pub mod Begun
 pub mod Good
 pub mod Made
+pub mod Masked
 pub mod Meanings
 pub mod Meant
 pub mod Obligations

@@ -52,7 +52,7 @@ one_more n = ap pos (one-add n)
 both_more : (m n : ℕ) → pos 1 +ℤ (pos m +ℤ pos n) ≡ pos (suc (m + n))
 both_more m n = ap pos (one-add (m + n))
 
-not_below : (n : ℕ) → int_lt (pos n) (pos 0) ≡ false
+pub not_below : (n : ℕ) → int_lt (pos n) (pos 0) ≡ false
 not_below n = go (int_lt (pos n) (pos 0)) refl
   where
     go : (b : Bool) → int_lt (pos n) (pos 0) ≡ b → b ≡ false
@@ -60,7 +60,7 @@ not_below n = go (int_lt (pos n) (pos 0)) refl
     go false h = refl
 
 -- the absolute value, chosen by the sign
-abs_is : (n : ℤ) → cond (value_eq (truth (int_lt n (pos 0))) nil) (int n) (int (neg_ℤ n)) ≡ int (pos (nat_abs n))
+pub abs_is : (n : ℤ) → cond (value_eq (truth (int_lt n (pos 0))) nil) (int n) (int (neg_ℤ n)) ≡ int (pos (nat_abs n))
 abs_is (pos k) = rw (not_below k, nil-is_nil) refl
 abs_is (negsuc k) = rw (t-not_nil) refl
 

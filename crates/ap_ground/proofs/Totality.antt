@@ -52,7 +52,7 @@ total-all W (f ∷ fs) total free ks =
     (each_same fs (λ g k. known_extend (function_of W) (function_of (W ++ entry.Function f ∷ [])) (extends-append W (entry.Function f ∷ [])) g.body k) ks.1))
 
 -- all arguments, where there are so many
-one_argument : (P : List V → Type 0) → ((v : V) → P (v ∷ [])) → (vs : List V) → 1 ≡ length vs → P vs
+pub one_argument : (P : List V → Type 0) → ((v : V) → P (v ∷ [])) → (vs : List V) → 1 ≡ length vs → P vs
 one_argument P h (v ∷ []) l = h v
 one_argument P h [] l = cc
 one_argument P h (v ∷ w ∷ ws) l = cc

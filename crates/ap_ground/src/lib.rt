@@ -3,6 +3,7 @@
 
 mod ground;
 pub mod laws;
+mod masks;
 mod plain;
 mod recursive;
 mod rules;

@@ -4,6 +4,7 @@ ghost use Rattle.ap_value.specs.Values.{acl2};
 ghost use Rattle.ap_ground.specs.Written.{term_of};
 ghost use Rattle.ap_world.specs.Ground.{plain, not_function, implies_function, iff_function, atom_function, endp_function, null_function, eq_function, eql_function, numeric_equal_function, acl2_numberp_function, rationalp_function, booleanp_function, fix_function, ifix_function, natp_function, posp_function, nfix_function, zp_function, zip_function, zerop_function, plusp_function, minusp_function, max_function, min_function, abs_function, integer_abs_function, length_function};
 
+use crate::masks::{ALL_TYPES, INTEGERS, NATURALS, NO_NEGATIVES, TRUTHS};
 use crate::written::Word::{Int, One, Sym, Three, Two, Var};
 use crate::written::{Word, symbol, symbols, term};
 use ap_list::{NoMemory, Seq};
@@ -16,8 +17,9 @@ fn plain(
     name: &[u8],
     formals: &[&'static [u8]],
     body: &[Word],
+    mask: Mask,
 ) -> Result<Function, NoMemory>
-    ensures { IfOk result (λ f. f ≡ plain (acl2 name.now) (map (λ n. acl2 n.now) formals.now) (term_of body.now)) }
+    ensures { IfOk result (λ f. f ≡ plain (acl2 name.now) (map (λ n. acl2 n.now) formals.now) (term_of body.now) mask) }
 {
     Ok(Function {
         name: symbol(alloc, name)?,
@@ -25,7 +27,7 @@ fn plain(
         body: term(alloc, body)?,
         measure: None,
         cases: Seq::new(alloc),
-        mask: Mask(1023),
+        mask,
     })
 }
 
@@ -39,6 +41,7 @@ pub(crate) fn not(alloc: Global) -> Result<Function, NoMemory>
         b"NOT",
         &[b"P"],
         &[Three(b"IF"), Var(b"P"), Sym(b"NIL"), Sym(b"T")],
+        Mask(TRUTHS),
     )
 }
 
@@ -60,6 +63,7 @@ pub(crate) fn implies(alloc: Global) -> Result<Function, NoMemory>
             Sym(b"NIL"),
             Sym(b"T"),
         ],
+        Mask(TRUTHS),
     )
 }
 
@@ -84,6 +88,7 @@ pub(crate) fn iff(alloc: Global) -> Result<Function, NoMemory>
             Sym(b"NIL"),
             Sym(b"T"),
         ],
+        Mask(TRUTHS),
     )
 }
 
@@ -97,6 +102,7 @@ pub(crate) fn atom(alloc: Global) -> Result<Function, NoMemory>
         b"ATOM",
         &[b"X"],
         &[One(b"NOT"), One(b"CONSP"), Var(b"X")],
+        Mask(TRUTHS),
     )
 }
 
@@ -110,6 +116,7 @@ pub(crate) fn endp(alloc: Global) -> Result<Function, NoMemory>
         b"ENDP",
         &[b"X"],
         &[One(b"NOT"), One(b"CONSP"), Var(b"X")],
+        Mask(TRUTHS),
     )
 }
 
@@ -123,6 +130,7 @@ pub(crate) fn null(alloc: Global) -> Result<Function, NoMemory>
         b"NULL",
         &[b"X"],
         &[Two(b"EQUAL"), Var(b"X"), Sym(b"NIL")],
+        Mask(TRUTHS),
     )
 }
 
@@ -136,6 +144,7 @@ pub(crate) fn eq(alloc: Global) -> Result<Function, NoMemory>
         b"EQ",
         &[b"X", b"Y"],
         &[Two(b"EQUAL"), Var(b"X"), Var(b"Y")],
+        Mask(TRUTHS),
     )
 }
 
@@ -149,6 +158,7 @@ pub(crate) fn eql(alloc: Global) -> Result<Function, NoMemory>
         b"EQL",
         &[b"X", b"Y"],
         &[Two(b"EQUAL"), Var(b"X"), Var(b"Y")],
+        Mask(TRUTHS),
     )
 }
 
@@ -162,6 +172,7 @@ pub(crate) fn numeric_equal(alloc: Global) -> Result<Function, NoMemory>
         b"=",
         &[b"X", b"Y"],
         &[Two(b"EQUAL"), Var(b"X"), Var(b"Y")],
+        Mask(TRUTHS),
     )
 }
 
@@ -175,6 +186,7 @@ pub(crate) fn acl2_numberp(alloc: Global) -> Result<Function, NoMemory>
         b"ACL2-NUMBERP",
         &[b"X"],
         &[One(b"INTEGERP"), Var(b"X")],
+        Mask(TRUTHS),
     )
 }
 
@@ -183,7 +195,13 @@ pub(crate) fn acl2_numberp(alloc: Global) -> Result<Function, NoMemory>
 pub(crate) fn rationalp(alloc: Global) -> Result<Function, NoMemory>
     ensures { IfOk result (λ f. f ≡ rationalp_function) }
 {
-    plain(alloc, b"RATIONALP", &[b"X"], &[One(b"INTEGERP"), Var(b"X")])
+    plain(
+        alloc,
+        b"RATIONALP",
+        &[b"X"],
+        &[One(b"INTEGERP"), Var(b"X")],
+        Mask(TRUTHS),
+    )
 }
 
 /// `(booleanp x)` is `(if (equal x t) t (equal x nil))`.
@@ -205,6 +223,7 @@ pub(crate) fn booleanp(alloc: Global) -> Result<Function, NoMemory>
             Var(b"X"),
             Sym(b"NIL"),
         ],
+        Mask(TRUTHS),
     )
 }
 
@@ -218,6 +237,7 @@ pub(crate) fn fix(alloc: Global) -> Result<Function, NoMemory>
         b"FIX",
         &[b"X"],
         &[Three(b"IF"), One(b"INTEGERP"), Var(b"X"), Var(b"X"), Int(0)],
+        Mask(INTEGERS),
     )
 }
 
@@ -231,6 +251,7 @@ pub(crate) fn ifix(alloc: Global) -> Result<Function, NoMemory>
         b"IFIX",
         &[b"X"],
         &[Three(b"IF"), One(b"INTEGERP"), Var(b"X"), Var(b"X"), Int(0)],
+        Mask(INTEGERS),
     )
 }
 
@@ -253,6 +274,7 @@ pub(crate) fn natp(alloc: Global) -> Result<Function, NoMemory>
             Int(0),
             Sym(b"NIL"),
         ],
+        Mask(TRUTHS),
     )
 }
 
@@ -274,6 +296,7 @@ pub(crate) fn posp(alloc: Global) -> Result<Function, NoMemory>
             Var(b"X"),
             Sym(b"NIL"),
         ],
+        Mask(TRUTHS),
     )
 }
 
@@ -287,6 +310,7 @@ pub(crate) fn nfix(alloc: Global) -> Result<Function, NoMemory>
         b"NFIX",
         &[b"X"],
         &[Three(b"IF"), One(b"NATP"), Var(b"X"), Var(b"X"), Int(0)],
+        Mask(ALL_TYPES),
     )
 }
 
@@ -309,6 +333,7 @@ pub(crate) fn zp(alloc: Global) -> Result<Function, NoMemory>
             Var(b"X"),
             Sym(b"T"),
         ],
+        Mask(TRUTHS),
     )
 }
 
@@ -330,6 +355,7 @@ pub(crate) fn zip(alloc: Global) -> Result<Function, NoMemory>
             Int(0),
             Sym(b"T"),
         ],
+        Mask(TRUTHS),
     )
 }
 
@@ -343,6 +369,7 @@ pub(crate) fn zerop(alloc: Global) -> Result<Function, NoMemory>
         b"ZEROP",
         &[b"X"],
         &[Two(b"EQUAL"), Var(b"X"), Int(0)],
+        Mask(TRUTHS),
     )
 }
 
@@ -351,7 +378,13 @@ pub(crate) fn zerop(alloc: Global) -> Result<Function, NoMemory>
 pub(crate) fn plusp(alloc: Global) -> Result<Function, NoMemory>
     ensures { IfOk result (λ f. f ≡ plusp_function) }
 {
-    plain(alloc, b"PLUSP", &[b"X"], &[Two(b"<"), Int(0), Var(b"X")])
+    plain(
+        alloc,
+        b"PLUSP",
+        &[b"X"],
+        &[Two(b"<"), Int(0), Var(b"X")],
+        Mask(TRUTHS),
+    )
 }
 
 /// `(minusp x)` is `(< x 0)`.
@@ -359,7 +392,13 @@ pub(crate) fn plusp(alloc: Global) -> Result<Function, NoMemory>
 pub(crate) fn minusp(alloc: Global) -> Result<Function, NoMemory>
     ensures { IfOk result (λ f. f ≡ minusp_function) }
 {
-    plain(alloc, b"MINUSP", &[b"X"], &[Two(b"<"), Var(b"X"), Int(0)])
+    plain(
+        alloc,
+        b"MINUSP",
+        &[b"X"],
+        &[Two(b"<"), Var(b"X"), Int(0)],
+        Mask(TRUTHS),
+    )
 }
 
 /// `(max x y)` is `(if (< y x) x y)`.
@@ -379,6 +418,7 @@ pub(crate) fn max(alloc: Global) -> Result<Function, NoMemory>
             Var(b"X"),
             Var(b"Y"),
         ],
+        Mask(ALL_TYPES),
     )
 }
 
@@ -399,6 +439,7 @@ pub(crate) fn min(alloc: Global) -> Result<Function, NoMemory>
             Var(b"X"),
             Var(b"Y"),
         ],
+        Mask(ALL_TYPES),
     )
 }
 
@@ -420,6 +461,7 @@ pub(crate) fn abs(alloc: Global) -> Result<Function, NoMemory>
             Var(b"X"),
             Var(b"X"),
         ],
+        Mask(NO_NEGATIVES),
     )
 }
 
@@ -445,6 +487,7 @@ pub(crate) fn integer_abs(alloc: Global) -> Result<Function, NoMemory>
             Var(b"X"),
             Int(0),
         ],
+        Mask(NATURALS),
     )
 }
 
@@ -468,5 +511,6 @@ pub(crate) fn length(alloc: Global) -> Result<Function, NoMemory>
             One(b"LEN"),
             Var(b"X"),
         ],
+        Mask(NATURALS),
     )
 }

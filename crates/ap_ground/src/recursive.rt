@@ -7,6 +7,7 @@ ghost use Rattle.ap_world.specs.Names.{x_name};
 ghost use Rattle.ap_world.specs.Recursion.{count_of};
 ghost use Rattle.ap_world.specs.Ground.{true_listp_function, len_function, acl2_count_function, append_function, member_equal_function, make_character_list_function};
 
+use crate::masks::{ALL_TYPES, NATURALS, TRUE_LISTS, TRUTHS};
 use crate::written::Word::{Int, One, Sym, Three, Two, Var};
 use crate::written::{Word, symbol, symbols, term, terms};
 use ap_list::{NoMemory, Seq};
@@ -36,8 +37,9 @@ fn recursive(
     formals: &[&'static [u8]],
     body: &[Word],
     cases: Seq<Case>,
+    mask: Mask,
 ) -> Result<Function, NoMemory>
-    ensures { IfOk result (λ f. f ≡ record { name = acl2 name.now; formals = map (λ n. acl2 n.now) formals.now; body = term_of body.now; measure = Some (record { 0 = count_of x_name ∷ [] }); cases = cases; mask = record { 0 = 1023 } }) }
+    ensures { IfOk result (λ f. f ≡ record { name = acl2 name.now; formals = map (λ n. acl2 n.now) formals.now; body = term_of body.now; measure = Some (record { 0 = count_of x_name ∷ [] }); cases = cases; mask = mask }) }
 {
     let count = terms(alloc, &[&[One(b"ACL2-COUNT"), Var(b"X")]])?;
     Ok(Function {
@@ -46,7 +48,7 @@ fn recursive(
         body: term(alloc, body)?,
         measure: Some(Measure(count)),
         cases,
-        mask: Mask(1023),
+        mask,
     })
 }
 
@@ -78,6 +80,7 @@ pub(crate) fn true_listp(alloc: Global) -> Result<Function, NoMemory>
             Sym(b"NIL"),
         ],
         cases,
+        Mask(TRUTHS),
     )
 }
 
@@ -109,6 +112,7 @@ pub(crate) fn len(alloc: Global) -> Result<Function, NoMemory>
             Int(0),
         ],
         cases,
+        Mask(NATURALS),
     )
 }
 
@@ -154,6 +158,7 @@ pub(crate) fn acl2_count(alloc: Global) -> Result<Function, NoMemory>
             Int(0),
         ],
         cases,
+        Mask(NATURALS),
     )
 }
 
@@ -187,6 +192,7 @@ pub(crate) fn append(alloc: Global) -> Result<Function, NoMemory>
             Var(b"Y"),
         ],
         cases,
+        Mask(ALL_TYPES),
     )
 }
 
@@ -240,6 +246,7 @@ pub(crate) fn member_equal(alloc: Global) -> Result<Function, NoMemory>
             Var(b"X"),
         ],
         cases,
+        Mask(ALL_TYPES),
     )
 }
 
@@ -278,5 +285,6 @@ pub(crate) fn make_character_list(alloc: Global) -> Result<Function, NoMemory>
             Var(b"X"),
         ],
         cases,
+        Mask(TRUE_LISTS),
     )
 }

@@ -177,7 +177,7 @@ fn not_function(alloc: Global) -> Result<Function, NoMemory>
         body,
         measure: None,
         cases: Seq::new(alloc),
-        mask: Mask(1023),
+        mask: Mask(8 + 16),
     })
 }
 

@@ -5,6 +5,7 @@ use Rattle.ap_value.specs.declared.symbol.Symbol.{Symbol}
 use Rattle.ap_value.specs.declared.value.Value.TheVariants.{Int, Sym}
 use Rattle.ap_value.specs.Values.{acl2, symbol_eq}
 use Rattle.ap_term.specs.declared.term.Term.{Term, Var, Quote, Call}
+use Rattle.ap_world.specs.declared.entry.Mask.{Mask}
 use Rattle.ap_world.specs.declared.entry.Function.{Function}
 use Rattle.ap_world.specs.declared.entry.RuleClass.{RuleClass}
 use Rattle.ap_world.specs.declared.entry.RuleClass.TheVariants.{Rewrite, Elim}
@@ -12,6 +13,7 @@ use Rattle.ap_world.specs.declared.entry.Theorem.{Theorem}
 use Rattle.ap_world.specs.declared.entry.Entry.{Entry}
 use Rattle.ap_world.specs.declared.entry.Entry.TheVariants as entry
 use Rattle.ap_world.specs.Names.{a_name, abs_name, acl2_count_name, acl2_numberp_name, append_name, atom_name, booleanp_name, car_name, cdr_name, char_code_name, characterp_name, code_char_name, coerce_name, cons_name, consp_name, endp_name, eq_name, eql_name, equal_name, fix_name, if_name, iff_name, ifix_name, implies_name, integer_abs_name, integerp_name, len_name, length_name, less_name, list_name, make_character_list_name, max_name, member_equal_name, min_name, minus_name, minusp_name, natp_name, nfix_name, not_name, null_name, numeric_equal_name, p_name, plus_name, plusp_name, posp_name, q_name, rationalp_name, string_name, stringp_name, times_name, true_listp_name, x_name, y_name, z_name, zerop_name, zip_name, zp_name}
+use Rattle.ap_world.specs.Types.{truths, integers, naturals, true_lists, no_negatives, all_types}
 use Rattle.ap_world.specs.Recursion.{cases_of, count_of, t_constant, nil_constant}
 
 -- calls, by the number of their arguments
@@ -50,146 +52,148 @@ y = Var y_name
 abbrev pub z : Term
 z = Var z_name
 
--- a function that doesn't call itself, and one that does, whose measure is the count of x
-abbrev pub plain : Symbol → List Symbol → Term → Function
-plain f formals body = record { name = f; formals = formals; body = body; measure = None; cases = []; mask = record { 0 = 1023 } }
+-- a function that doesn't call itself, and one that does, whose measure is the count of x; the last
+-- argument is the mask of the values of its calls
+abbrev pub plain : Symbol → List Symbol → Term → Mask → Function
+plain f formals body mask = record { name = f; formals = formals; body = body; measure = None; cases = []; mask = mask }
 
-abbrev pub recursive : Symbol → List Symbol → Term → Function
-recursive f formals body = record { name = f; formals = formals; body = body; measure = Some (record { 0 = count_of x_name ∷ [] }); cases = cases_of f body; mask = record { 0 = 1023 } }
+abbrev pub recursive : Symbol → List Symbol → Term → Mask → Function
+recursive f formals body mask = record { name = f; formals = formals; body = body; measure = Some (record { 0 = count_of x_name ∷ [] }); cases = cases_of f body; mask = mask }
 
--- the functions, each with its body
+-- the functions, each with its body and the types that a call of it can have: the least that the body
+-- gives back, where the formals have any type and the functions before it have theirs
 
 -- (not p) is (if p nil t)
 unfoldable pub not_function : Function
-not_function = plain not_name (p_name ∷ []) (if_term p nil_constant t_constant)
+not_function = plain not_name (p_name ∷ []) (if_term p nil_constant t_constant) truths
 
 -- (if p (if q t nil) t)
 unfoldable pub implies_function : Function
-implies_function = plain implies_name (p_name ∷ q_name ∷ []) (if_term p (if_term q t_constant nil_constant) t_constant)
+implies_function = plain implies_name (p_name ∷ q_name ∷ []) (if_term p (if_term q t_constant nil_constant) t_constant) truths
 
 -- (if p (if q t nil) (if q nil t))
 unfoldable pub iff_function : Function
-iff_function = plain iff_name (p_name ∷ q_name ∷ []) (if_term p (if_term q t_constant nil_constant) (if_term q nil_constant t_constant))
+iff_function = plain iff_name (p_name ∷ q_name ∷ []) (if_term p (if_term q t_constant nil_constant) (if_term q nil_constant t_constant)) truths
 
 -- (not (consp x))
 unfoldable pub atom_function : Function
-atom_function = plain atom_name (x_name ∷ []) (one not_name (one consp_name x))
+atom_function = plain atom_name (x_name ∷ []) (one not_name (one consp_name x)) truths
 
 -- (not (consp x))
 unfoldable pub endp_function : Function
-endp_function = plain endp_name (x_name ∷ []) (one not_name (one consp_name x))
+endp_function = plain endp_name (x_name ∷ []) (one not_name (one consp_name x)) truths
 
 -- (equal x nil)
 unfoldable pub null_function : Function
-null_function = plain null_name (x_name ∷ []) (two equal_name x nil_constant)
+null_function = plain null_name (x_name ∷ []) (two equal_name x nil_constant) truths
 
 -- (equal x y)
 unfoldable pub eq_function : Function
-eq_function = plain eq_name (x_name ∷ y_name ∷ []) (two equal_name x y)
+eq_function = plain eq_name (x_name ∷ y_name ∷ []) (two equal_name x y) truths
 
 -- (equal x y)
 unfoldable pub eql_function : Function
-eql_function = plain eql_name (x_name ∷ y_name ∷ []) (two equal_name x y)
+eql_function = plain eql_name (x_name ∷ y_name ∷ []) (two equal_name x y) truths
 
 -- (equal x y)
 unfoldable pub numeric_equal_function : Function
-numeric_equal_function = plain numeric_equal_name (x_name ∷ y_name ∷ []) (two equal_name x y)
+numeric_equal_function = plain numeric_equal_name (x_name ∷ y_name ∷ []) (two equal_name x y) truths
 
 -- (integerp x)
 unfoldable pub acl2_numberp_function : Function
-acl2_numberp_function = plain acl2_numberp_name (x_name ∷ []) (one integerp_name x)
+acl2_numberp_function = plain acl2_numberp_name (x_name ∷ []) (one integerp_name x) truths
 
 -- (integerp x)
 unfoldable pub rationalp_function : Function
-rationalp_function = plain rationalp_name (x_name ∷ []) (one integerp_name x)
+rationalp_function = plain rationalp_name (x_name ∷ []) (one integerp_name x) truths
 
 -- (if (equal x t) t (equal x nil))
 unfoldable pub booleanp_function : Function
-booleanp_function = plain booleanp_name (x_name ∷ []) (if_term (two equal_name x t_constant) t_constant (two equal_name x nil_constant))
+booleanp_function = plain booleanp_name (x_name ∷ []) (if_term (two equal_name x t_constant) t_constant (two equal_name x nil_constant)) truths
 
 -- (if (integerp x) x 0)
 unfoldable pub fix_function : Function
-fix_function = plain fix_name (x_name ∷ []) (if_term (one integerp_name x) x zero_constant)
+fix_function = plain fix_name (x_name ∷ []) (if_term (one integerp_name x) x zero_constant) integers
 
 -- (if (integerp x) x 0)
 unfoldable pub ifix_function : Function
-ifix_function = plain ifix_name (x_name ∷ []) (if_term (one integerp_name x) x zero_constant)
+ifix_function = plain ifix_name (x_name ∷ []) (if_term (one integerp_name x) x zero_constant) integers
 
 -- (if (integerp x) (not (< x 0)) nil)
 unfoldable pub natp_function : Function
-natp_function = plain natp_name (x_name ∷ []) (if_term (one integerp_name x) (one not_name (two less_name x zero_constant)) nil_constant)
+natp_function = plain natp_name (x_name ∷ []) (if_term (one integerp_name x) (one not_name (two less_name x zero_constant)) nil_constant) truths
 
 -- (if (integerp x) (< 0 x) nil)
 unfoldable pub posp_function : Function
-posp_function = plain posp_name (x_name ∷ []) (if_term (one integerp_name x) (two less_name zero_constant x) nil_constant)
+posp_function = plain posp_name (x_name ∷ []) (if_term (one integerp_name x) (two less_name zero_constant x) nil_constant) truths
 
 -- (if (natp x) x 0)
 unfoldable pub nfix_function : Function
-nfix_function = plain nfix_name (x_name ∷ []) (if_term (one natp_name x) x zero_constant)
+nfix_function = plain nfix_name (x_name ∷ []) (if_term (one natp_name x) x zero_constant) all_types
 
 -- (if (integerp x) (not (< 0 x)) t)
 unfoldable pub zp_function : Function
-zp_function = plain zp_name (x_name ∷ []) (if_term (one integerp_name x) (one not_name (two less_name zero_constant x)) t_constant)
+zp_function = plain zp_name (x_name ∷ []) (if_term (one integerp_name x) (one not_name (two less_name zero_constant x)) t_constant) truths
 
 -- (if (integerp x) (equal x 0) t)
 unfoldable pub zip_function : Function
-zip_function = plain zip_name (x_name ∷ []) (if_term (one integerp_name x) (two equal_name x zero_constant) t_constant)
+zip_function = plain zip_name (x_name ∷ []) (if_term (one integerp_name x) (two equal_name x zero_constant) t_constant) truths
 
 -- (equal x 0)
 unfoldable pub zerop_function : Function
-zerop_function = plain zerop_name (x_name ∷ []) (two equal_name x zero_constant)
+zerop_function = plain zerop_name (x_name ∷ []) (two equal_name x zero_constant) truths
 
 -- (< 0 x)
 unfoldable pub plusp_function : Function
-plusp_function = plain plusp_name (x_name ∷ []) (two less_name zero_constant x)
+plusp_function = plain plusp_name (x_name ∷ []) (two less_name zero_constant x) truths
 
 -- (< x 0)
 unfoldable pub minusp_function : Function
-minusp_function = plain minusp_name (x_name ∷ []) (two less_name x zero_constant)
+minusp_function = plain minusp_name (x_name ∷ []) (two less_name x zero_constant) truths
 
 -- (if (< y x) x y)
 unfoldable pub max_function : Function
-max_function = plain max_name (x_name ∷ y_name ∷ []) (if_term (two less_name y x) x y)
+max_function = plain max_name (x_name ∷ y_name ∷ []) (if_term (two less_name y x) x y) all_types
 
 -- (if (< x y) x y)
 unfoldable pub min_function : Function
-min_function = plain min_name (x_name ∷ y_name ∷ []) (if_term (two less_name x y) x y)
+min_function = plain min_name (x_name ∷ y_name ∷ []) (if_term (two less_name x y) x y) all_types
 
 -- (if (< x 0) (unary-- x) x)
 unfoldable pub abs_function : Function
-abs_function = plain abs_name (x_name ∷ []) (if_term (two less_name x zero_constant) (one minus_name x) x)
+abs_function = plain abs_name (x_name ∷ []) (if_term (two less_name x zero_constant) (one minus_name x) x) no_negatives
 
 -- (if (integerp x) (if (< x 0) (unary-- x) x) 0)
 unfoldable pub integer_abs_function : Function
-integer_abs_function = plain integer_abs_name (x_name ∷ []) (if_term (one integerp_name x) (if_term (two less_name x zero_constant) (one minus_name x) x) zero_constant)
+integer_abs_function = plain integer_abs_name (x_name ∷ []) (if_term (one integerp_name x) (if_term (two less_name x zero_constant) (one minus_name x) x) zero_constant) naturals
 
 -- (if (consp x) (true-listp (cdr x)) (equal x nil))
 unfoldable pub true_listp_function : Function
-true_listp_function = recursive true_listp_name (x_name ∷ []) (if_term (one consp_name x) (one true_listp_name (one cdr_name x)) (two equal_name x nil_constant))
+true_listp_function = recursive true_listp_name (x_name ∷ []) (if_term (one consp_name x) (one true_listp_name (one cdr_name x)) (two equal_name x nil_constant)) truths
 
 -- (if (consp x) (+ 1 (len (cdr x))) 0)
 unfoldable pub len_function : Function
-len_function = recursive len_name (x_name ∷ []) (if_term (one consp_name x) (two plus_name one_constant (one len_name (one cdr_name x))) zero_constant)
+len_function = recursive len_name (x_name ∷ []) (if_term (one consp_name x) (two plus_name one_constant (one len_name (one cdr_name x))) zero_constant) naturals
 
 -- (if (stringp x) (len (coerce x 'list)) (len x))
 unfoldable pub length_function : Function
-length_function = plain length_name (x_name ∷ []) (if_term (one stringp_name x) (one len_name (two coerce_name x (Quote (Sym list_name)))) (one len_name x))
+length_function = plain length_name (x_name ∷ []) (if_term (one stringp_name x) (one len_name (two coerce_name x (Quote (Sym list_name)))) (one len_name x)) naturals
 
 -- (if (consp x) (+ 1 (+ (acl2-count (car x)) (acl2-count (cdr x)))) (if (integerp x) (integer-abs x) (if (stringp x) (length x) 0)))
 unfoldable pub acl2_count_function : Function
-acl2_count_function = recursive acl2_count_name (x_name ∷ []) (if_term (one consp_name x) (two plus_name one_constant (two plus_name (one acl2_count_name (one car_name x)) (one acl2_count_name (one cdr_name x)))) (if_term (one integerp_name x) (one integer_abs_name x) (if_term (one stringp_name x) (one length_name x) zero_constant)))
+acl2_count_function = recursive acl2_count_name (x_name ∷ []) (if_term (one consp_name x) (two plus_name one_constant (two plus_name (one acl2_count_name (one car_name x)) (one acl2_count_name (one cdr_name x)))) (if_term (one integerp_name x) (one integer_abs_name x) (if_term (one stringp_name x) (one length_name x) zero_constant))) naturals
 
 -- (binary-append x y) is (if (endp x) y (cons (car x) (binary-append (cdr x) y)))
 unfoldable pub append_function : Function
-append_function = recursive append_name (x_name ∷ y_name ∷ []) (if_term (one endp_name x) y (two cons_name (one car_name x) (two append_name (one cdr_name x) y)))
+append_function = recursive append_name (x_name ∷ y_name ∷ []) (if_term (one endp_name x) y (two cons_name (one car_name x) (two append_name (one cdr_name x) y))) all_types
 
 -- (if (endp x) nil (if (equal a (car x)) x (member-equal a (cdr x))))
 unfoldable pub member_equal_function : Function
-member_equal_function = recursive member_equal_name (a_name ∷ x_name ∷ []) (if_term (one endp_name x) nil_constant (if_term (two equal_name a (one car_name x)) x (two member_equal_name a (one cdr_name x))))
+member_equal_function = recursive member_equal_name (a_name ∷ x_name ∷ []) (if_term (one endp_name x) nil_constant (if_term (two equal_name a (one car_name x)) x (two member_equal_name a (one cdr_name x)))) all_types
 
 -- (if (endp x) nil (cons (if (characterp (car x)) (car x) (code-char 0)) (make-character-list (cdr x))))
 unfoldable pub make_character_list_function : Function
-make_character_list_function = recursive make_character_list_name (x_name ∷ []) (if_term (one endp_name x) nil_constant (two cons_name (if_term (one characterp_name (one car_name x)) (one car_name x) (one code_char_name zero_constant)) (one make_character_list_name (one cdr_name x))))
+make_character_list_function = recursive make_character_list_name (x_name ∷ []) (if_term (one endp_name x) nil_constant (two cons_name (if_term (one characterp_name (one car_name x)) (one car_name x) (one code_char_name zero_constant)) (one make_character_list_name (one cdr_name x)))) true_lists
 
 unfoldable pub ground_functions : List Function
 ground_functions =
