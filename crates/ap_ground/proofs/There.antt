@@ -2,6 +2,7 @@
 use Rattle.std.proofs.Common.{◌≡◌, Bool, true, Some, refl}
 use Rattle.ap_world.specs.Names.{not_name, implies_name, iff_name, atom_name, endp_name, null_name, eq_name, eql_name, numeric_equal_name, acl2_numberp_name, rationalp_name, booleanp_name, fix_name, ifix_name, natp_name, posp_name, nfix_name, zp_name, zip_name, zerop_name, plusp_name, minusp_name, max_name, min_name, abs_name, integer_abs_name, true_listp_name, len_name, length_name, acl2_count_name, append_name, member_equal_name, make_character_list_name}
 use Rattle.ap_world.specs.Ground.{not_function, implies_function, iff_function, atom_function, endp_function, null_function, eq_function, eql_function, numeric_equal_function, acl2_numberp_function, rationalp_function, booleanp_function, fix_function, ifix_function, natp_function, posp_function, nfix_function, zp_function, zip_function, zerop_function, plusp_function, minusp_function, max_function, min_function, abs_function, integer_abs_function, true_listp_function, len_function, length_function, acl2_count_function, append_function, member_equal_function, make_character_list_function, ground_functions}
+use Rattle.ap_world.specs.Sound.{HasFunctions}
 use Rattle.ap_world.proofs.Equations.{names_open}
 use Rattle.ap_ground.proofs.Totality.{G}
 
@@ -144,3 +145,9 @@ has_make_character_list = refl
 
 -- what stands under each name
 pub ruleset there = (has_not, has_implies, has_iff, has_atom, has_endp, has_null, has_eq, has_eql, has_numeric_equal, has_acl2_numberp, has_rationalp, has_booleanp, has_fix, has_ifix, has_natp, has_posp, has_nfix, has_zp, has_zip, has_zerop, has_plusp, has_minusp, has_max, has_min, has_abs, has_integer_abs, has_true_listp, has_len, has_length, has_acl2_count, has_append, has_member_equal, has_make_character_list)
+
+-- so each of them is there as it is given
+pub has_functions : HasFunctions G
+unfolding functions_open
+has_functions =
+    (has_not, has_implies, has_iff, has_atom, has_endp, has_null, has_eq, has_eql, has_numeric_equal, has_acl2_numberp, has_rationalp, has_booleanp, has_fix, has_ifix, has_natp, has_posp, has_nfix, has_zp, has_zip, has_zerop, has_plusp, has_minusp, has_max, has_min, has_abs, has_integer_abs, has_true_listp, has_len, has_length, has_acl2_count, has_append, has_member_equal, has_make_character_list, tt)

@@ -16,12 +16,13 @@ use Rattle.ap_world.specs.Primitives.{prim_of}
 use Rattle.ap_world.specs.Meaning.{Defs, meaning, body_value, calls, HasValue, CallValue, Total, Valid}
 use Rattle.ap_world.specs.Types.{Has}
 use Rattle.ap_world.specs.Recursion.{is_empty, calls_in, has_no_call}
-use Rattle.ap_world.specs.Sound.{takes, is_head, known, components, speaks_of, given_function, DefinedAlike, Recurs, GoodFunction, GoodTheorem, Good, Sound}
+use Rattle.ap_world.specs.Sound.{takes, is_head, known, components, speaks_of, given_function, HasFunctions, DefinedAlike, Recurs, GoodFunction, GoodTheorem, Good, Sound}
 use Rattle.ap_world.specs.World.{name_in, entry_of, as_function, function_of, has_name}
 use Rattle.ap_world.proofs.Fuel.{call_unique, value_unique}
 use Rattle.ap_world.proofs.Knowing.{known_head, known_args, each_true, each_same}
 use Rattle.ap_world.proofs.Written.{calls_var, calls_quote, calls_call}
 use Rattle.ap_world.proofs.TotalMeaning.{known_valued}
+use Rattle.ap_world.specs.Ground.{ground_functions}
 use Rattle.ap_world.proofs.Extending.{Extends, value_extend, call_extend, known_extend, all_known_extend, valid_extend, entry_of-kept, not_taken, extends-append, function_of-theorem, function_of-constant, function_of-here, function_of-other}
 
 pub each_append : {A : Type 0} (P : A → Type 0) (xs ys : List A) → Each P xs → Each P ys → Each P (xs ++ ys)
@@ -253,3 +254,11 @@ sound-define W f sound fresh formals speaks body_known measure cases given mask 
 
     E : Defs
     E = function_of (W ++ entry.Function f ∷ [])
+
+-- a world that has the functions of the ground world has them when entries are added
+pub has_functions-more : (W X : List Entry) → HasFunctions (function_of W) → HasFunctions (function_of (W ++ X))
+has_functions-more W X = go ground_functions
+  where
+    go : (fs : List Function) → Each (λ f. function_of W f.name ≡ Some f) fs → Each (λ f. function_of (W ++ X) f.name ≡ Some f) fs
+    go [] h = tt
+    go (f ∷ fs) h = (extends-append W X f.name f h.0, go fs h.1)

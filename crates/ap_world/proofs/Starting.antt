@@ -1,5 +1,5 @@
 -- The starting world, of `not` alone, is sound; and what `not` means.
-use Rattle.std.proofs.Common.{◌≡◌, zero, suc, Bool, true, false, cond, pos, negsuc, [], ◌∷◌, zip, length, Some, refl, sym, ◌∙◌, subst}
+use Rattle.std.proofs.Common.{◌≡◌, zero, suc, Bool, true, false, cond, pos, negsuc, [], ◌∷◌, zip, Some, refl, sym, ◌∙◌, subst}
 use Rattle.std.specs.Int.{bit_at}
 use Rattle.ap_value.specs.Values.{V, int, chr, str, sym as symbol, cons, value_eq}
 use Rattle.ap_term.specs.declared.term.Term.{Term, Var}

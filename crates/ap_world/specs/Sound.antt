@@ -50,6 +50,10 @@ speaks_of formals u = is_within symbol_eq (vars_after u []) formals
 abbrev pub given_function : Symbol → Option Function
 given_function = named_in ground_functions
 
+-- each function of the ground world is there as it is given
+abbrev pub HasFunctions : Defs → Type 0
+HasFunctions D = Each (λ f. D f.name ≡ Some f) ground_functions
+
 -- two functions are defined alike, whatever their masks
 pub record DefinedAlike (f g : Function) : Type 0 where
   pub formals : f.formals ≡ g.formals
