@@ -150,4 +150,4 @@ pub ruleset there = (has_not, has_implies, has_iff, has_atom, has_endp, has_null
 pub has_functions : HasFunctions G
 unfolding functions_open
 has_functions =
-    (has_not, has_implies, has_iff, has_atom, has_endp, has_null, has_eq, has_eql, has_numeric_equal, has_acl2_numberp, has_rationalp, has_booleanp, has_fix, has_ifix, has_natp, has_posp, has_nfix, has_zp, has_zip, has_zerop, has_plusp, has_minusp, has_max, has_min, has_abs, has_integer_abs, has_true_listp, has_len, has_length, has_acl2_count, has_append, has_member_equal, has_make_character_list, tt)
+    (has_not, (has_implies, (has_iff, (has_atom, (has_endp, (has_null, (has_eq, (has_eql, (has_numeric_equal, (has_acl2_numberp, (has_rationalp, (has_booleanp, (has_fix, (has_ifix, (has_natp, (has_posp, (has_nfix, (has_zp, (has_zip, (has_zerop, (has_plusp, (has_minusp, (has_max, (has_min, (has_abs, (has_integer_abs, (has_true_listp, (has_len, (has_length, (has_acl2_count, (has_append, (has_member_equal, (has_make_character_list, tt)))))))))))))))))))))))))))))))))
