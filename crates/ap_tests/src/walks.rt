@@ -33,7 +33,7 @@ impl Step for Trees {
     ghost use Rattle.ap_walk.specs.declared.act.Reason.{Reason};
     ghost use Rattle.ap_walk.specs.declared.act.Process.{Process};
     ghost use Rattle.ap_walk.specs.declared.act.Out.{Out};
-    ghost use Rattle.ap_walk.specs.declared.tests.Tree.TheVariants.{Empty, Left, Right, Pair, Halt, Over, Deep};
+    ghost use Rattle.ap_tests.specs.declared.walks.Tree.TheVariants.{Empty, Left, Right, Pair, Halt, Over, Deep};
 
     type Task = Tree;
 
