@@ -36,11 +36,11 @@ fn inductions<P: Prover>(
     ensures { IfOk result (λ tasks. tasks ≡ inductions P.inducted 1 (pushed marks.now)) }
 {
     let mut tasks = Seq::new(alloc);
-    let mut k = 1;
+    let mut number = 1;
     for mark in marks {
         if let Process::Push = mark.act.process {
-            tasks.push(prover.induct_task(alloc, &mark.task, k)?)?;
-            k += 1;
+            tasks.push(prover.induct_task(alloc, &mark.task, number)?)?;
+            number += 1;
         }
     }
     Ok(tasks)
