@@ -1,5 +1,5 @@
 -- What follows a turn.
-use Rattle.std.proofs.Common.{◌≡◌, ℕ, zero, suc, ◌+◌, ◌-◌, ◌≤◌, ◌<◌, Bool, true, false, List, [], ◌∷◌, ◌++◌, length, Option, Some, None, arith, refl, ap, subst, sym, ◌∙◌, append_assoc, append-nil}
+use Rattle.std.proofs.Common.{◌≡◌, ℕ, zero, suc, ◌-◌, ◌≤◌, ◌<◌, Bool, true, false, List, [], ◌∷◌, ◌++◌, length, Option, Some, None, arith, refl, ap, subst, sym, ◌∙◌, append_assoc, append-nil}
 use Rattle.ap_walk.specs.declared.act.Stepped.{Stepped}
 use Rattle.ap_walk.specs.declared.rule.Rule.{Rule}
 use Rattle.ap_walk.specs.declared.rule.Tally.{Tally}
@@ -14,7 +14,7 @@ use Rattle.ap_attempt.specs.declared.turn.Turn.{Turn}
 use Rattle.ap_attempt.specs.declared.turn.Next.{Next}
 use Rattle.ap_attempt.specs.declared.verdict.Attempt.{Attempt}
 use Rattle.ap_attempt.specs.declared.verdict.Verdict.{Verdict}
-use Rattle.ap_attempt.specs.Attempts.{rule_after, taken, next_by, next_turn, follow, walked_first, one_turn, turns_within, turns_from}
+use Rattle.ap_attempt.specs.Attempts.{taken, next_by, next_turn, follow, walked_first, one_turn, turns_within, turns_from}
 use Rattle.ap_attempt.proofs.Lowering.{next_rule}
 
 module _ {T : Type 0} where

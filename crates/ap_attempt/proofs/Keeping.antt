@@ -1,6 +1,6 @@
 -- What an attempt keeps: its walks are few and none but the first is initial, and where its verdict is that
 -- the root is proved, the root is good.
-use Rattle.std.proofs.Common.{◌≡◌, ℕ, zero, suc, ◌+◌, ◌-◌, ◌≤◌, ◌<◌, Bool, true, false, ◌⊎◌, inl, inr, List, [], ◌∷◌, ◌++◌, length, Option, Some, None, arith, refl, ap, subst, sym, ◌∙◌}
+use Rattle.std.proofs.Common.{◌≡◌, ℕ, zero, suc, ◌+◌, ◌-◌, ◌≤◌, ◌<◌, Bool, true, false, ◌⊎◌, inl, inr, List, [], ◌∷◌, ◌++◌, Option, Some, None, arith, refl}
 use Rattle.ap_list.specs.Lists.{Each}
 use Rattle.ap_walk.specs.declared.act.Stepped.{Stepped}
 use Rattle.ap_walk.specs.declared.rule.Rule.{Rule}
@@ -16,7 +16,7 @@ use Rattle.ap_attempt.specs.declared.turn.Turn.{Turn}
 use Rattle.ap_attempt.specs.declared.turn.Next.{Next}
 use Rattle.ap_attempt.specs.declared.verdict.Verdict.{Verdict}
 use Rattle.ap_attempt.specs.declared.verdict.Attempt.{Attempt}
-use Rattle.ap_attempt.specs.Attempts.{inductions, rule_after, taken, next_by, next_turn, follow, turns_within, turns_from, attempt}
+use Rattle.ap_attempt.specs.Attempts.{inductions, rule_after, taken, next_by, next_turn, follow, turns_within, attempt}
 use Rattle.ap_attempt.specs.Laws.{mark_count, IsLater, EachAfterFirst}
 use Rattle.ap_attempt.proofs.Following.{next_turn_rule, walk_counts}
 

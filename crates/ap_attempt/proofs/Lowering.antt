@@ -1,5 +1,5 @@
 -- The rule of the next walk.
-use Rattle.std.proofs.Common.{◌≡◌, ℕ, zero, suc, ◌+◌, ◌-◌, ◌≤◌, ◌<◌, Bool, false, Option, Some, None, arith, refl, ap, subst, sym, ◌∙◌}
+use Rattle.std.proofs.Common.{◌≡◌, ℕ, zero, suc, ◌-◌, ◌≤◌, Bool, false, Some, None, arith, refl, ap, subst, sym, ◌∙◌}
 use Rattle.std.proofs.Math.Bridge.{le_prop}
 use Rattle.ap_walk.specs.declared.rule.Rule.{Rule}
 use Rattle.ap_attempt.specs.Attempts.{rule_for, rule_after}

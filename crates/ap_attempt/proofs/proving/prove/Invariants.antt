@@ -1,4 +1,4 @@
-use Rattle.std.proofs.Common.{◌≡◌, ◌++◌}
+use Rattle.std.proofs.Common.{◌≡◌}
 use Rattle.ap_attempt.specs.Attempts.{attempt, turns_from}
 use Rattle.ap_attempt.proofs.Following.{walked_before}
 use Rattle.ap_attempt.proofs.proving.prove.Given as goal

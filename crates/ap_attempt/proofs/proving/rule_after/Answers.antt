@@ -1,5 +1,5 @@
-use Rattle.std.proofs.Common.{arith, sym, refl}
-use Rattle.ap_attempt.proofs.Lowering.{rule_for_none, rule_for_some}
+use Rattle.std.proofs.Common.{refl}
+use Rattle.ap_attempt.proofs.Lowering.{rule_for_some}
 use Rattle.ap_attempt.proofs.proving.rule_after.Goals as goal
 
 pub returns : goal.returns
