@@ -1,0 +1,4 @@
+pub mod Lowering
+pub mod Following
+pub mod Keeping
+pub mod PushNames

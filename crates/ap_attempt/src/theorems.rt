@@ -1,0 +1,25 @@
+//! Laws of attempts. Each is the contract of a function that does nothing.
+ghost use Rattle.std.specs.Prelude.{◌≡◌, Bool, List, map};
+ghost use Rattle.ap_attempt.specs.Attempts.{inductions, one_turn, turns_from};
+ghost use Rattle.ap_attempt.specs.Laws.{push_names};
+ghost use Rattle.ap_attempt.specs.declared.turn.Turn.{Turn};
+ghost use Rattle.ap_attempt.specs.declared.verdict.Attempt.{Attempt};
+
+use crate::prover::Prover;
+
+/// All that follows from a turn on is that turn's walk, and then all that follows from the next turn on, as
+/// long as there is one. Only one function of turns goes so, since each walk visits a goal, and the next
+/// turn's rule has what is left as its limit.
+pub fn attempt_goes_turn_by_turn<P: Prover>()
+    ensures turns { (original : P.Task) (refuses : Bool) (turn : Turn P.Task) →
+        turns_from P.step_of P.depth P.inducted original refuses turn
+        ≡ one_turn P.step_of P.depth P.inducted original refuses (turns_from P.step_of P.depth P.inducted original refuses) turn }
+    ensures only { (original : P.Task) (refuses : Bool) (follows : Turn P.Task → Attempt P.Task) →
+        ((turn : Turn P.Task) → follows turn ≡ one_turn P.step_of P.depth P.inducted original refuses follows turn) →
+        (turn : Turn P.Task) → follows turn ≡ turns_from P.step_of P.depth P.inducted original refuses turn }
+{}
+
+/// The inductions of pushed tasks have the names that the tasks are pushed as.
+pub fn pushes_are_named<P: Prover>()
+    ensures { (tasks : List P.Task) → map P.name (inductions P.inducted 1 tasks) ≡ push_names P.name 1 tasks }
+{}
