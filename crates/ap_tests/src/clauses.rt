@@ -29,7 +29,7 @@ fn rows() -> &'static [u8] {
 }
 
 /// Whether the literals of a clause are terms of the world.
-fn is_clause(w: &World, c: &Clause) -> bool
+pub(crate) fn is_clause(w: &World, c: &Clause) -> bool
     ensures { IsTrue result → KnownClause (function_of w.now.entries) c.now }
 {
     are_known(w, c.0.as_slice())
@@ -74,7 +74,7 @@ fn reduced(
 }
 
 /// Whether a clause's literals are the arguments of a call.
-fn is_written(c: &Clause, t: &Term) -> bool {
+pub(crate) fn is_written(c: &Clause, t: &Term) -> bool {
     match t {
         Term::Call(_, ts) => c.0.len() == ts.len()
             && c.0

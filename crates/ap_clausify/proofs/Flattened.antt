@@ -1,0 +1,64 @@
+-- What the conjuncts and the clause of a term are at each kind of term.
+use Rattle.std.proofs.Common.{◌≡◌, ◌<◌, ◌≤◌, Bool, true, cond, List, [], ◌∷◌, ◌++◌, map, refl, ap, sym, ◌∙◌, append_assoc, length, get_or, arith}
+use Rattle.ap_value.specs.declared.symbol.Symbol.{Symbol}
+use Rattle.ap_value.specs.Values.{symbol_eq}
+use Rattle.ap_term.specs.declared.term.Term.{Term, Call}
+use Rattle.ap_world.specs.Names.{if_name, implies_name}
+use Rattle.ap_world.specs.Clauses.{negate, is_nil, if_parts, and_parts, conjuncts, implied, flat}
+use Rattle.ap_world.proofs.Written.{conjuncts_var, conjuncts_quote, conjuncts_call, flat_var, flat_quote, flat_call}
+
+pub negations_append : (xs ys : List Term) → map negate (xs ++ ys) ≡ map negate xs ++ map negate ys
+negations_append [] ys = refl
+negations_append (x ∷ xs) ys = rw (negations_append xs ys) refl
+
+-- a list by its length and its elements
+pub pair_is : (ts us : List Term) (a b : Term) → ts ≡ us → 2 ≤ length ts → length ts < 3 → a ≡ get_or ts 0 a → b ≡ get_or ts 1 b → us ≡ a ∷ b ∷ []
+pair_is [] us a b e h k p q = absurd (omega arith)
+pair_is (x ∷ []) us a b e h k p q = absurd (omega arith)
+pair_is (x ∷ y ∷ []) us a b e h k p q = sym e ∙ ap (λ z. z ∷ y ∷ []) (sym p) ∙ ap (λ z. a ∷ z ∷ []) (sym q)
+pair_is (x ∷ y ∷ z ∷ ts) us a b e h k p q = absurd (omega arith)
+
+pub triple_is : (ts us : List Term) (a b c : Term) → ts ≡ us → 3 ≤ length ts → length ts < 4 → a ≡ get_or ts 0 a → b ≡ get_or ts 1 b → c ≡ get_or ts 2 c → us ≡ a ∷ b ∷ c ∷ []
+triple_is [] us a b c e h k p q r = absurd (omega arith)
+triple_is (x ∷ []) us a b c e h k p q r = absurd (omega arith)
+triple_is (x ∷ y ∷ []) us a b c e h k p q r = absurd (omega arith)
+triple_is (x ∷ y ∷ z ∷ []) us a b c e h k p q r = sym e ∙ ap (λ w. w ∷ y ∷ z ∷ []) (sym p) ∙ ap (λ w. a ∷ w ∷ z ∷ []) (sym q) ∙ ap (λ w. a ∷ b ∷ w ∷ []) (sym r)
+triple_is (x ∷ y ∷ z ∷ w ∷ ts) us a b c e h k p q r = absurd (omega arith)
+
+abbrev pub conjuncts_at : Bool → List Term → Term → List Term
+conjuncts_at true (a ∷ b ∷ c ∷ []) u = cond (is_nil c) (conjuncts a ++ conjuncts b) (u ∷ [])
+conjuncts_at x ts u = u ∷ []
+
+conjuncts_parts : (x : Bool) (ts : List Term) (u : Term) → and_parts (if_parts x (map (λ u. (u, conjuncts u)) ts)) (u ∷ []) ≡ conjuncts_at x ts u
+conjuncts_parts true (a ∷ b ∷ c ∷ []) u = refl
+conjuncts_parts x ts u = refl
+
+pub conjuncts_called : (f : Symbol) (ts : List Term) → conjuncts (Call f ts) ≡ conjuncts_at (symbol_eq f if_name) ts (Call f ts)
+conjuncts_called f ts = conjuncts_call f ts ∙ conjuncts_parts (symbol_eq f if_name) ts (Call f ts)
+
+pub ruleset conjoining = (conjuncts_var, conjuncts_quote, conjuncts_called, negations_append)
+
+-- the negations of a conjunction's conjuncts are those of its parts
+pub conjuncts_pair : (u : Term) (f : Symbol) (a b c : Term) → u ≡ Call f (a ∷ b ∷ c ∷ []) → symbol_eq f if_name ≡ true → is_nil c ≡ true → map negate (conjuncts u) ≡ map negate (conjuncts a) ++ map negate (conjuncts b)
+conjuncts_pair u f a b c h q z =
+    ap (λ w. map negate (conjuncts w)) h ∙ ap (map negate) (conjuncts_called f (a ∷ b ∷ c ∷ []) ∙ rw (q, z) refl) ∙ negations_append (conjuncts a) (conjuncts b)
+
+abbrev pub flat_at : Bool → List Term → Term → List Term
+flat_at true (h ∷ c ∷ []) u = map negate (conjuncts h) ++ flat c
+flat_at x ts u = u ∷ []
+
+flat_parts : (x : Bool) (ts : List Term) (u : Term) → implied x (map (λ u. (u, flat u)) ts) (u ∷ []) ≡ flat_at x ts u
+flat_parts true (h ∷ c ∷ []) u = refl
+flat_parts x ts u = refl
+
+pub flat_called : (f : Symbol) (ts : List Term) → flat (Call f ts) ≡ flat_at (symbol_eq f implies_name) ts (Call f ts)
+flat_called f ts = flat_call f ts ∙ flat_parts (symbol_eq f implies_name) ts (Call f ts)
+
+pub ruleset flattening = (flat_var, flat_quote, flat_called)
+
+pub flat_pair : (u : Term) (f : Symbol) (h c : Term) → u ≡ Call f (h ∷ c ∷ []) → symbol_eq f implies_name ≡ true → flat u ≡ map negate (conjuncts h) ++ flat c
+flat_pair u f h c e q = ap flat e ∙ flat_called f (h ∷ c ∷ []) ∙ rw q refl
+
+-- what is added by two steps
+pub by_steps : (out new xs ys zs : List Term) → zs ≡ xs ++ ys → new ≡ out ++ xs → out ++ zs ≡ new ++ ys
+by_steps out new xs ys zs e h = ap (λ us. out ++ us) e ∙ sym (append_assoc out xs ys) ∙ ap (λ us. us ++ ys) (sym h)

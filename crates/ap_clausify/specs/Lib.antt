@@ -1,0 +1,4 @@
+pub mod Flattening
+pub mod Frames
+pub mod Places
+pub mod Splitting

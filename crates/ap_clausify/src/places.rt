@@ -1,0 +1,77 @@
+ghost use Rattle.std.specs.Prelude.{◌≡◌, ◌∷◌, [], ◌++◌, IfOk, OnOk, map};
+ghost use Rattle.std.specs.Option.{option_map};
+ghost use Rattle.ap_clausify.specs.Places.{first_in, first_place, first_choice, found};
+
+use crate::shapes::is_if;
+use ap_list::{NoMemory, Seq};
+use ap_term::{Clause, Term};
+use std::alloc::{AllocError, Global};
+
+/// Where an `if` stands in a clause: the place of its literal, and the places of arguments in that, the
+/// outermost first.
+#[derive(Debug, Drop)]
+pub(crate) struct Place {
+    pub literal: usize,
+    pub at: Seq<u32>,
+}
+
+/// Adds the place of an argument. Where it doesn't fit 32 bits, the call doesn't fit the memory.
+fn push_place(at: &mut Seq<u32>, place: usize) -> Result<(), NoMemory>
+    ensures { OnOk result (at.new ≡ at.old ++ place ∷ []) }
+{
+    match u32::try_from(place) {
+        Ok(place) => at.push(place),
+        Err(_) => Err(AllocError),
+    }
+}
+
+/// Whether a term has an `if`; the place of the first one whose test has none is then added.
+#[cycle(finding)]
+#[tactic(auto, using(crate::proofs::Placed::placing))]
+fn find(t: &Term, at: &mut Seq<u32>) -> Result<bool, NoMemory>
+    ensures { IfOk result (λ b. (b, at.new) ≡ found at.old (first_place t.now)) }
+{
+    match t {
+        Term::Call(f, ts) => match (is_if(f), ts.as_slice()) {
+            (true, [test, _, _]) => {
+                push_place(at, 0)?;
+                if !find(test, at)? {
+                    at.pop();
+                }
+                Ok(true)
+            }
+            _ => find_among(ts.as_slice(), at),
+        },
+        Term::Var(_) => Ok(false),
+        Term::Quote(_) => Ok(false),
+    }
+}
+
+/// The same of arguments, in their order.
+#[cycle(finding)]
+fn find_among(ts: &[Term], at: &mut Seq<u32>) -> Result<bool, NoMemory>
+    ensures { IfOk result (λ b. (b, at.new) ≡ found at.old (first_in 0 (map first_place ts.now))) }
+{
+    for (place, t) in ts.iter().enumerate() {
+        push_place(at, place)?;
+        if find(t, at)? {
+            return Ok(true);
+        }
+        at.pop();
+    }
+    Ok(false)
+}
+
+/// The `if` of a clause that is split first: in the first literal with an `if`, the first one in preorder
+/// whose test has none. `None` exactly where the clause has no `if`.
+pub(crate) fn first_choice(alloc: Global, c: &Clause) -> Result<Option<Place>, NoMemory>
+    ensures { IfOk result (λ o. option_map (λ p. (p.literal, p.at)) o ≡ first_choice c.now) }
+{
+    let mut at = Seq::new(alloc);
+    for (literal, t) in c.0.as_slice().iter().enumerate() {
+        if find(t, &mut at)? {
+            return Ok(Some(Place { literal, at }));
+        }
+    }
+    Ok(None)
+}

@@ -1,0 +1,39 @@
+use ap_kernel::Reduction;
+use ap_list::Seq;
+use ap_term::Clause;
+
+/// The clauses without `if` that a clause is split into, or nothing where the steps ran out.
+#[derive(Drop)]
+pub struct Split {
+    pub reduction: Option<Reduction>,
+}
+
+/// A clause that waits while its cases are split: its two cases, and what the first of these are reduced to.
+#[derive(Drop)]
+pub(crate) struct Frame {
+    pub split: Reduction,
+    pub done: Seq<Reduction>,
+}
+
+/// What is at hand: a clause that is to be split, or one that is.
+#[derive(Drop)]
+pub(crate) enum Task {
+    Open(Clause),
+    Done(Reduction),
+}
+
+/// The clauses that wait, the outermost first, and what the last of them waits for.
+#[derive(Drop)]
+pub(crate) struct State {
+    pub frames: Seq<Frame>,
+    pub task: Task,
+}
+
+/// What a turn leaves: the next state, what the first clause is reduced to, or nothing where the steps ran
+/// out.
+#[derive(Drop)]
+pub(crate) enum Turn {
+    On(State),
+    Through(Reduction),
+    Out,
+}
