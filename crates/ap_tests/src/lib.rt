@@ -25,6 +25,8 @@ mod printing;
 #[cfg(test)]
 mod reading;
 #[cfg(test)]
+mod splitting;
+#[cfg(test)]
 mod terms;
 #[cfg(test)]
 mod tokens;
