@@ -1,0 +1,12 @@
+use Rattle.std.proofs.Common.{◌≡◌, length, map}
+use Rattle.ap_list.specs.Lists.{lookup_by}
+use Rattle.ap_value.specs.Values.{symbol_eq}
+use Rattle.ap_translate.specs.Instances.{as_pair}
+use Rattle.ap_translate.proofs.instance.replaced.Given as goal
+
+-- what is left tells
+abbrev pub invariant-loop-left : goal.invariant-loop-left
+invariant-loop-left l = lookup_by symbol_eq (map as_pair l.left) l.name ≡ lookup_by symbol_eq (map as_pair l.pairs) l.name
+
+abbrev pub decreases-loop-left : goal.decreases-loop-left
+decreases-loop-left l = length l.left

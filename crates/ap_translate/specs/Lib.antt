@@ -1,0 +1,10 @@
+pub mod Answers
+pub mod Names
+pub mod Parts
+pub mod Instances
+pub mod Macros
+pub mod Rows
+pub mod Quoted
+pub mod Sizes
+pub mod Shapes
+pub mod Table

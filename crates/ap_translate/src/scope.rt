@@ -1,0 +1,154 @@
+ghost use Rattle.std.specs.Prelude.{◌≡◌, IfOk, option_map};
+ghost use Rattle.ap_value.specs.declared.value.Value.TheVariants.{Sym};
+ghost use Rattle.ap_term.specs.declared.term.Term.TheVariants.{Quote};
+ghost use Rattle.ap_world.specs.World.{constant_of};
+ghost use Rattle.ap_translate.specs.Answers.{Gives};
+ghost use Rattle.ap_translate.specs.Quoted.{constant_in};
+ghost use Rattle.ap_translate.specs.Sizes.{small, capped};
+ghost use Rattle.ap_translate.specs.Table.{with_bound, constant_term, variable_term, symbol_term, variable, quoted_term};
+
+use crate::constant::constant;
+use crate::fault::{TransError, TransKind, refused_at};
+use crate::names::{can_be_bound, is_among, is_constant, is_starred};
+use crate::sizes::small;
+use ap_list::{NoMemory, Seq};
+use ap_reader::Form;
+use ap_term::{Term, copy_symbols};
+use ap_value::{Symbol, Value, copy, copy_symbol, nodes};
+use ap_world::World;
+use std::alloc::Global;
+
+/// The variables that are bound; `None`: each variable may stand.
+#[derive(Drop)]
+pub struct Bound {
+    pub names: Option<Seq<Symbol>>,
+}
+
+/// A copy of the bound variables.
+pub(crate) fn copy_bound(alloc: Global, bound: &Bound) -> Result<Bound, NoMemory>
+    ensures { IfOk result (λ b. b ≡ bound.now) }
+{
+    match &bound.names {
+        None => Ok(Bound { names: None }),
+        Some(names) => Ok(Bound {
+            names: Some(copy_symbols(alloc, names.as_slice())?),
+        }),
+    }
+}
+
+/// The bound variables with more behind them.
+pub(crate) fn with_bound(alloc: Global, bound: &Bound, more: &[Symbol]) -> Result<Bound, NoMemory>
+    ensures { IfOk result (λ b. b.names ≡ with_bound bound.now.names more.now) }
+{
+    match &bound.names {
+        None => Ok(Bound { names: None }),
+        Some(names) => {
+            let mut all = copy_symbols(alloc, names.as_slice())?;
+            all.append(copy_symbols(alloc, more)?)?;
+            Ok(Bound { names: Some(all) })
+        }
+    }
+}
+
+/// The constant as a term.
+pub(crate) fn quote(value: Option<Value>) -> Option<Term>
+    ensures { result ≡ option_map Quote value }
+{
+    match value {
+        Some(value) => Some(Term::Quote(value)),
+        None => None,
+    }
+}
+
+/// A constant of the world as a term, where it has at most 4,096 nodes.
+#[tactic(auto, using(crate::proofs::Smalls::smalls))]
+fn quote_copy(alloc: Global, value: &Value) -> Result<Option<Term>, NoMemory>
+    ensures { IfOk result (λ o. o ≡ small (Quote value.now)) }
+{
+    match nodes(value) {
+        Some(count) if count <= 4096 => Ok(Some(Term::Quote(copy(alloc, value)?))),
+        _ => Ok(None),
+    }
+}
+
+/// The constant of a name between asterisks, where it has at most 4,096 nodes.
+fn constant_term(
+    alloc: Global,
+    world: &World,
+    place: usize,
+    symbol: &Symbol,
+) -> Result<Option<Term>, TransError>
+    ensures { Gives result (capped small (constant_term place (constant_of world.now.entries symbol.now))) }
+{
+    match world.lookup_const(symbol) {
+        Some(value) => Ok(quote_copy(alloc, value)?),
+        None => Err(refused_at(place, TransKind::UnknownName)),
+    }
+}
+
+/// A variable, where it is bound.
+#[tactic(auto, using(crate::proofs::Smalls::smalls))]
+fn variable_term(
+    alloc: Global,
+    place: usize,
+    bound: &Bound,
+    symbol: &Symbol,
+) -> Result<Option<Term>, TransError>
+    ensures { Gives result (capped small (variable_term place bound.now.names symbol.now)) }
+{
+    match &bound.names {
+        None => Ok(Some(Term::Var(copy_symbol(alloc, symbol)?))),
+        Some(names) => {
+            if is_among(symbol, names.as_slice()) {
+                Ok(Some(Term::Var(copy_symbol(alloc, symbol)?)))
+            } else {
+                Err(refused_at(place, TransKind::UnknownName))
+            }
+        }
+    }
+}
+
+/// The term that a symbol is.
+#[tactic(auto, using(crate::proofs::Smalls::smalls))]
+pub(crate) fn symbol_term(
+    alloc: Global,
+    world: &World,
+    place: usize,
+    bound: &Bound,
+    symbol: &Symbol,
+) -> Result<Option<Term>, TransError>
+    ensures { Gives result (capped small (symbol_term world.now.entries place bound.now.names symbol.now)) }
+{
+    if is_constant(symbol) {
+        Ok(Some(Term::Quote(Value::Sym(copy_symbol(alloc, symbol)?))))
+    } else if is_starred(symbol.name.as_slice()) {
+        constant_term(alloc, world, place, symbol)
+    } else {
+        variable_term(alloc, place, bound, symbol)
+    }
+}
+
+/// A variable in its place, after others.
+pub(crate) fn variable(
+    alloc: Global,
+    place: usize,
+    before: &[Symbol],
+    symbol: &Symbol,
+) -> Result<Symbol, TransError>
+    ensures { Gives result (variable place before.now symbol.now) }
+{
+    if can_be_bound(symbol, before) {
+        Ok(copy_symbol(alloc, symbol)?)
+    } else {
+        Err(refused_at(place, TransKind::NotAVariable))
+    }
+}
+
+/// `'x`, where so many more may be nested in `x`.
+#[tactic(auto, using(crate::proofs::Smalls::quotes))]
+pub(crate) fn quoted(alloc: Global, left: usize, inner: &Form) -> Result<Option<Term>, TransError>
+    ensures { Gives result (capped small (quoted_term (constant_in left inner.now))) }
+{
+    let value = constant(alloc, left, inner)?;
+    Ok(quote(value))
+}
