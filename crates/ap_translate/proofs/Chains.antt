@@ -1,7 +1,9 @@
 -- What stands last may be joined first.
 use Rattle.std.proofs.Common.{◌≡◌, List, [], ◌∷◌, ◌++◌, refl, ap}
 use Rattle.ap_term.specs.declared.term.Term.{Term}
+use Rattle.ap_translate.specs.declared.arms.Arm.{Arm}
 use Rattle.ap_translate.specs.declared.build.Piece.{Piece}
+use Rattle.ap_translate.specs.Kept.{armed, arms_before}
 use Rattle.ap_translate.specs.Rows.{nil_term, chained, joined, summed, piece_term, pieced}
 
 pub chained_last : (join : Term → Term → Term) (us : List Term) (u e : Term) → chained join (us ++ u ∷ []) e ≡ chained join us (join u e)
@@ -39,3 +41,7 @@ by_front join e (a ∷ us) u = chained join (a ∷ us) u
 pub summed_last : (join : Term → Term → Term) (e : Term) (us : List Term) (u : Term) → summed join e (us ++ u ∷ []) ≡ by_front join e us u
 summed_last join e [] u = refl
 summed_last join e (a ∷ us) u = summed_more join e a us u
+
+pub arms_last : (xs : List Arm) (x : Arm) (u : Term) → arms_before (xs ++ x ∷ []) u ≡ arms_before xs (armed x u)
+arms_last [] x u = refl
+arms_last (y ∷ xs) x u = ap (armed y) (arms_last xs x u)

@@ -55,3 +55,8 @@ Fails (errors.Fault p k) r = r ≡ refused p k
 abbrev pub Gives : {A : Type 0} → Result A TransError → Answer A → Type 0
 Gives (Ok a) r = r ≡ Ok a
 Gives (Err e) r = Fails e r
+
+-- the same of what the program sees as something else
+abbrev pub GivesAs : {A B : Type 0} → (A → B) → Result A TransError → Answer B → Type 0
+GivesAs see (Ok a) r = r ≡ Ok (see a)
+GivesAs see (Err e) r = Fails e r

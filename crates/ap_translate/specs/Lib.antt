@@ -1,7 +1,10 @@
 pub mod Answers
 pub mod Names
 pub mod Parts
+pub mod Plans
 pub mod Instances
+pub mod Kept
+pub mod Laws
 pub mod Macros
 pub mod Rows
 pub mod Quoted

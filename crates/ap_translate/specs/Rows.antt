@@ -1,5 +1,5 @@
 -- What the macros stand for, once their arguments are terms.
-use Rattle.std.specs.Prelude.{ℕ, cond, ◌==◌, ℤ, pos, negsuc, List, [], ◌∷◌}
+use Rattle.std.specs.Prelude.{ℕ, Bool, true, cond, ◌==◌, nat_eq, ℤ, pos, negsuc, List, [], ◌∷◌, Option, Some, None, option_map, unwrap_or}
 use Rattle.ap_value.specs.declared.symbol.Symbol.{Symbol}
 use Rattle.ap_value.specs.declared.value.Value.TheVariants.{Int, Sym}
 use Rattle.ap_term.specs.declared.term.Term.{Term, Quote, Call}
@@ -8,8 +8,11 @@ use Rattle.ap_world.specs.Names.{nil_name, t_name, if_name, equal_name, cons_nam
 use Rattle.ap_translate.specs.declared.build.Piece.{Piece}
 use Rattle.ap_translate.specs.declared.build.Join.{Join}
 use Rattle.ap_translate.specs.declared.build.Join.TheVariants as joins
+use Rattle.ap_translate.specs.declared.build.Maker.{Maker}
+use Rattle.ap_translate.specs.declared.build.Maker.TheVariants as makers
 use Rattle.ap_translate.specs.declared.macros.Macro.{Macro}
 use Rattle.ap_translate.specs.declared.macros.Macro.TheVariants as m
+use Rattle.ap_translate.specs.Macros.{fits}
 
 abbrev pub nil_term : Term
 nil_term = Quote (Sym nil_name)
@@ -92,6 +95,31 @@ turn_name c = cond (c == 65) car_name cdr_name
 abbrev pub accessed : List ℕ → Term → Term
 accessed [] u = u
 accessed (c ∷ cs) u = call_1 (turn_name c) (accessed cs u)
+
+-- the term that is alone
+abbrev pub only : List Term → Option Term
+only (a ∷ []) = Some a
+only us = None
+
+abbrev pub plus_literal : ℤ → List Term → Term
+plus_literal n us = unwrap_or (option_map (call_2 plus_name (integer_term n)) (only us)) nil_term
+
+abbrev pub accessed_one : List ℕ → List Term → Term
+accessed_one path us = unwrap_or (option_map (accessed path) (only us)) nil_term
+
+-- what is made of terms
+abbrev pub made : Maker → List Term → Term
+made (makers.Macro m) us = built m us
+made (makers.Literal n) us = plus_literal n us
+made (makers.Path path) us = accessed_one path us
+made (makers.Call s) us = Call s us
+
+-- of so many
+abbrev pub admits : Maker → ℕ → Bool
+admits (makers.Macro m) n = fits m n
+admits (makers.Literal k) n = nat_eq n 1
+admits (makers.Path path) n = nat_eq n 1
+admits (makers.Call s) n = true
 
 -- the parts of a backquoted list: a part is one element, or a list that is spliced in
 abbrev pub piece_term : Piece → Term → Term

@@ -30,6 +30,11 @@ arm_seen (seen.Alone f) = alone f.now
 arm_seen (seen.Pair f g) = pair f.now g.now
 arm_seen (seen.Otherwise g) = otherwise g.now
 
+-- b of (t b)
+abbrev pub last_in : Arm → Option Form
+last_in (otherwise g) = Some g
+last_in x = None
+
 -- what is looked at is of this shape
 abbrev pub after_arm : Option Arm → Bool → Bool
 after_arm None b = false
@@ -110,3 +115,7 @@ negated (Some n) = cond (int_eq n (negsuc (2 ^ 127 - 1))) None (Some (neg_ℤ n)
 abbrev pub less_literal : List Form → Option (Form × ℤ)
 less_literal (f ∷ g ∷ []) = option_map (λ n. (f, n)) (negated (integer_in g))
 less_literal fs = None
+
+-- as the program sees it: a by itself
+abbrev pub literal_seen : Form × ℤ → List Form × ℤ
+literal_seen k = (k.0 ∷ [], k.1)

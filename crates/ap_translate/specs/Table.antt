@@ -1,5 +1,5 @@
 -- What a form is as a term, from the outside in: one line for each form of the language.
-use Rattle.std.specs.Prelude.{ℕ, ℤ, zero, suc, true, false, cond, nat_eq, nat_le, List, [], ◌∷◌, ◌++◌, map, length, zip, Option, Some, None, option_map, Ok}
+use Rattle.std.specs.Prelude.{ℕ, zero, suc, Bool, true, false, cond, nat_le, List, [], ◌∷◌, ◌++◌, map, zip, Option, Some, None, option_map, Ok}
 use Rattle.ap_list.specs.Lists.{is_among}
 use Rattle.ap_value.specs.declared.symbol.Symbol.{Symbol}
 use Rattle.ap_value.specs.declared.value.Value.{Value}
@@ -10,21 +10,16 @@ use Rattle.ap_term.specs.Terms.{term_size, subst_of}
 use Rattle.ap_reader.specs.declared.form.Form.{Form}
 use Rattle.ap_reader.specs.declared.form.Body.TheOpen.{Body-F}
 use Rattle.ap_world.specs.declared.entry.Entry.{Entry}
-use Rattle.ap_world.specs.declared.entry.Function.{Function}
-use Rattle.ap_world.specs.Names.{cons_name, plus_name}
-use Rattle.ap_world.specs.declared.primitive.Primitive.{Primitive}
-use Rattle.ap_world.specs.Primitives.{prim_of, prim_arity}
-use Rattle.ap_world.specs.World.{function_of, constant_of}
+use Rattle.ap_world.specs.Names.{cons_name}
+use Rattle.ap_world.specs.World.{constant_of}
 use Rattle.ap_translate.specs.declared.fault.TransKind.TheVariants as kinds
 use Rattle.ap_translate.specs.declared.build.Piece.{Piece}
-use Rattle.ap_translate.specs.declared.macros.Macro.{Macro}
-use Rattle.ap_translate.specs.declared.macros.Macro.TheVariants as m
 use Rattle.ap_translate.specs.Answers.{Answer, refused, ◌>>=◌, shaped, each}
 use Rattle.ap_translate.specs.Names.{is_constant, is_starred, can_be_bound}
 use Rattle.ap_translate.specs.Parts.{Layer, layer_of, symbol_in}
-use Rattle.ap_translate.specs.Macros.{macro_of, path_of, fits}
-use Rattle.ap_translate.specs.Rows.{nil_term, integer_term, call_2, if_term, or_term, built, accessed, pieced, instances}
-use Rattle.ap_translate.specs.Shapes.{Arm, alone, pair, otherwise, arm_in, are_arms, binding_in, Scope, let_in, lambda_in, less_literal}
+use Rattle.ap_translate.specs.Rows.{nil_term, call_2, if_term, or_term, made, pieced, instances}
+use Rattle.ap_translate.specs.Shapes.{Arm, alone, pair, otherwise, arm_in, binding_in, Scope}
+use Rattle.ap_translate.specs.Plans.{Plan, empty, quotation, build, arms, bind, apply, plan_in}
 use Rattle.ap_translate.specs.Quoted.{quote_name, constant_in}
 
 -- the variables that are bound; None: each variable may stand
@@ -69,19 +64,24 @@ bindings r p before [] = Ok []
 bindings r p before (f ∷ fs) = shaped p (binding_in f) (λ x. variable x.place before x.name >>= λ v. r before x.value >>= λ u.
     bindings r p (before ++ v ∷ []) fs >>= λ ss. Ok ((v, u) ∷ ss))
 
--- the body of a `let` and of a `let*` with its variables replaced
-abbrev pub let_term : Readers → Bound → ℕ → Scope → Answer Term
-let_term r b p x = bindings (λ before. r.term b) p [] x.heads >>= λ ss. r.term (with_bound b (map (λ s. s.0) ss)) x.body >>= λ u. Ok (subst_of ss u)
+-- the variables that a binding's form sees: in a `let*` those before it too
+abbrev pub scope_of : Bool → Bound → List Symbol → Bound
+scope_of true b before = with_bound b before
+scope_of false b before = b
 
-abbrev pub let_star_term : Readers → Bound → ℕ → Scope → Answer Term
-let_star_term r b p x = bindings (λ before. r.term (with_bound b before)) p [] x.heads >>= λ ss.
-    r.term (with_bound b (map (λ s. s.0) ss)) x.body >>= λ u. Ok (instances ss u)
+-- the variables replaced at once, or in a `let*` one after another
+abbrev pub body_of : Bool → List (Symbol × Term) → Term → Term
+body_of true = instances
+body_of false = subst_of
+
+-- the body of a `let`, or where it is true of a `let*`
+abbrev pub let_term : Bool → Readers → Bound → ℕ → Scope → Answer Term
+let_term in_turn r b p x = bindings (λ before. r.term (scope_of in_turn b before)) p [] x.heads >>= λ ss.
+    r.term (with_bound b (map (λ s. s.0) ss)) x.body >>= λ u. Ok (body_of in_turn ss u)
 
 -- ((lambda (v ..) body) e ..)
 abbrev pub lambda_term : Readers → Bound → ℕ → Scope → List Form → Answer Term
-lambda_term r b p x fs = cond (nat_eq (length x.heads) (length fs))
-    (variables p [] x.heads >>= λ vs. r.term (with_bound b vs) x.body >>= λ u. each (r.term b) fs >>= λ ts. Ok (subst_of (zip vs ts) u))
-    (refused p kinds.BadForm)
+lambda_term r b p x fs = variables p [] x.heads >>= λ vs. r.term (with_bound b vs) x.body >>= λ u. each (r.term b) fs >>= λ ts. Ok (subst_of (zip vs ts) u)
 
 -- (cond) is 'NIL; (cond (a) ..) is (if a a (cond ..)); (cond (a b) ..) is (if a b (cond ..)); (cond (t b) ..) is b
 abbrev pub arm_term : (Form → Answer Term) → Arm → Answer Term → Answer Term
@@ -93,70 +93,18 @@ abbrev pub arms_term : (Form → Answer Term) → ℕ → List Form → Answer T
 arms_term r p [] = Ok nil_term
 arms_term r p (f ∷ fs) = shaped p (arm_in f) (λ x. arm_term r x (arms_term r p fs))
 
-abbrev pub cond_term : Readers → Bound → ℕ → List Form → Answer Term
-cond_term r b p fs = cond (are_arms fs) (arms_term (r.term b) p fs) (refused p kinds.BadForm)
-
 -- 'x and (quote x), by the constant
 abbrev pub quoted_term : Answer Value → Answer Term
 quoted_term r = r >>= λ v. Ok (Quote v)
 
-abbrev pub quote_term : Readers → ℕ → List Form → Answer Term
-quote_term r p (f ∷ []) = quoted_term (r.constant f)
-quote_term r p fs = refused p kinds.BadForm
-
--- a macro whose arguments are terms
-abbrev pub plain_term : Readers → Bound → ℕ → Macro → List Form → Answer Term
-plain_term r b p m fs = cond (fits m (length fs)) (each (r.term b) fs >>= λ us. Ok (built m us)) (refused p kinds.BadForm)
-
--- (- a k) is (binary-+ '-k a)
-abbrev pub minus_term : Readers → Bound → ℕ → Option (Form × ℤ) → List Form → Answer Term
-minus_term r b p (Some k) fs = r.term b k.0 >>= λ a. Ok (call_2 plus_name (integer_term k.1) a)
-minus_term r b p None fs = plain_term r b p m.Minus fs
-
-abbrev pub macro_term : Readers → Bound → ℕ → Macro → List Form → Answer Term
-macro_term r b p m.Quote fs = quote_term r p fs
-macro_term r b p m.Cond fs = cond_term r b p fs
-macro_term r b p m.Let fs = shaped p (let_in fs) (let_term r b p)
-macro_term r b p m.LetStar fs = shaped p (let_in fs) (let_star_term r b p)
-macro_term r b p m.Minus fs = minus_term r b p (less_literal fs) fs
-macro_term r b p m fs = plain_term r b p m fs
-
--- (caar x) and the like
-abbrev pub access_term : Readers → Bound → ℕ → List ℕ → List Form → Answer Term
-access_term r b p path (f ∷ []) = r.term b f >>= λ u. Ok (accessed path u)
-access_term r b p path fs = refused p kinds.BadForm
-
--- (f a ..)
-abbrev pub arity_of : Option Primitive → Option Function → Option ℕ
-arity_of (Some x) g = Some (prim_arity x)
-arity_of None (Some g) = Some (length g.formals)
-arity_of None None = None
-
-abbrev pub call_by : Readers → Bound → ℕ → Symbol → Option ℕ → List Form → Answer Term
-call_by r b p s None fs = refused p kinds.UnknownName
-call_by r b p s (Some n) fs = cond (nat_eq n (length fs)) (each (r.term b) fs >>= λ us. Ok (Call s us)) (refused p kinds.WrongArity)
-
-abbrev pub call_term : List Entry → Readers → Bound → ℕ → Symbol → List Form → Answer Term
-call_term W r b p s fs = call_by r b p s (arity_of (prim_of s) (function_of W s)) fs
-
--- a list by the name at its head
-abbrev pub named_by : List Entry → Readers → Bound → ℕ → Symbol → Option Macro → Option (List ℕ) → List Form → Answer Term
-named_by W r b p s (Some m) path fs = macro_term r b p m fs
-named_by W r b p s None (Some path) fs = access_term r b p path fs
-named_by W r b p s None None fs = call_term W r b p s fs
-
-abbrev pub named_term : List Entry → Readers → Bound → ℕ → Symbol → List Form → Answer Term
-named_term W r b p s fs = named_by W r b p s (macro_of s) (path_of s) fs
-
--- a list by its head
-abbrev pub headed_term : List Entry → Readers → Bound → ℕ → Option Symbol → Option Scope → List Form → Answer Term
-headed_term W r b p (Some s) x fs = named_term W r b p s fs
-headed_term W r b p None (Some x) fs = lambda_term r b p x fs
-headed_term W r b p None None fs = refused p kinds.BadForm
-
-abbrev pub list_term : List Entry → Readers → Bound → ℕ → List Form → Answer Term
-list_term W r b p [] = Ok nil_term
-list_term W r b p (h ∷ fs) = headed_term W r b p (symbol_in h) (lambda_in h) fs
+-- what a list asks for, as a term
+abbrev pub plan_term : Readers → Bound → ℕ → Plan → Answer Term
+plan_term r b p empty = Ok nil_term
+plan_term r b p (quotation f) = quoted_term (r.constant f)
+plan_term r b p (build k fs) = each (r.term b) fs >>= λ us. Ok (made k us)
+plan_term r b p (arms fs) = arms_term (r.term b) p fs
+plan_term r b p (bind in_turn x) = let_term in_turn r b p x
+plan_term r b p (apply x fs) = lambda_term r b p x fs
 
 -- one level of a form at place p as a term, from what gives its parts; None: no more may be nested
 abbrev pub term_layer : List Entry → Option Readers → Bound → ℕ → Layer → Answer Term
@@ -164,7 +112,7 @@ term_layer W o b p (Body-F.Int n) = Ok (Quote (Int n))
 term_layer W o b p (Body-F.Chr c) = Ok (Quote (Chr c))
 term_layer W o b p (Body-F.Str s) = Ok (Quote (Str s))
 term_layer W o b p (Body-F.Sym s) = symbol_term W p b s
-term_layer W o b p (Body-F.List fs) = shaped p o (λ r. list_term W r b p fs)
+term_layer W o b p (Body-F.List fs) = shaped p o (λ r. plan_in W p fs >>= plan_term r b p)
 term_layer W o b p (Body-F.Dotted fs f) = refused p kinds.DottedForm
 term_layer W o b p (Body-F.Quoted f) = shaped p o (λ r. quoted_term (r.constant f))
 term_layer W o b p (Body-F.Quasi f) = shaped p o (λ r. r.part b f)

@@ -1,18 +1,16 @@
-ghost use Rattle.std.specs.Prelude.{◌≡◌, ◌<◌, ◌∷◌, [], IfOk, length, true};
-ghost use Rattle.ap_value.specs.declared.value.Value.TheVariants.{Sym};
+ghost use Rattle.std.specs.Prelude.{◌≡◌, ◌<◌, ◌∷◌, ◌++◌, [], IfOk, IfSome, length, true};
 ghost use Rattle.ap_value.specs.Values.{acl2};
-ghost use Rattle.ap_term.specs.declared.term.Term.TheVariants.{Quote, Call};
-ghost use Rattle.ap_world.specs.Names.{cons_name, plus_name, not_name};
+ghost use Rattle.ap_world.specs.Names.{not_name};
+ghost use Rattle.ap_translate.specs.Kept.{kept_made, piece_size, few_pieces, as_piece, list_pieces, ArePieces, kept_pieced, quote_pieced, kept_quoted};
 ghost use Rattle.ap_translate.specs.Macros.{fits};
-ghost use Rattle.ap_translate.specs.Quoted.{quote_name};
-ghost use Rattle.ap_translate.specs.Rows.{nil_term, t_term, integer_term, call_1, call_2, if_term, and_term, or_term, join_of, chained, joined, summed, built_few, built, turn_name, accessed, piece_term, pieced};
-ghost use Rattle.ap_translate.specs.Sizes.{small};
+ghost use Rattle.ap_translate.specs.Rows.{nil_term, t_term, integer_term, call_1, call_2, if_term, and_term, or_term, join_of, chained, joined, summed, built_few, built, turn_name, accessed, only, plus_literal, accessed_one, made, admits, piece_term, pieced};
+ghost use Rattle.ap_translate.specs.Sizes.{more_by};
 
 use crate::constant::{nil, quote_symbol};
 use crate::macros::Macro;
 use crate::names::acl2;
-use crate::sizes::small;
-use ap_list::{NoMemory, Seq};
+use crate::sizes::{more_nodes, small};
+use ap_list::{Bytes, NoMemory, Seq};
 use ap_term::{Term, copy_term};
 use ap_value::{Symbol, Value};
 use std::alloc::Global;
@@ -205,7 +203,7 @@ fn from_few(alloc: Global, found: Macro, terms: Seq<Term>) -> Result<Term, NoMem
 }
 
 /// What a macro's arguments make, where it takes so many.
-fn made(alloc: Global, found: Macro, terms: Seq<Term>) -> Result<Term, NoMemory>
+fn built(alloc: Global, found: Macro, terms: Seq<Term>) -> Result<Term, NoMemory>
     requires { fits found (length terms) ≡ true }
     ensures { IfOk result (λ u. u ≡ built found terms) }
 {
@@ -236,15 +234,6 @@ fn made(alloc: Global, found: Macro, terms: Seq<Term>) -> Result<Term, NoMemory>
     }
 }
 
-/// What a macro's arguments make, where it has at most 4,096 nodes.
-pub(crate) fn built(alloc: Global, found: Macro, terms: Seq<Term>) -> Result<Option<Term>, NoMemory>
-    requires { fits found (length terms) ≡ true }
-    ensures { IfOk result (λ o. o ≡ small (built found terms)) }
-{
-    let term = made(alloc, found, terms)?;
-    Ok(small(term))
-}
-
 /// The `car` or `cdr` of a term.
 #[tactic(auto, unfolding(ap_world::specs::Names::car_name, ap_world::specs::Names::cdr_name))]
 fn turned(alloc: Global, turn: u8, term: Term) -> Result<Term, NoMemory>
@@ -270,28 +259,78 @@ fn nested(alloc: Global, path: &[u8], term: Term) -> Result<Term, NoMemory>
     }
 }
 
-/// The nested `car`s and `cdr`s of a term, where it has at most 4,096 nodes.
-pub(crate) fn accessed(alloc: Global, path: &[u8], term: Term) -> Result<Option<Term>, NoMemory>
-    ensures { IfOk result (λ o. o ≡ small (accessed path.now term)) }
+/// What is made of one term alone; there is no other.
+fn only(terms: Seq<Term>) -> Option<Term>
+    ensures { result ≡ only terms }
 {
-    let term = nested(alloc, path, term)?;
-    Ok(small(term))
+    let mut left = terms;
+    let last = left.pop()?;
+    if left.is_empty() { Some(last) } else { None }
 }
 
-/// The sum of an integer and a term, where it has at most 4,096 nodes.
+/// The nested `car`s and `cdr`s of one term.
+fn accessed_one(alloc: Global, path: &[u8], terms: Seq<Term>) -> Result<Term, NoMemory>
+    ensures { IfOk result (λ u. u ≡ accessed_one path.now terms) }
+{
+    match only(terms) {
+        Some(term) => nested(alloc, path, term),
+        None => nil_term(alloc),
+    }
+}
+
+/// The sum of an integer and one term.
 #[tactic(auto, unfolding(ap_world::specs::Names::plus_name))]
-pub(crate) fn plus_literal(alloc: Global, n: i128, term: Term) -> Result<Option<Term>, NoMemory>
-    ensures { IfOk result (λ o. o ≡ small (call_2 plus_name (integer_term n) term)) }
+fn plus_literal(alloc: Global, n: i128, terms: Seq<Term>) -> Result<Term, NoMemory>
+    ensures { IfOk result (λ u. u ≡ plus_literal n terms) }
 {
-    let term = call_2(alloc, b"BINARY-+", Term::Quote(Value::Int(n)), term)?;
-    Ok(small(term))
+    match only(terms) {
+        Some(term) => call_2(alloc, b"BINARY-+", Term::Quote(Value::Int(n)), term),
+        None => nil_term(alloc),
+    }
 }
 
-/// A call, where it has at most 4,096 nodes.
-pub(crate) fn call(head: Symbol, terms: Seq<Term>) -> Option<Term>
-    ensures { result ≡ small (Call head terms) }
+/// How a term is made of the terms of forms.
+#[derive(Drop)]
+pub enum Maker {
+    /// By a macro whose arguments are terms.
+    Macro(Macro),
+    /// As the sum of an integer and one term.
+    Literal(i128),
+    /// As nested `car`s and `cdr`s of one term, by their `A`s and `D`s.
+    Path(Bytes),
+    /// As a call.
+    Call(Symbol),
+}
+
+/// What is made of terms.
+fn from_terms(alloc: Global, maker: Maker, terms: Seq<Term>) -> Result<Term, NoMemory>
+    requires { admits maker (length terms) ≡ true }
+    ensures { IfOk result (λ u. u ≡ made maker terms) }
 {
-    small(Term::Call(head, terms))
+    match maker {
+        Maker::Macro(found) => built(alloc, found, terms),
+        Maker::Literal(n) => plus_literal(alloc, n, terms),
+        Maker::Path(path) => accessed_one(alloc, path.as_slice(), terms),
+        Maker::Call(head) => Ok(Term::Call(head, terms)),
+    }
+}
+
+/// What is made of terms, where it has at most 4,096 nodes.
+pub(crate) fn made_of(
+    alloc: Global,
+    maker: Maker,
+    terms: Option<Seq<Term>>,
+) -> Result<Option<Term>, NoMemory>
+    requires { IfSome terms (λ us. admits maker (length us) ≡ true) }
+    ensures { IfOk result (λ o. o ≡ kept_made maker terms) }
+{
+    match terms {
+        None => Ok(None),
+        Some(terms) => {
+            let term = from_terms(alloc, maker, terms)?;
+            Ok(small(term))
+        }
+    }
 }
 
 /// A part of a backquoted list: one element, or a list that is spliced in.
@@ -326,13 +365,109 @@ pub(crate) fn pieced(alloc: Global, pieces: Seq<Piece>) -> Result<Term, NoMemory
     Ok(chain)
 }
 
-/// The list `(QUOTE X)` of one part, where it has at most 4,096 nodes.
-#[tactic(auto, unfolding(ap_world::specs::Names::cons_name))]
-pub(crate) fn quote_piece(alloc: Global, pieces: Seq<Piece>) -> Result<Option<Term>, NoMemory>
-    ensures { IfOk result (λ o. o ≡ small (call_2 cons_name (Quote (Sym quote_name)) (pieced pieces))) }
+/// The list of the parts, where it has at most 4,096 nodes.
+pub(crate) fn pieced_of(alloc: Global, pieces: Option<Seq<Piece>>) -> Result<Option<Term>, NoMemory>
+    ensures { IfOk result (λ o. o ≡ kept_pieced pieces) }
 {
+    match pieces {
+        None => Ok(None),
+        Some(pieces) => {
+            let term = pieced(alloc, pieces)?;
+            Ok(small(term))
+        }
+    }
+}
+
+/// The list `(QUOTE X)` of one part.
+#[tactic(auto, unfolding(ap_world::specs::Names::cons_name))]
+fn quote_pieced(alloc: Global, piece: Piece) -> Result<Term, NoMemory>
+    ensures { IfOk result (λ u. u ≡ quote_pieced piece) }
+{
+    let mut pieces = Seq::new(alloc);
+    pieces.push(piece)?;
     let rest = pieced(alloc, pieces)?;
     let head = Term::Quote(quote_symbol(alloc)?);
-    let term = call_2(alloc, b"CONS", head, rest)?;
-    Ok(small(term))
+    call_2(alloc, b"CONS", head, rest)
+}
+
+/// The list `(QUOTE X)` of one part, where it has at most 4,096 nodes.
+pub(crate) fn quoted_of(alloc: Global, piece: Option<Piece>) -> Result<Option<Term>, NoMemory>
+    ensures { IfOk result (λ o. o ≡ kept_quoted piece) }
+{
+    match piece {
+        None => Ok(None),
+        Some(piece) => {
+            let term = quote_pieced(alloc, piece)?;
+            Ok(small(term))
+        }
+    }
+}
+
+/// A term as a part of a backquoted list.
+pub(crate) fn as_piece(spliced: bool, term: Option<Term>) -> Option<Piece>
+    ensures { result ≡ as_piece spliced term }
+{
+    match term {
+        Some(term) => Some(Piece { spliced, term }),
+        None => None,
+    }
+}
+
+/// The parts of a backquoted list, and the number of their nodes.
+#[derive(Drop)]
+pub(crate) struct Pieces {
+    pub(crate) pieces: Seq<Piece>,
+    pub(crate) nodes: u64,
+}
+
+/// No parts.
+pub(crate) fn no_pieces(alloc: Global) -> Pieces
+    ensures none { result.pieces ≡ [] }
+    ensures counted { ArePieces result }
+{
+    Pieces {
+        pieces: Seq::new(alloc),
+        nodes: 0,
+    }
+}
+
+/// One part more, where they have at most 4,096 nodes together.
+pub(crate) fn add_piece(
+    all: Option<Pieces>,
+    next: Option<Piece>,
+) -> Result<Option<Pieces>, NoMemory>
+    requires { IfSome all ArePieces }
+    ensures value { IfOk result (λ o. list_pieces o ≡ more_by piece_size (list_pieces all) next) }
+    ensures counted { IfOk result (λ o. IfSome o ArePieces) }
+{
+    let (Some(all), Some(next)) = (all, next) else {
+        return Ok(None);
+    };
+    push_piece(all, next)
+}
+
+/// One part more, where they have at most 4,096 nodes together.
+fn push_piece(all: Pieces, next: Piece) -> Result<Option<Pieces>, NoMemory>
+    requires { ArePieces all }
+    ensures value { IfOk result (λ o. list_pieces o ≡ few_pieces (all.pieces ++ next ∷ [])) }
+    ensures counted { IfOk result (λ o. IfSome o ArePieces) }
+{
+    let Pieces { mut pieces, nodes } = all;
+    match more_nodes(nodes, &next.term) {
+        None => Ok(None),
+        Some(nodes) => {
+            pieces.push(next)?;
+            Ok(Some(Pieces { pieces, nodes }))
+        }
+    }
+}
+
+/// The parts alone.
+pub(crate) fn pieces_of(all: Option<Pieces>) -> Option<Seq<Piece>>
+    ensures { result ≡ list_pieces all }
+{
+    match all {
+        Some(all) => Some(all.pieces),
+        None => None,
+    }
 }

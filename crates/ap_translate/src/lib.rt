@@ -2,6 +2,7 @@
 //! answer is a term in translated form or the first form that is none.
 #![tactic(auto)]
 
+mod arms;
 mod build;
 mod constant;
 mod fault;
@@ -9,9 +10,12 @@ mod instance;
 mod macros;
 mod names;
 mod parts;
+mod plans;
 mod scope;
 mod shapes;
 mod sizes;
+mod table;
+mod translator;
 
 pub use ap_list::{Bytes, NoMemory, Seq};
 pub use ap_reader::{Body, Form};
@@ -19,3 +23,4 @@ pub use ap_term::Term;
 pub use ap_value::{Symbol, Value};
 pub use ap_world::World;
 pub use fault::{TransError, TransKind};
+pub use translator::translate;

@@ -1,10 +1,11 @@
 ghost use Rattle.std.specs.Prelude.{◌≡◌, option_map, is_some, map};
 ghost use Rattle.std.specs.List.{list_all};
-ghost use Rattle.ap_translate.specs.Shapes.{arm_in, arm_seen, are_arms, binding_in, bind_seen, is_binding, is_symbolic, body_in, let_in, scope_seen, lambda_in, less_literal};
+ghost use Rattle.ap_translate.specs.Shapes.{arm_in, arm_seen, last_in, are_arms, binding_in, bind_seen, is_binding, is_symbolic, body_in, let_in, scope_seen, lambda_in, less_literal, literal_seen};
 
 use crate::parts::{Name, integer, is_declare, is_symbol, items, name_in};
 use ap_reader::Form;
 use ap_value::Symbol;
+use std::slice::from_ref;
 
 /// A clause of `cond`.
 #[derive(Clone, Copy)]
@@ -30,6 +31,16 @@ pub(crate) fn clause_in(form: &Form) -> Option<Clause<'_>>
                 Some(Clause::Pair(test, value))
             }
         }
+        _ => None,
+    }
+}
+
+/// The value of a clause that is the last one.
+pub(crate) fn last_in<'a>(clause: Clause<'a>) -> Option<&'a Form>
+    ensures { option_map (λ f. f.now) result ≡ last_in (arm_seen clause.entry) }
+{
+    match clause {
+        Clause::Otherwise(value) => Some(value),
         _ => None,
     }
 }
@@ -168,10 +179,10 @@ pub(crate) fn lambda_parts(form: &Form) -> Option<Scoped<'_>>
     }
 }
 
-/// The first of two forms and the negation of the second, where that is an integer whose negation has 128
-/// bits.
-pub(crate) fn less_literal(forms: &[Form]) -> Option<(&Form, i128)>
-    ensures { option_map (λ x. (x.0.now, x.1)) result ≡ less_literal forms.now }
+/// The first of two forms, by itself, and the negation of the second, where that is an integer whose
+/// negation has 128 bits.
+pub(crate) fn less_literal(forms: &[Form]) -> Option<(&[Form], i128)>
+    ensures { option_map (λ x. (x.0.now, x.1)) result ≡ option_map literal_seen (less_literal forms.now) }
 {
     match forms {
         [form, literal] => {
@@ -179,7 +190,7 @@ pub(crate) fn less_literal(forms: &[Form]) -> Option<(&Form, i128)>
             if n == i128::MIN {
                 None
             } else {
-                Some((form, -n))
+                Some((from_ref(form), -n))
             }
         }
         _ => None,

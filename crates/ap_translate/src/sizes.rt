@@ -80,6 +80,16 @@ fn push_term(row: Row, next: Term) -> Result<Option<Row>, NoMemory>
     }
 }
 
+/// The terms alone.
+pub(crate) fn terms_of(row: Option<Row>) -> Option<Seq<Term>>
+    ensures { result ≡ row_terms row }
+{
+    match row {
+        Some(row) => Some(row.terms),
+        None => None,
+    }
+}
+
 /// Values, and the number of nodes of a list of them without its end.
 #[derive(Drop)]
 pub(crate) struct Values {
