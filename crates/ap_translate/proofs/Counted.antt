@@ -1,0 +1,90 @@
+-- Counts of nodes as far as they are at most 4,096, and the instance that they are counts of.
+use Rattle.std.proofs.Common.{◌≡◌, ℕ, ◌+◌, ◌<◌, ◌≤◌, Bool, true, false, cond, nat_le, List, [], ◌∷◌, ◌++◌, map, zip, length, Option, Some, None, unwrap_or, refl, sym, ap, ◌∙◌, length-append, arith}
+use Rattle.std.proofs.lemmas.Bool.Decides.{nat_tests}
+use Rattle.ap_list.specs.Lists.{lookup_by}
+use Rattle.ap_value.specs.declared.symbol.Symbol.{Symbol}
+use Rattle.ap_value.specs.declared.value.Value.{Value}
+use Rattle.ap_value.specs.Values.{symbol_eq}
+use Rattle.ap_value.specs.Counts.{node_count}
+use Rattle.ap_term.specs.declared.term.Term.{Term, Var, Quote, Call}
+use Rattle.ap_term.specs.Terms.{term_size, subst_step, subst_of, size_step}
+use Rattle.ap_term.proofs.Induction.{fold_var, fold_quote, fold_call}
+use Rattle.ap_value.proofs.Equals.{symbol_eq-true}
+use Rattle.ap_world.proofs.Written.{subst_var, subst_quote, subst_call}
+use Rattle.ap_translate.specs.Instances.{Kept, nodes_found, sum_two, sum_known, nodes_step, nodes_of, at_most, more_than, replaced_by, kept_pair, known_pairs, kept_instance, in_turn_by, kept_in_turn, kept_by}
+
+-- so many more are counted where they are at most 4,096
+pub counted_low : (n m : ℕ) → n + m ≤ 4096 → Some (n + m) ≡ more_than n (Some m)
+counted_low n m h = grind (arith, nat_tests)
+
+pub counted_past : (n m : ℕ) → 4096 < n + m → None ≡ more_than n (Some m)
+counted_past n m h = grind (arith, nat_tests)
+
+pub counted_none : (n : ℕ) → None ≡ more_than n None
+counted_none n = refl
+
+pub ruleset more_thans = (counted_low, counted_past, counted_none)
+
+-- the nodes at a variable, a constant and a call
+pub nodes_var : (s : Kept) (x : Symbol) → nodes_of s (Var x) ≡ nodes_found (lookup_by symbol_eq s x)
+nodes_var s x = fold_var (nodes_step s) x
+
+pub nodes_quote : (s : Kept) (v : Value) → nodes_of s (Quote v) ≡ Some (node_count v)
+nodes_quote s v = fold_quote (nodes_step s) v
+
+pub nodes_call : (s : Kept) (f : Symbol) (ts : List Term) → nodes_of s (Call f ts) ≡ sum_two (Some 1) (sum_known (map (nodes_of s) ts))
+nodes_call s f ts = fold_call (nodes_step s) f ts
+
+pub size_of_quote : (v : Value) → term_size (Quote v) ≡ node_count v
+size_of_quote v = fold_quote size_step v
+
+pub ruleset counts = (nodes_var, nodes_quote, nodes_call, size_of_quote)
+
+-- what a variable is replaced by
+pub lookup_known : (s : Kept) (x : Symbol) → unwrap_or (lookup_by symbol_eq (known_pairs s) x) (Var x) ≡ replaced_by (lookup_by symbol_eq s x) x
+lookup_known [] x = refl
+lookup_known (p ∷ s) x = choose (symbol_eq x p.0) refl (lookup_known s x)
+  where
+    here : (o : Option Term) → x ≡ p.0 → unwrap_or o (Var p.0) ≡ replaced_by (Some o) x
+    here None e = ap Var (sym e)
+    here (Some u) e = refl
+
+    choose : (b : Bool) → symbol_eq x p.0 ≡ b → unwrap_or (lookup_by symbol_eq (known_pairs s) x) (Var x) ≡ replaced_by (lookup_by symbol_eq s x) x
+        → unwrap_or (cond b (Some (kept_pair p).1) (lookup_by symbol_eq (known_pairs s) x)) (Var x) ≡ replaced_by (cond b (Some p.1) (lookup_by symbol_eq s x)) x
+    choose true q k = here p.1 (symbol_eq-true x p.0 q)
+    choose false q k = k
+
+pub copied_var : (s : Kept) (x : Symbol) → subst_of (known_pairs s) (Var x) ≡ replaced_by (lookup_by symbol_eq s x) x
+copied_var s x = subst_var (known_pairs s) x ∙ lookup_known s x
+
+pub ruleset copies = (copied_var, subst_quote, subst_call)
+
+-- the last pair is taken first
+option_same : (o : Option Term) → kept_by Some o ≡ o
+option_same None = refl
+option_same (Some a) = refl
+
+turned : (p : Symbol × Option Term) (k : Term → Option Term) (o : Option Term) → in_turn_by p (kept_by k o) ≡ kept_by (λ u. in_turn_by p (k u)) o
+turned p k None = refl
+turned p k (Some u) = refl
+
+pub last_turn : (names : List Symbol) (x : Symbol) (terms : List (Option Term)) (o : Option Term) (u : Term) → length names ≡ length terms
+    → kept_in_turn (zip (names ++ x ∷ []) (terms ++ o ∷ [])) u ≡ kept_by (kept_in_turn (zip names terms)) (kept_instance ((x, o) ∷ []) u)
+last_turn [] x [] o u h = sym (option_same (kept_instance ((x, o) ∷ []) u))
+last_turn [] x (t ∷ ts) o u h = absurd (omega arith)
+last_turn (n ∷ ns) x [] o u h = absurd (omega arith)
+last_turn (n ∷ ns) x (t ∷ ts) o u h =
+    ap (in_turn_by (n, t)) (last_turn ns x ts o u (omega arith)) ∙ turned (n, t) (kept_in_turn (zip ns ts)) (kept_instance ((x, o) ∷ []) u)
+
+-- one turn of the loop: the last pair is taken
+pub turn_back : (ns ns' : List Symbol) (x : Symbol) (ts ts' : List (Option Term)) (o : Option Term) (u : Term) (r : Option Term) (xs : List Symbol) (os : List (Option Term)) (whole : Option Term)
+    → length ns ≡ length ts → ns ≡ ns' ++ x ∷ [] → ts ≡ ts' ++ o ∷ [] → xs ≡ x ∷ [] → os ≡ o ∷ [] → r ≡ kept_instance (zip xs os) u → kept_in_turn (zip ns ts) u ≡ whole
+    → (kept_by (kept_in_turn (zip ns' ts')) r ≡ whole) × (length ns' ≡ length ts')
+turn_back ns ns' x ts ts' o u r xs os whole paired n t name kept made told = (
+  ap (kept_by (kept_in_turn (zip ns' ts'))) (made ∙ ap (λ ys. kept_instance (zip ys os) u) name ∙ ap (λ ps. kept_instance (zip (x ∷ []) ps) u) kept)
+      ∙ sym (last_turn ns' x ts' o u same) ∙ ap (λ ys. kept_in_turn (zip ys (ts' ++ o ∷ [])) u) (sym n) ∙ ap (λ ps. kept_in_turn (zip ns ps) u) (sym t) ∙ told,
+  same,
+)
+  where
+    same : length ns' ≡ length ts'
+    same = omega (arith, ap length n, ap length t, length-append ns' (x ∷ []), length-append ts' (o ∷ []))

@@ -1,0 +1,15 @@
+pub mod Clauses
+pub mod Bindings
+pub mod Chains
+pub mod Constants
+pub mod Counted
+pub mod Fails
+pub mod Grown
+pub mod Kept
+pub mod Laws
+pub mod Layers
+pub mod Makings
+pub mod Nestings
+pub mod Planning
+pub mod Smalls
+pub mod Speaking

@@ -1,0 +1,13 @@
+pub mod Answers
+pub mod Names
+pub mod Parts
+pub mod Plans
+pub mod Instances
+pub mod Kept
+pub mod Laws
+pub mod Macros
+pub mod Rows
+pub mod Quoted
+pub mod Sizes
+pub mod Shapes
+pub mod Table

@@ -1,0 +1,18 @@
+-- Which symbols are constants, and which may be variables.
+use Rattle.std.specs.Prelude.{ℕ, ◌-◌, Bool, ◌==◌, ◌&&◌, ◌||◌, not, nat_le, List, length, get_or}
+use Rattle.ap_list.specs.Lists.{is_among}
+use Rattle.ap_value.specs.declared.symbol.Symbol.{Symbol}
+use Rattle.ap_value.specs.Values.{symbol_eq}
+use Rattle.ap_world.specs.Names.{t_name, nil_name}
+
+-- `t`, `nil` and keywords are constants
+abbrev pub is_constant : Symbol → Bool
+is_constant s = s.keyword || symbol_eq s t_name || symbol_eq s nil_name
+
+-- the name stands between asterisks, with a byte between them
+abbrev pub is_starred : List ℕ → Bool
+is_starred n = nat_le 3 (length n) && get_or n 0 0 == 42 && get_or n (length n - 1) 0 == 42
+
+-- a variable is no constant, doesn't stand between asterisks, and isn't one of those before it
+abbrev pub can_be_bound : Symbol → List Symbol → Bool
+can_be_bound s before = not (is_constant s) && not (is_starred s.name) && not (is_among symbol_eq s before)

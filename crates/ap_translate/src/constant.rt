@@ -1,0 +1,193 @@
+ghost use Rattle.std.specs.Prelude.{◌≡◌, ◌∷◌, [], Ok, Some, IfOk, IfSome};
+ghost use Rattle.ap_value.specs.declared.value.Value.TheVariants.{Str, Sym};
+ghost use Rattle.ap_translate.specs.Answers.{Gives, shaped, each};
+ghost use Rattle.ap_translate.specs.Quoted.{nil_value, conses, quote_list, constants, constant_in, quote_name, list_constant, dotted_constant, quoted_constant};
+ghost use Rattle.ap_translate.specs.Sizes.{small_value, few_values, capped, list_values, AreCounted, list_small};
+
+use crate::fault::{TransError, TransKind, refused_at};
+use crate::names::acl2;
+use crate::sizes::{MOST_NODES, Values, add_value, no_values, small_value};
+use ap_list::{Boxed, Bytes, NoMemory, Seq};
+use ap_reader::{Body, Form};
+use ap_value::{Value, copy_bytes, copy_symbol};
+use std::alloc::Global;
+
+/// The constant that a string is, where it has at most 4,096 nodes.
+pub(crate) fn string(alloc: Global, bytes: &Bytes) -> Result<Option<Value>, NoMemory>
+    ensures { IfOk result (λ o. o ≡ small_value (Str bytes.now)) }
+{
+    if bytes.len() as u64 >= MOST_NODES {
+        return Ok(None);
+    }
+    Ok(Some(Value::Str(copy_bytes(alloc, bytes)?)))
+}
+
+/// The constant `nil`.
+#[tactic(auto, unfolding(ap_world::specs::Names::nil_name))]
+pub(crate) fn nil(alloc: Global) -> Result<Value, NoMemory>
+    ensures { IfOk result (λ v. v ≡ nil_value) }
+{
+    Ok(Value::Sym(acl2(alloc, b"NIL")?))
+}
+
+/// The values alone.
+fn values_of(list: Option<Values>) -> Option<Seq<Value>>
+    ensures { result ≡ list_values list }
+{
+    match list {
+        Some(list) => Some(list.values),
+        None => None,
+    }
+}
+
+/// Values as a list with this end.
+#[tactic(auto, using(crate::proofs::Constants::conses_last))]
+fn chained(alloc: Global, values: Seq<Value>, end: Value) -> Result<Value, NoMemory>
+    ensures { IfOk result (λ v. v ≡ conses values end) }
+{
+    let mut left = values;
+    let mut chain = end;
+    while let Some(value) = left.pop() {
+        let first = Boxed::new(alloc, value)?;
+        let rest = Boxed::new(alloc, chain)?;
+        chain = Value::Cons(first, rest);
+    }
+    Ok(chain)
+}
+
+/// Values as a list with this end, where it has at most 4,096 nodes.
+fn list_value(
+    alloc: Global,
+    list: Option<Seq<Value>>,
+    end: Option<Value>,
+) -> Result<Option<Value>, NoMemory>
+    ensures { IfOk result (λ o. o ≡ list_small list end) }
+{
+    let (Some(list), Some(end)) = (list, end) else {
+        return Ok(None);
+    };
+    let value = chained(alloc, list, end)?;
+    Ok(small_value(value))
+}
+
+/// The symbol that a quote mark stands for.
+#[tactic(auto, unfolding(crate::specs::Quoted::quote_name))]
+pub(crate) fn quote_symbol(alloc: Global) -> Result<Value, NoMemory>
+    ensures { IfOk result (λ v. v ≡ Sym quote_name) }
+{
+    Ok(Value::Sym(acl2(alloc, b"QUOTE")?))
+}
+
+/// The list `(QUOTE X)` of a constant.
+fn quote_list(alloc: Global, inner: Value) -> Result<Value, NoMemory>
+    ensures { IfOk result (λ v. v ≡ quote_list inner) }
+{
+    let mut parts = Seq::new(alloc);
+    parts.push(quote_symbol(alloc)?)?;
+    parts.push(inner)?;
+    let end = nil(alloc)?;
+    chained(alloc, parts, end)
+}
+
+/// The constant that a form is within a quote. So many more may be nested in it.
+#[cycle(constants)]
+pub(crate) fn constant(alloc: Global, left: usize, form: &Form) -> Result<Option<Value>, TransError>
+    ensures { Gives result (capped small_value (constant_in left form.now)) }
+{
+    let place = form.place;
+    match &form.body {
+        Body::Int(n) => Ok(Some(Value::Int(*n))),
+        Body::Chr(code) => Ok(Some(Value::Chr(*code))),
+        Body::Str(bytes) => Ok(string(alloc, bytes)?),
+        Body::Sym(symbol) => Ok(Some(Value::Sym(copy_symbol(alloc, symbol)?))),
+        Body::List(items) => {
+            let found = list(alloc, left, place, items.as_slice())?;
+            Ok(found)
+        }
+        Body::Dotted(items, last) => {
+            let found = dotted(alloc, left, place, items.as_slice(), last.get())?;
+            Ok(found)
+        }
+        Body::Quoted(inner) => {
+            let found = quoted(alloc, left, place, inner.get())?;
+            Ok(found)
+        }
+        Body::Quasi(_) => Err(refused_at(place, TransKind::BadForm)),
+        Body::Comma(_) => Err(refused_at(place, TransKind::CommaOutside)),
+        Body::CommaAt(_) => Err(refused_at(place, TransKind::CommaOutside)),
+    }
+}
+
+/// The constants of a list's forms, and how many nodes a list of them has.
+#[cycle(constants)]
+fn constants(alloc: Global, left: usize, items: &[Form]) -> Result<Option<Seq<Value>>, TransError>
+    ensures { Gives result (capped few_values (each (constant_in left) items.now)) }
+{
+    let mut out = Some(no_values(alloc));
+    for item in items {
+        let next = constant(alloc, left, item)?;
+        out = add_value(out, next)?;
+    }
+    Ok(values_of(out))
+}
+
+#[cycle(constants)]
+#[tactic(auto, using(crate::proofs::Nestings::nestings))]
+fn list(
+    alloc: Global,
+    left: usize,
+    place: usize,
+    items: &[Form],
+) -> Result<Option<Value>, TransError>
+    ensures { Gives result (capped small_value (shaped place (constants left) (λ c. list_constant c items.now))) }
+{
+    if left == 0 {
+        return Err(refused_at(place, TransKind::BadForm));
+    }
+    let values = constants(alloc, left - 1, items)?;
+    let end = nil(alloc)?;
+    let value = list_value(alloc, values, Some(end))?;
+    Ok(value)
+}
+
+#[cycle(constants)]
+#[tactic(auto, using(crate::proofs::Nestings::nestings))]
+fn dotted(
+    alloc: Global,
+    left: usize,
+    place: usize,
+    items: &[Form],
+    last: &Form,
+) -> Result<Option<Value>, TransError>
+    ensures { Gives result (capped small_value (shaped place (constants left) (λ c. dotted_constant c items.now last.now))) }
+{
+    if left == 0 {
+        return Err(refused_at(place, TransKind::BadForm));
+    }
+    let values = constants(alloc, left - 1, items)?;
+    let end = constant(alloc, left - 1, last)?;
+    let value = list_value(alloc, values, end)?;
+    Ok(value)
+}
+
+#[cycle(constants)]
+#[tactic(auto, using(crate::proofs::Nestings::nestings))]
+fn quoted(
+    alloc: Global,
+    left: usize,
+    place: usize,
+    inner: &Form,
+) -> Result<Option<Value>, TransError>
+    ensures { Gives result (capped small_value (shaped place (constants left) (λ c. quoted_constant c inner.now))) }
+{
+    if left == 0 {
+        return Err(refused_at(place, TransKind::BadForm));
+    }
+    match constant(alloc, left - 1, inner)? {
+        None => Ok(None),
+        Some(inner) => {
+            let value = quote_list(alloc, inner)?;
+            Ok(small_value(value))
+        }
+    }
+}

@@ -1,0 +1,218 @@
+ghost use Rattle.std.specs.Prelude.{◌≡◌, ◌≤◌, ◌<◌, ◌+◌, ◌∷◌, [], IfOk, IfSome, IfNone, OnSome, length, map, option_map, zip, Some};
+ghost use Rattle.ap_list.specs.Lists.{lookup_by};
+ghost use Rattle.ap_value.specs.Values.{symbol_eq};
+ghost use Rattle.ap_term.specs.declared.term.Term.TheVariants.{Var};
+ghost use Rattle.ap_term.specs.Terms.{term_size, subst_of};
+ghost use Rattle.ap_translate.specs.Instances.{nodes_found, sum_known, nodes_of, more_than, known_pairs, replaced_by, kept_instance, kept_in_turn, kept_either, kept_by};
+
+use crate::sizes::{MOST_NODES, more_nodes};
+use ap_list::{NoMemory, Seq};
+use ap_term::{Term, copy_term};
+use ap_value::{Symbol, copy_symbol, same_symbol};
+use std::alloc::Global;
+use std::slice::from_ref;
+
+/// Whether two symbols are one, as the definitions test it.
+fn is_same(a: &Symbol, b: &Symbol) -> bool
+    ensures { result ≡ symbol_eq a.now b.now }
+{
+    same_symbol(a, b)
+}
+
+/// What is kept of the term that replaces a variable, where there is one.
+fn found<'a>(names: &[Symbol], terms: &'a [Option<Term>], name: &Symbol) -> Option<&'a Option<Term>>
+    ensures { option_map (λ o. o.now) result ≡ lookup_by symbol_eq (zip names.now terms.now) name.now }
+{
+    let mut left = names;
+    let mut values = terms;
+    while let [first, rest @ ..] = left {
+        let [value, more @ ..] = values else {
+            return None;
+        };
+        if is_same(name, first) {
+            return Some(value);
+        }
+        left = rest;
+        values = more;
+    }
+    None
+}
+
+/// One more than so many, where that is at most 4,096.
+fn one_more(count: u64) -> Option<u64>
+    ensures { result ≡ more_than count (Some 1) }
+{
+    if count < MOST_NODES {
+        Some(count + 1)
+    } else {
+        None
+    }
+}
+
+/// The number of nodes of a term and so many more, where they are at most 4,096.
+#[tactic(auto, using(crate::proofs::Counted::more_thans))]
+fn with_nodes(count: u64, term: &Term) -> Option<u64>
+    requires { count ≤ 4096 }
+    ensures { result ≡ more_than count (Some (term_size term.now)) }
+{
+    more_nodes(count, term)
+}
+
+/// The number of nodes of what replaces a variable and so many more, where they are at most 4,096.
+fn with_found(count: u64, found: Option<&Option<Term>>) -> Option<u64>
+    requires { count ≤ 4096 }
+    ensures { result ≡ more_than count (nodes_found (option_map (λ o. o.now) found.entry)) }
+{
+    match found {
+        None => one_more(count),
+        Some(kept) => match kept {
+            Some(term) => with_nodes(count, term),
+            None => None,
+        },
+    }
+}
+
+/// The number of nodes of a term with its variables replaced and so many more, where they are at most
+/// 4,096. Takes no memory.
+#[cycle(counting)]
+#[tactic(auto, using(crate::proofs::Counted::counts))]
+fn count(names: &[Symbol], terms: &[Option<Term>], term: &Term, before: u64) -> Option<u64>
+    requires { before ≤ 4096 }
+    ensures is { result ≡ more_than before (nodes_of (zip names.now terms.now) term.now) }
+    ensures low { IfSome result (λ n. n ≤ 4096) }
+{
+    match term {
+        Term::Var(name) => with_found(before, found(names, terms, name)),
+        Term::Quote(_) => with_nodes(before, term),
+        Term::Call(_, parts) => {
+            let start = one_more(before)?;
+            count_all(names, terms, parts.as_slice(), start)
+        }
+    }
+}
+
+#[cycle(counting)]
+#[tactic(auto, using(crate::proofs::Counted::counts))]
+fn count_all(names: &[Symbol], terms: &[Option<Term>], parts: &[Term], before: u64) -> Option<u64>
+    requires { before ≤ 4096 }
+    ensures is { result ≡ more_than before (sum_known (map (nodes_of (zip names.now terms.now)) parts.now)) }
+    ensures low { IfSome result (λ n. n ≤ 4096) }
+{
+    let mut total = before;
+    for part in parts {
+        total = count(names, terms, part, total)?;
+    }
+    Some(total)
+}
+
+/// What a variable is replaced by, where it is kept; else itself.
+fn replaced(alloc: Global, found: Option<&Option<Term>>, name: &Symbol) -> Result<Term, NoMemory>
+    ensures { IfOk result (λ u. u ≡ replaced_by (option_map (λ o. o.now) found.entry) name.now) }
+{
+    if let Some(kept) = found {
+        if let Some(term) = kept {
+            return copy_term(alloc, term);
+        }
+    }
+    Ok(Term::Var(copy_symbol(alloc, name)?))
+}
+
+/// A copy of a term with its variables replaced, but for those whose terms aren't kept.
+#[cycle(copying)]
+#[tactic(auto, using(crate::proofs::Counted::copies))]
+fn copied(
+    alloc: Global,
+    names: &[Symbol],
+    terms: &[Option<Term>],
+    term: &Term,
+) -> Result<Term, NoMemory>
+    ensures { IfOk result (λ u. u ≡ subst_of (known_pairs (zip names.now terms.now)) term.now) }
+{
+    match term {
+        Term::Var(name) => replaced(alloc, found(names, terms, name), name),
+        Term::Quote(_) => copy_term(alloc, term),
+        Term::Call(head, parts) => Ok(Term::Call(
+            copy_symbol(alloc, head)?,
+            copied_all(alloc, names, terms, parts.as_slice())?,
+        )),
+    }
+}
+
+#[cycle(copying)]
+fn copied_all(
+    alloc: Global,
+    names: &[Symbol],
+    terms: &[Option<Term>],
+    parts: &[Term],
+) -> Result<Seq<Term>, NoMemory>
+    ensures { IfOk result (λ us. us ≡ map (subst_of (known_pairs (zip names.now terms.now))) parts.now) }
+{
+    let mut out = Seq::new(alloc);
+    for part in parts {
+        out.push(copied(alloc, names, terms, part)?)?;
+    }
+    Ok(out)
+}
+
+/// A term with its variables replaced, where it has at most 4,096 nodes. It is counted before it is
+/// copied, so that never more are made.
+fn instance(
+    alloc: Global,
+    names: &[Symbol],
+    terms: &[Option<Term>],
+    term: &Term,
+) -> Result<Option<Term>, NoMemory>
+    ensures { IfOk result (λ o. o ≡ kept_instance (zip names.now terms.now) term.now) }
+{
+    match count(names, terms, term, 0) {
+        None => Ok(None),
+        Some(_) => Ok(Some(copied(alloc, names, terms, term)?)),
+    }
+}
+
+/// A term with its variables replaced one after another, the last one first.
+fn instance_in_turn(
+    alloc: Global,
+    names: Seq<Symbol>,
+    terms: Seq<Option<Term>>,
+    term: Term,
+) -> Result<Option<Term>, NoMemory>
+    requires { length names ≡ length terms }
+    ensures { IfOk result (λ o. o ≡ kept_in_turn (zip names terms) term) }
+{
+    let mut names = names;
+    let mut terms = terms;
+    let mut inner = term;
+    while let Some(name) = names.pop() {
+        let Some(kept) = terms.pop() else {
+            return Ok(None);
+        };
+        let taken = instance(alloc, from_ref(&name), from_ref(&kept), &inner)?;
+        inner = match taken {
+            None => return Ok(None),
+            Some(next) => next,
+        };
+    }
+    Ok(Some(inner))
+}
+
+/// The body of a `let` or a `lambda` with its variables replaced, or of a `let*`, one after another.
+pub(crate) fn body_replaced(
+    alloc: Global,
+    in_turn: bool,
+    names: Seq<Symbol>,
+    terms: Seq<Option<Term>>,
+    body: Option<Term>,
+) -> Result<Option<Term>, NoMemory>
+    requires { length names ≡ length terms }
+    ensures { IfOk result (λ o. o ≡ kept_by (kept_either in_turn (zip names terms)) body) }
+{
+    let Some(body) = body else {
+        return Ok(None);
+    };
+    if in_turn {
+        instance_in_turn(alloc, names, terms, body)
+    } else {
+        instance(alloc, names.as_slice(), terms.as_slice(), &body)
+    }
+}

@@ -1,0 +1,88 @@
+ghost use Rattle.std.specs.Prelude.{◌≡◌, IfOk, get_or};
+ghost use Rattle.ap_list.specs.Lists.{is_among};
+ghost use Rattle.ap_value.specs.Values.{symbol_eq, acl2};
+ghost use Rattle.ap_world.specs.Names.{t_name, nil_name};
+ghost use Rattle.ap_world.specs.Primitives.{prim_arity};
+ghost use Rattle.ap_translate.specs.Names.{is_constant, is_starred, can_be_bound};
+
+use ap_list::{Bytes, NoMemory};
+use ap_value::{Symbol, same_symbol};
+use ap_world::Primitive;
+use std::alloc::Global;
+
+/// The symbol of package `ACL2` with this name.
+pub(crate) fn acl2(alloc: Global, name: &[u8]) -> Result<Symbol, NoMemory>
+    ensures { IfOk result (λ s. s ≡ acl2 name.now) }
+{
+    let name = Bytes::from_slice(alloc, name)?;
+    Ok(Symbol {
+        keyword: false,
+        name,
+    })
+}
+
+/// Whether a symbol is the one of package `ACL2` with this name.
+pub(crate) fn is_named(symbol: &Symbol, name: &[u8]) -> bool
+    ensures { result ≡ symbol_eq symbol.now (acl2 name.now) }
+{
+    !symbol.keyword && symbol.name.as_slice() == name
+}
+
+/// Whether a symbol is a constant: `t`, `nil` or a keyword.
+#[tactic(auto, unfolding(ap_world::specs::Names::t_name, ap_world::specs::Names::nil_name))]
+pub(crate) fn is_constant(symbol: &Symbol) -> bool
+    ensures { result ≡ is_constant symbol.now }
+{
+    symbol.keyword || is_named(symbol, b"T") || is_named(symbol, b"NIL")
+}
+
+/// Whether a name stands between asterisks.
+pub(crate) fn is_starred(name: &[u8]) -> bool
+    ensures { result ≡ is_starred name.now }
+{
+    name.len() >= 3 && name[0] == b'*' && name[name.len() - 1] == b'*'
+}
+
+/// Whether two symbols are one, as the definitions test it.
+fn is_same(a: &Symbol, b: &Symbol) -> bool
+    ensures { result ≡ symbol_eq a.now b.now }
+{
+    same_symbol(a, b)
+}
+
+/// Whether a symbol is one of the list.
+pub(crate) fn is_among(symbol: &Symbol, list: &[Symbol]) -> bool
+    ensures { result ≡ is_among symbol_eq symbol.now list.now }
+{
+    let mut left = list;
+    while let [first, rest @ ..] = left {
+        if is_same(symbol, first) {
+            return true;
+        }
+        left = rest;
+    }
+    false
+}
+
+/// Whether a symbol may be a variable besides those that are bound already.
+pub(crate) fn can_be_bound(symbol: &Symbol, bound: &[Symbol]) -> bool
+    ensures { result ≡ can_be_bound symbol.now bound.now }
+{
+    !is_constant(symbol) && !is_starred(symbol.name.as_slice()) && !is_among(symbol, bound)
+}
+
+/// How many arguments a primitive takes.
+pub(crate) fn primitive_arity(primitive: Primitive) -> usize
+    ensures { result ≡ prim_arity primitive }
+{
+    match primitive {
+        Primitive::If => 3,
+        Primitive::Equal
+        | Primitive::Cons
+        | Primitive::Plus
+        | Primitive::Times
+        | Primitive::Less
+        | Primitive::Coerce => 2,
+        _ => 1,
+    }
+}
