@@ -13,3 +13,4 @@ pub mod Nestings
 pub mod Planning
 pub mod Smalls
 pub mod Speaking
+pub mod Writing

@@ -9,5 +9,6 @@ pub mod Macros
 pub mod Rows
 pub mod Quoted
 pub mod Sizes
+pub mod Written
 pub mod Shapes
 pub mod Table

@@ -5,19 +5,13 @@ ghost use Rattle.ap_term.specs.declared.term.Term.TheVariants.{Var};
 ghost use Rattle.ap_term.specs.Terms.{term_size, subst_of};
 ghost use Rattle.ap_translate.specs.Instances.{nodes_found, sum_known, nodes_of, more_than, known_pairs, replaced_by, kept_instance, kept_in_turn, kept_either, kept_by};
 
+use crate::names::is_same;
 use crate::sizes::{MOST_NODES, more_nodes};
 use ap_list::{NoMemory, Seq};
 use ap_term::{Term, copy_term};
-use ap_value::{Symbol, copy_symbol, same_symbol};
+use ap_value::{Symbol, copy_symbol};
 use std::alloc::Global;
 use std::slice::from_ref;
-
-/// Whether two symbols are one, as the definitions test it.
-fn is_same(a: &Symbol, b: &Symbol) -> bool
-    ensures { result ≡ symbol_eq a.now b.now }
-{
-    same_symbol(a, b)
-}
 
 /// What is kept of the term that replaces a variable, where there is one.
 fn found<'a>(names: &[Symbol], terms: &'a [Option<Term>], name: &Symbol) -> Option<&'a Option<Term>>

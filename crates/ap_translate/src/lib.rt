@@ -16,6 +16,7 @@ mod shapes;
 mod sizes;
 mod table;
 mod translator;
+mod written;
 
 pub use ap_list::{Bytes, NoMemory, Seq};
 pub use ap_reader::{Body, Form};
@@ -23,4 +24,6 @@ pub use ap_term::Term;
 pub use ap_value::{Symbol, Value};
 pub use ap_world::World;
 pub use fault::{TransError, TransKind};
+pub use names::{may_name, may_name_constant};
 pub use translator::translate;
+pub use written::constant_value;

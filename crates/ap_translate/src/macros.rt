@@ -2,7 +2,7 @@ ghost use Rattle.std.specs.Prelude.{◌≡◌, map, option_map, get_or, take, dr
 ghost use Rattle.std.specs.List.{list_all};
 ghost use Rattle.ap_list.specs.Lists.{lookup_by};
 ghost use Rattle.ap_value.specs.Values.{symbol_eq, acl2};
-ghost use Rattle.ap_translate.specs.Macros.{macro_of, path_of, fits, is_turn, inner, accessor_path};
+ghost use Rattle.ap_translate.specs.Macros.{macro_of, path_of, is_macro, fits, is_turn, inner, accessor_path};
 
 use crate::names::is_named;
 use ap_value::Symbol;
@@ -131,4 +131,11 @@ pub(crate) fn path_of(symbol: &Symbol) -> Option<&[u8]>
     } else {
         accessor_path(name)
     }
+}
+
+/// Whether a symbol is the name of a macro.
+pub(crate) fn is_macro(symbol: &Symbol) -> bool
+    ensures { result ≡ is_macro symbol.now }
+{
+    macro_of(symbol).is_some() || path_of(symbol).is_some()
 }

@@ -3,8 +3,9 @@ ghost use Rattle.ap_list.specs.Lists.{is_among};
 ghost use Rattle.ap_value.specs.Values.{symbol_eq, acl2};
 ghost use Rattle.ap_world.specs.Names.{t_name, nil_name};
 ghost use Rattle.ap_world.specs.Primitives.{prim_arity};
-ghost use Rattle.ap_translate.specs.Names.{is_constant, is_starred, can_be_bound};
+ghost use Rattle.ap_translate.specs.Names.{is_constant, is_starred, can_be_bound, may_name, may_name_constant};
 
+use crate::macros::is_macro;
 use ap_list::{Bytes, NoMemory};
 use ap_value::{Symbol, same_symbol};
 use ap_world::Primitive;
@@ -44,7 +45,7 @@ pub(crate) fn is_starred(name: &[u8]) -> bool
 }
 
 /// Whether two symbols are one, as the definitions test it.
-fn is_same(a: &Symbol, b: &Symbol) -> bool
+pub(crate) fn is_same(a: &Symbol, b: &Symbol) -> bool
     ensures { result ≡ symbol_eq a.now b.now }
 {
     same_symbol(a, b)
@@ -69,6 +70,22 @@ pub(crate) fn can_be_bound(symbol: &Symbol, bound: &[Symbol]) -> bool
     ensures { result ≡ can_be_bound symbol.now bound.now }
 {
     !is_constant(symbol) && !is_starred(symbol.name.as_slice()) && !is_among(symbol, bound)
+}
+
+/// Whether a symbol may name a function or a theorem: it isn't `t`, `nil`, a keyword or the name of a macro,
+/// and doesn't stand between asterisks. Takes no memory.
+pub fn may_name(symbol: &Symbol) -> bool
+    ensures { result ≡ may_name symbol.now }
+{
+    !is_constant(symbol) && !is_macro(symbol) && !is_starred(symbol.name.as_slice())
+}
+
+/// Whether a symbol may name a constant: it stands between asterisks, with a byte between them, and isn't a
+/// keyword. Takes no memory.
+pub fn may_name_constant(symbol: &Symbol) -> bool
+    ensures { result ≡ may_name_constant symbol.now }
+{
+    !is_constant(symbol) && !is_macro(symbol) && is_starred(symbol.name.as_slice())
 }
 
 /// How many arguments a primitive takes.

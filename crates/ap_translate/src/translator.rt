@@ -17,7 +17,7 @@ use ap_world::World;
 use std::alloc::Global;
 
 /// How many lists and marks may be nested within each other in a form: as many as a text may have.
-const MOST_NESTED: usize = 400;
+pub(crate) const MOST_NESTED: usize = 400;
 
 fn bound_by(alloc: Global, bound: Option<&Seq<Symbol>>) -> Result<Bound, NoMemory>
     ensures { IfOk result (λ b. b.names ≡ option_map (λ xs. xs.now) bound.entry) }

@@ -1,0 +1,97 @@
+ghost use Rattle.std.specs.Prelude.{◌≡◌, IfOk, option_map};
+ghost use Rattle.ap_reader.specs.declared.form.Body.TheOpen.{Body-F};
+ghost use Rattle.ap_translate.specs.Answers.{Gives};
+ghost use Rattle.ap_translate.specs.Sizes.{small_value};
+ghost use Rattle.ap_translate.specs.Written.{quoted_at, quoted_in, literal_in, kept_within, written};
+
+use crate::constant::{constant, nil, string};
+use crate::fault::{TransError, TransKind, refused_at};
+use crate::names::is_constant;
+use crate::parts::is_symbol;
+use crate::translator::MOST_NESTED;
+use ap_list::NoMemory;
+use ap_reader::{Body, Form};
+use ap_value::{Value, copy_symbol};
+use std::alloc::Global;
+
+/// The `x` of a list `(quote x)`.
+fn quoted_list(items: &[Form]) -> Option<&Form>
+    ensures { option_map (λ f. f.now) result ≡ quoted_at (Body-F.List items.now) }
+{
+    match items {
+        [head, form] => {
+            if is_symbol(head, b"QUOTE") {
+                Some(form)
+            } else {
+                None
+            }
+        }
+        _ => None,
+    }
+}
+
+/// The `x` of `'x` or `(quote x)`.
+fn quoted_in(form: &Form) -> Option<&Form>
+    ensures { option_map (λ f. f.now) result ≡ quoted_in form.now }
+{
+    match &form.body {
+        Body::Quoted(inner) => Some(inner.get()),
+        Body::List(items) => quoted_list(items.as_slice()),
+        _ => None,
+    }
+}
+
+/// The value of a form that is a constant by itself, and whether it is one; the value is `None` where it has
+/// more than 4,096 nodes.
+fn literal(alloc: Global, form: &Form) -> Result<Option<Option<Value>>, NoMemory>
+    ensures { IfOk result (λ o. o ≡ option_map small_value (literal_in form.now)) }
+{
+    match &form.body {
+        Body::Int(n) => Ok(Some(Some(Value::Int(*n)))),
+        Body::Chr(code) => Ok(Some(Some(Value::Chr(*code)))),
+        Body::Str(bytes) => Ok(Some(string(alloc, bytes)?)),
+        Body::Sym(symbol) => {
+            if is_constant(symbol) {
+                Ok(Some(Some(Value::Sym(copy_symbol(alloc, symbol)?))))
+            } else {
+                Ok(None)
+            }
+        }
+        Body::List(items) => {
+            if items.is_empty() {
+                Ok(Some(Some(nil(alloc)?)))
+            } else {
+                Ok(None)
+            }
+        }
+        _ => Ok(None),
+    }
+}
+
+/// A constant that is kept, or the refusal of one that has too many nodes.
+fn within(place: usize, value: Option<Value>) -> Result<Option<Value>, TransError>
+    ensures { result ≡ kept_within place value }
+{
+    match value {
+        Some(value) => Ok(Some(value)),
+        None => Err(refused_at(place, TransKind::TermTooLarge)),
+    }
+}
+
+/// The value of a form that is a constant by itself (an integer, a character, a string, a keyword, `t`,
+/// `nil`, `()`) or is quoted (`'x`, `(quote x)`): what `defconst` takes. `None` exactly where the form is
+/// neither. What stands in the quote is refused as in a term, with its place, and so is a constant of more
+/// than 4,096 nodes, as `TermTooLarge`.
+#[tactic(auto, using(crate::proofs::Writing::writings))]
+pub fn constant_value(alloc: Global, f: &Form) -> Result<Option<Value>, TransError>
+    ensures { Gives result (written f.now) }
+{
+    if let Some(inner) = quoted_in(f) {
+        let value = constant(alloc, MOST_NESTED - 1, inner)?;
+        return within(f.place, value);
+    }
+    match literal(alloc, f)? {
+        Some(value) => within(f.place, value),
+        None => Ok(None),
+    }
+}
