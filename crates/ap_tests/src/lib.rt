@@ -9,8 +9,6 @@ mod clauses;
 #[cfg(test)]
 mod evaluation;
 #[cfg(test)]
-mod goals;
-#[cfg(test)]
 mod grounds;
 #[cfg(test)]
 mod kernel;

@@ -1,8 +1,0 @@
-use Rattle.std.proofs.Common.{◌≡◌, drop}
-use Rattle.ap_list.specs.Lists.{is_among}
-use Rattle.ap_world.specs.Recursion.{args_eq}
-use Rattle.ap_goals.proofs.tidying.is_clause_among.Given as goal
-
--- it may still stand among those that are left
-abbrev pub invariant-loop-other : goal.invariant-loop-other
-invariant-loop-other l = is_among args_eq l.clause (drop l.other-index l.others) ≡ is_among args_eq l.clause l.others

@@ -1,3 +1,0 @@
-pub mod Resting
-pub mod Splitting
-pub mod Tidying
