@@ -1,0 +1,449 @@
+use ap_ground::ground_world;
+use ap_list::{Boxed, Bytes, NoMemory, Seq};
+use ap_print::{print_term, print_value};
+use ap_reader::{Body, forms};
+use ap_term::{Term, size};
+use ap_translate::{TransError, constant_value, may_name, may_name_constant, translate};
+use ap_value::{Symbol, Value};
+use ap_world::World;
+use std::alloc::Global;
+use std::process::Abort;
+use std::test::Fail;
+
+/// A form, and its term as it prints. Each variable may stand, and `*k*` is `(1 . 2)`.
+const TERMS: &str = r#"12 => '12
+#\a => '#\a
+"ab" => '"ab"
+:key => ':KEY
+t => 'T
+nil => 'NIL
+() => 'NIL
+'x => 'X
+(quote x) => 'X
+'(a . 1) => '(A . 1)
+''a => '(QUOTE A)
+'() => 'NIL
+'((a) b) => '((A) B)
+*k* => '(1 . 2)
+x => X
+** => **
+(and) => 'T
+(and a) => A
+(and a b) => (IF A B 'NIL)
+(and a b c) => (IF A (IF B C 'NIL) 'NIL)
+(or) => 'NIL
+(or a) => A
+(or a b) => (IF A A B)
+(or a b c) => (IF A A (IF B B C))
+(cond) => 'NIL
+(cond (a)) => (IF A A 'NIL)
+(cond (a b)) => (IF A B 'NIL)
+(cond (a b) (t c)) => (IF A B C)
+(cond (a) (b c) (t d) 5) => (IF A A (IF B C D))
+(cond (t)) => (IF 'T 'T 'NIL)
+(cond (t b)) => B
+(let ((v e)) (cons v w)) => (CONS E W)
+(let ((x y) (y x)) (cons x y)) => (CONS Y X)
+(let () x) => X
+(let nil x) => X
+(let ((v 1)) (declare (ignore v)) (declare) w) => W
+(let ((v 1)) (let ((v (+ v v))) v)) => (BINARY-+ '1 '1)
+(let ((x (car y))) (let ((y 1)) (cons x y))) => (CONS (CAR Y) '1)
+(let* ((x y) (y x)) (cons x y)) => (CONS Y Y)
+(let* () x) => X
+(let* ((a 1) (b (cons a a))) (cons b a)) => (CONS (CONS '1 '1) '1)
+((lambda (v w) (cons w v)) a b) => (CONS B A)
+((lambda (v) (declare (ignorable v)) (cons v x)) (car x)) => (CONS (CAR X) X)
+((lambda () 3)) => '3
+((lambda nil 3)) => '3
+(+) => '0
+(+ a) => (BINARY-+ '0 A)
+(+ a b) => (BINARY-+ A B)
+(+ a b c) => (BINARY-+ A (BINARY-+ B C))
+(*) => '1
+(* a) => (BINARY-* '1 A)
+(* a b) => (BINARY-* A B)
+(* a b c d) => (BINARY-* A (BINARY-* B (BINARY-* C D)))
+(- a) => (UNARY-- A)
+(- 5) => (UNARY-- '5)
+(- a 5) => (BINARY-+ '-5 A)
+(- a -5) => (BINARY-+ '5 A)
+(- a b) => (BINARY-+ A (UNARY-- B))
+(- a '5) => (BINARY-+ A (UNARY-- '5))
+(- a 170141183460469231731687303715884105727) => (BINARY-+ '-170141183460469231731687303715884105727 A)
+(- a -170141183460469231731687303715884105728) => (BINARY-+ A (UNARY-- '-170141183460469231731687303715884105728))
+(> a b) => (< B A)
+(<= a b) => (NOT (< B A))
+(>= a b) => (NOT (< A B))
+(/= a b) => (NOT (EQUAL A B))
+(< a b) => (< A B)
+(1+ a) => (BINARY-+ '1 A)
+(1- a) => (BINARY-+ '-1 A)
+(list) => 'NIL
+(list a b) => (CONS A (CONS B 'NIL))
+(list* a) => A
+(list* a b c) => (CONS A (CONS B C))
+(append) => 'NIL
+(append a) => A
+(append a b c) => (BINARY-APPEND A (BINARY-APPEND B C))
+(caar x) => (CAR (CAR X))
+(cadr x) => (CAR (CDR X))
+(cdar x) => (CDR (CAR X))
+(cddadr x) => (CDR (CDR (CAR (CDR X))))
+(first x) => (CAR X)
+(second x) => (CAR (CDR X))
+(rest x) => (CDR X)
+`a => 'A
+`() => 'NIL
+`(a ,b) => (CONS 'A (CONS B 'NIL))
+`(a ,@b) => (CONS 'A (BINARY-APPEND B 'NIL))
+`(,@a b) => (BINARY-APPEND A (CONS 'B 'NIL))
+`((1) ,@(list x) "s") => (CONS (CONS '1 'NIL) (BINARY-APPEND (CONS X 'NIL) (CONS '"s" 'NIL)))
+`(a ',x) => (CONS 'A (CONS (CONS 'QUOTE (CONS X 'NIL)) 'NIL))
+`,(car `(,x)) => (CAR (CONS X 'NIL))
+`(and a) => (CONS 'AND (CONS 'A 'NIL))
+(not (len x)) => (NOT (LEN X))
+(if a b c) => (IF A B C)
+(length "") => (LENGTH '"")
+(acl2::car |x|) => (CAR |x|)"#;
+
+/// A form, and the number of its first refusal with the place. Each variable may stand.
+const REFUSALS: &str = r#"(quote . x) => 4 at 0
+(cond (t b) . x) => 4 at 0
+(+ . x) => 4 at 0
+(foo . x) => 4 at 0
+(foo x) => 1 at 0
+*c* => 1 at 0
+(lambda (x) x) => 1 at 0
+(:car x) => 1 at 0
+(nil x) => 1 at 0
+(() x) => 1 at 0
+(caaaaar x) => 1 at 0
+(car x y) => 2 at 0
+(if a b) => 2 at 0
+(len) => 2 at 0
+(quote) => 3 at 0
+(quote a b) => 3 at 0
+(cond (a) 5) => 3 at 0
+(cond ()) => 3 at 0
+(cond (a b c)) => 3 at 0
+(cond (t b c)) => 3 at 0
+(let ((v 1))) => 3 at 0
+(let ((v)) v) => 3 at 0
+(let ((1 2)) x) => 3 at 0
+(let x x) => 3 at 0
+(let ((v 1)) v v) => 3 at 0
+(let ((v . 1)) v) => 3 at 0
+(let* ((v 1) w) v) => 3 at 0
+((lambda (v) v)) => 3 at 0
+((lambda (v) v) 1 2) => 3 at 0
+((lambda v v) 1) => 3 at 0
+((lambda (v)) 1) => 3 at 0
+((car x) y) => 3 at 0
+(5 x) => 3 at 0
+(-) => 3 at 0
+(- a b c) => 3 at 0
+(> a) => 3 at 0
+(<= a b c) => 3 at 0
+(>= a) => 3 at 0
+(/=) => 3 at 0
+(1+) => 3 at 0
+(1- a b) => 3 at 0
+(list*) => 3 at 0
+(cadr) => 3 at 0
+(first x y) => 3 at 0
+`(a `(b)) => 3 at 4
+`,@x => 3 at 1
+'(a `b) => 3 at 4
+(car (1+)) => 3 at 5
+(and . x) => 4 at 0
+(cons x (car . y)) => 4 at 8
+`(a (b . ,c)) => 4 at 4
+(let ((t 1)) x) => 6 at 7
+(let ((nil 1)) x) => 6 at 7
+(let ((() 1)) x) => 6 at 7
+(let ((:v 1)) x) => 6 at 7
+(let ((*k* 1)) x) => 6 at 7
+(let ((v 1) (v 2)) v) => 6 at 13
+(let* ((v 1) (v 2)) v) => 6 at 14
+((lambda (v v) v) 1 2) => 6 at 12
+,x => 7 at 0
+(car ,@x) => 7 at 5
+'(a ,b) => 7 at 4
+`(a ,(b ,c)) => 1 at 5
+`(a ,(car ,c)) => 7 at 10
+(cons (foo) (bar x)) => 1 at 6
+(foo (cons)) => 1 at 0
+(cons *c* (car)) => 1 at 6
+(list (car) ,x) => 2 at 6
+(cond ((foo)) 5) => 3 at 0
+(cond (a (foo)) (t (car))) => 1 at 9
+(cond (t b) ((foo))) => B
+(let ((v (foo)) (t 1)) (car)) => 1 at 9
+(let ((v 1)) (foo v)) => 1 at 13
+(let ((v (foo))) w) => 1 at 9
+((lambda (v) (foo)) (car)) => 1 at 13
+((lambda (v) v) (car)) => 2 at 16"#;
+
+/// The same where `x` alone is bound.
+const BOUND: &str = r#"x => X
+y => 1 at 0
+(let ((y x)) y) => X
+(let ((z y)) x) => 1 at 9
+(let ((y x) (z y)) z) => 1 at 15
+(let* ((y x) (z y)) z) => X
+((lambda (y) (cons x y)) (car x)) => (CONS X (CAR X))
+((lambda (y) z) w) => 1 at 13
+'(y z) => '(Y Z)
+`(y ,x) => (CONS 'Y (CONS X 'NIL))
+`(y ,y) => 1 at 5
+(let ((z 1)) (let ((w z)) (cons w x))) => (CONS '1 X)"#;
+
+/// The same of large terms; `small`: it has a term of exactly 4,096 nodes.
+const LARGE: &str = r#"(let* ((a (cons x x)) (b (cons a a)) (c (cons b b)) (d (cons c c)) (e (cons d d)) (f (cons e e)) (g (cons f f)) (h (cons g g)) (i (cons h h)) (j (cons i i)) (k (cons j j))) (car k)) => small
+(let* ((a (cons x x)) (b (cons a a)) (c (cons b b)) (d (cons c c)) (e (cons d d)) (f (cons e e)) (g (cons f f)) (h (cons g g)) (i (cons h h)) (j (cons i i)) (k (cons j j))) (car (cdr k))) => 5 at 0
+(let* ((a (cons x x)) (b (cons a a)) (c (cons b b)) (d (cons c c)) (e (cons d d)) (f (cons e e)) (g (cons f f)) (h (cons g g)) (i (cons h h)) (j (cons i i)) (k (cons j j))) (cons k (foo))) => 1 at 181
+(let* ((a (cons x x)) (b (cons a a)) (c (cons b b)) (d (cons c c)) (e (cons d d)) (f (cons e e)) (g (cons f f)) (h (cons g g)) (i (cons h h)) (j (cons i i)) (k (cons j j))) (let ((z (cons k k))) x)) => X
+(let* ((a (cons x x)) (b (cons a a)) (c (cons b b)) (d (cons c c)) (e (cons d d)) (f (cons e e)) (g (cons f f)) (h (cons g g)) (i (cons h h)) (j (cons i i)) (k (cons j j))) (let ((z (cons k (foo)))) x)) => 1 at 190
+(let* ((a (cons x x)) (b (cons a a)) (c (cons b b)) (d (cons c c)) (e (cons d d)) (f (cons e e)) (g (cons f f)) (h (cons g g)) (i (cons h h)) (j (cons i i)) (k (cons j j))) (or (cdr k) x)) => 5 at 0
+(let* ((a (cons x x)) (b (cons a a)) (c (cons b b)) (d (cons c c)) (e (cons d d)) (f (cons e e)) (g (cons f f)) (h (cons g g)) (i (cons h h)) (j (cons i i)) (k (cons j j))) (let ((z (cons k k))) (car z))) => 5 at 0"#;
+
+/// A form, and its value as `defconst` takes it, or the number of its refusal with the place.
+const CONSTANTS: &str = r#"12 => 12
+-3 => -3
+#\a => #\a
+"ab" => "ab"
+:key => :KEY
+t => T
+nil => NIL
+() => NIL
+'x => X
+(quote x) => X
+'(a . 1) => (A . 1)
+''a => (QUOTE A)
+'"s" => "s"
+x => none
+*k* => none
+(quote) => none
+(quote a b) => none
+(quote . a) => none
+(cons 1 2) => none
+(list) => none
+`x => none
+,x => none
+'(a ,b) => 7 at 4
+'(a `b) => 3 at 4
+(quote (a ,b)) => 7 at 10"#;
+
+/// A symbol, and what it may name.
+const NAMES: &str = r#"f => event
+** => event
+*a => event
+a* => event
+if => event
+lambda => event
+declare => event
+cr => event
+caaaaar => event
+caxr => event
+*c* => constant
+*** => constant
+* => nothing
+t => nothing
+nil => nothing
+:f => nothing
+:*c* => nothing
+quote => nothing
+and => nothing
+cond => nothing
+let* => nothing
+/= => nothing
+1+ => nothing
+list* => nothing
+append => nothing
+cadr => nothing
+cddadr => nothing
+first => nothing
+second => nothing
+rest => nothing"#;
+
+fn symbol(alloc: Global, name: &[u8]) -> Result<Symbol, NoMemory> {
+    let name = Bytes::from_slice(alloc, name)?;
+    Ok(Symbol {
+        keyword: false,
+        name,
+    })
+}
+
+/// The ground world with the constant `*k*`.
+fn world_with_constant(alloc: Global) -> Result<World, Fail> {
+    let mut world = ground_world(alloc)?;
+    let first = Boxed::new(alloc, Value::Int(1))?;
+    let rest = Boxed::new(alloc, Value::Int(2))?;
+    let name = symbol(alloc, b"*K*")?;
+    let _ = world.add_constant(alloc, name, Value::Cons(first, rest));
+    Ok(world)
+}
+
+/// What a form's answer prints as.
+fn shown(alloc: Global, answer: &Result<Term, TransError>) -> Result<Vec<u8>, Fail> {
+    let mut text = Vec::new(alloc);
+    match answer {
+        Ok(term) if size(term) == Some(4096) => text.extend_from_slice(b"small")?,
+        Ok(term) => text.extend_from_slice(print_term(alloc, term)?.as_slice())?,
+        Err(TransError::Fault { place, kind }) => {
+            let refusal = format!(in alloc; "{} at {place}", kind.number())?;
+            text.extend_from_slice(refusal.as_bytes())?;
+        }
+        Err(TransError::NoMemory) => text.extend_from_slice(b"no memory")?,
+    }
+    Ok(text)
+}
+
+/// How many lines of the table there are, and the first whose form has another answer.
+fn compared(
+    alloc: Global,
+    table: &'static str,
+    bound: Option<&Seq<Symbol>>,
+) -> Result<(usize, &'static str), Fail> {
+    let world = world_with_constant(alloc)?;
+    let mut count = 0usize;
+    for line in table.lines() {
+        let Some((form, wanted)) = line.split_once(" => ") else {
+            return Ok((count, line));
+        };
+        count = count.saturating_add(1);
+        match forms(alloc, form.as_bytes()) {
+            Ok(read) => {
+                let [form] = read.as_slice() else {
+                    return Ok((count, line));
+                };
+                let found = shown(alloc, &translate(alloc, &world, form, bound))?;
+                if found.as_slice() != wanted.as_bytes() {
+                    return Ok((count, line));
+                }
+            }
+            Err(_) => return Ok((count, line)),
+        }
+    }
+    Ok((count, ""))
+}
+
+#[test]
+fn each_form_is_its_term(rt: HostRuntime) -> Result<(), Fail> {
+    assert_eq!(rt; compared(rt.alloc(), TERMS, None)?, (95, ""));
+    Ok(())
+}
+
+#[test]
+fn each_first_refusal_has_its_place(rt: HostRuntime) -> Result<(), Fail> {
+    assert_eq!(rt; compared(rt.alloc(), REFUSALS, None)?, (76, ""));
+    Ok(())
+}
+
+#[test]
+fn a_variable_that_is_not_bound_is_unknown(rt: HostRuntime) -> Result<(), Fail> {
+    let mut bound = Seq::new(rt.alloc());
+    bound.push(symbol(rt.alloc(), b"X")?)?;
+    assert_eq!(rt; compared(rt.alloc(), BOUND, Some(&bound))?, (12, ""));
+    Ok(())
+}
+
+#[test]
+fn a_term_of_more_than_4096_nodes_is_refused_last(rt: HostRuntime) -> Result<(), Fail> {
+    assert_eq!(rt; compared(rt.alloc(), LARGE, None)?, (7, ""));
+    Ok(())
+}
+
+/// What a form's value prints as.
+fn shown_constant(
+    alloc: Global,
+    answer: &Result<Option<Value>, TransError>,
+) -> Result<Vec<u8>, Fail> {
+    let mut text = Vec::new(alloc);
+    match answer {
+        Ok(Some(value)) => text.extend_from_slice(print_value(alloc, value)?.as_slice())?,
+        Ok(None) => text.extend_from_slice(b"none")?,
+        Err(TransError::Fault { place, kind }) => {
+            let refusal = format!(in alloc; "{} at {place}", kind.number())?;
+            text.extend_from_slice(refusal.as_bytes())?;
+        }
+        Err(TransError::NoMemory) => text.extend_from_slice(b"no memory")?,
+    }
+    Ok(text)
+}
+
+/// How many lines of the table of constants there are, and the first whose form has another value.
+fn constants_compared(alloc: Global) -> Result<(usize, &'static str), Fail> {
+    let mut count = 0usize;
+    for line in CONSTANTS.lines() {
+        let Some((form, wanted)) = line.split_once(" => ") else {
+            return Ok((count, line));
+        };
+        count = count.saturating_add(1);
+        match forms(alloc, form.as_bytes()) {
+            Ok(read) => {
+                let [form] = read.as_slice() else {
+                    return Ok((count, line));
+                };
+                let found = shown_constant(alloc, &constant_value(alloc, form))?;
+                if found.as_slice() != wanted.as_bytes() {
+                    return Ok((count, line));
+                }
+            }
+            Err(_) => return Ok((count, line)),
+        }
+    }
+    Ok((count, ""))
+}
+
+/// What a symbol may name.
+fn named(symbol: &Symbol) -> &'static str {
+    if may_name(symbol) {
+        "event"
+    } else if may_name_constant(symbol) {
+        "constant"
+    } else {
+        "nothing"
+    }
+}
+
+/// How many lines of the table of names there are, and the first whose symbol may name something else.
+fn names_compared(alloc: Global) -> Result<(usize, &'static str), Fail> {
+    let mut count = 0usize;
+    for line in NAMES.lines() {
+        let Some((form, wanted)) = line.split_once(" => ") else {
+            return Ok((count, line));
+        };
+        count = count.saturating_add(1);
+        match forms(alloc, form.as_bytes()) {
+            Ok(read) => {
+                let [form] = read.as_slice() else {
+                    return Ok((count, line));
+                };
+                match &form.body {
+                    Body::Sym(symbol) => {
+                        if named(symbol) != wanted {
+                            return Ok((count, line));
+                        }
+                    }
+                    _ => return Ok((count, line)),
+                }
+            }
+            Err(_) => return Ok((count, line)),
+        }
+    }
+    Ok((count, ""))
+}
+
+#[test]
+fn each_written_constant_has_its_value(rt: HostRuntime) -> Result<(), Fail> {
+    assert_eq!(rt; constants_compared(rt.alloc())?, (25, ""));
+    Ok(())
+}
+
+#[test]
+fn macros_and_constants_name_nothing(rt: HostRuntime) -> Result<(), Fail> {
+    assert_eq!(rt; names_compared(rt.alloc())?, (30, ""));
+    Ok(())
+}
