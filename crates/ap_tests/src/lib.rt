@@ -29,6 +29,8 @@ mod terms;
 #[cfg(test)]
 mod tokens;
 #[cfg(test)]
+mod translation;
+#[cfg(test)]
 mod values;
 #[cfg(test)]
 mod walks;
