@@ -1,9 +1,8 @@
 -- A constant as it is written is a term of that value.
-use Rattle.std.proofs.Common.{◌≡◌, ℕ, Bool, true, false, cond, nat_le, List, [], ◌∷◌, Option, Some, None, IfSome, IfOk, Result, Ok, Err, refl, sym, ap, ◌∙◌, codes}
-use Rattle.ap_value.specs.declared.symbol.Symbol.{Symbol}
+use Rattle.std.proofs.Common.{◌≡◌, ℕ, Bool, true, false, cond, nat_le, List, [], ◌∷◌, Option, Some, None, IfSome, IfOk, Result, Ok, Err, refl, ap, ◌∙◌, codes}
 use Rattle.ap_value.specs.declared.value.Value.{Value}
 use Rattle.ap_value.specs.declared.value.Value.TheVariants.{Int, Chr, Str, Sym}
-use Rattle.ap_value.specs.Values.{symbol_eq, acl2}
+use Rattle.ap_value.specs.Values.{acl2}
 use Rattle.ap_value.specs.Counts.{node_count}
 use Rattle.ap_value.proofs.Equals.{symbol_eq-true}
 use Rattle.ap_reader.specs.declared.form.Form.{Form}
@@ -16,12 +15,12 @@ use Rattle.ap_translate.specs.declared.macros.Macro.TheVariants as m
 use Rattle.ap_translate.specs.declared.fault.TransError.{TransError}
 use Rattle.ap_translate.specs.Answers.{Answer, refused, ◌>>=◌, shaped, Gives}
 use Rattle.ap_translate.specs.Names.{is_constant, is_starred}
-use Rattle.ap_translate.specs.Parts.{Layer, layer_of, symbol_at, symbol_in, symbol_by, is_symbol}
+use Rattle.ap_translate.specs.Parts.{Layer, layer_of, symbol_at, symbol_by, is_symbol}
 use Rattle.ap_translate.specs.Macros.{macros, macro_of, path_of}
 use Rattle.ap_translate.specs.Quoted.{nil_value, constant_in}
 use Rattle.ap_translate.specs.Shapes.{lambda_in}
 use Rattle.ap_translate.specs.Plans.{quotation, named_by, headed_plan, plan_in}
-use Rattle.ap_translate.specs.Table.{Bound, Readers, constant_term, variable_term, quoted_term, plan_term, term_layer, readers, level, within, translated}
+use Rattle.ap_translate.specs.Table.{Bound, Readers, constant_term, variable_term, quoted_term, plan_term, term_layer, readers, level, within}
 use Rattle.ap_translate.specs.Written.{quoted_at, literal_at, value_within, written_by, written}
 use Rattle.ap_translate.specs.Laws.{IsConstant}
 use Rattle.ap_translate.proofs.Nestings.{readers_some}
