@@ -447,3 +447,40 @@ fn macros_and_constants_name_nothing(rt: HostRuntime) -> Result<(), Fail> {
     assert_eq!(rt; names_compared(rt.alloc())?, (30, ""));
     Ok(())
 }
+
+/// A form in which `open` stands 400 times, each with its closing parenthesis behind `inner`.
+fn nested(alloc: Global, open: &str, inner: &str) -> Result<Vec<u8>, Fail> {
+    let mut text = Vec::new(alloc);
+    for _ in 0..400u32 {
+        text.extend_from_slice(open.as_bytes())?;
+    }
+    text.extend_from_slice(inner.as_bytes())?;
+    for _ in 0..400u32 {
+        text.push(b')')?;
+    }
+    Ok(text)
+}
+
+/// The nodes of the term of a text's one form.
+fn nodes_of_text(alloc: Global, text: &[u8]) -> Result<Option<u64>, Fail> {
+    let world = world_with_constant(alloc)?;
+    let Ok(read) = forms(alloc, text) else {
+        return Ok(None);
+    };
+    let [form] = read.as_slice() else {
+        return Ok(None);
+    };
+    match translate(alloc, &world, form, None) {
+        Ok(term) => Ok(size(&term)),
+        Err(_) => Ok(None),
+    }
+}
+
+#[test]
+fn the_deepest_forms_of_a_text_are_terms(rt: HostRuntime) -> Result<(), Fail> {
+    let alloc = rt.alloc();
+    assert_eq!(rt; nodes_of_text(alloc, nested(alloc, "(list ", "x")?.as_slice())?, Some(801));
+    assert_eq!(rt; nodes_of_text(alloc, nested(alloc, "(let nil ", "x")?.as_slice())?, Some(1));
+    assert_eq!(rt; nodes_of_text(alloc, nested(alloc, "(let* nil ", "x")?.as_slice())?, Some(1));
+    Ok(())
+}

@@ -1,5 +1,5 @@
 -- Variables and bindings, one after another.
-use Rattle.std.proofs.Common.{◌≡◌, ℕ, ◌+◌, ◌≤◌, Bool, true, false, cond, List, [], ◌∷◌, ◌++◌, length, drop, map, zip, Option, Some, None, option_map, Ok, Err, suc, refl, sym, ap, ◌∙◌, append_assoc, arith}
+use Rattle.std.proofs.Common.{◌≡◌, ℕ, ◌+◌, ◌≤◌, Bool, true, false, List, [], ◌∷◌, ◌++◌, length, drop, map, zip, Option, Some, None, Ok, Err, suc, refl, sym, ap, ◌∙◌, append_assoc}
 use Rattle.std.proofs.lemmas.List.{append-nil, drop_all}
 use Rattle.std.proofs.Math.ListN.{length-map}
 use Rattle.ap_value.specs.declared.symbol.Symbol.{Symbol}
@@ -11,16 +11,16 @@ use Rattle.ap_translate.specs.declared.fault.TransKind.TheVariants as kinds
 use Rattle.ap_translate.specs.declared.fault.TransError.{TransError}
 use Rattle.ap_translate.specs.declared.fault.TransError.TheVariants as errors
 use Rattle.ap_translate.specs.declared.scope.Bindings.{Bindings}
-use Rattle.ap_translate.specs.Answers.{Answer, Refusal, refused, ◌>>=◌, shaped, each, Fails}
+use Rattle.ap_translate.specs.Answers.{Answer, refused, ◌>>=◌, shaped, each, Fails}
 use Rattle.ap_translate.specs.Parts.{symbol_in}
 use Rattle.ap_translate.specs.Shapes.{Bind, binding_in, Scope}
 use Rattle.ap_translate.specs.Sizes.{small, capped}
 use Rattle.ap_translate.specs.Kept.{kept_bindings, each_small}
 use Rattle.ap_translate.specs.Instances.{kept_either, kept_by}
-use Rattle.ap_translate.specs.Table.{Bound, with_bound, Readers, variable, variables, bindings, scope_of, body_of, let_term, lambda_term, term_in, level}
+use Rattle.ap_translate.specs.Table.{Bound, with_bound, variable, variables, bindings, scope_of, body_of, let_term, lambda_term, term_in, level}
 use Rattle.ap_translate.proofs.Grown.{pairs_kept, body_kept}
 use Rattle.ap_translate.proofs.Makings.{each_length}
-use Rattle.ap_translate.proofs.Fails.{then_fails, capped_fails, fails_capped, fails_kept, fails_small, same_fails}
+use Rattle.ap_translate.proofs.Fails.{then_fails, fails_capped, same_fails}
 
 -- variables before more of them
 abbrev pub named_onto : List Symbol → Answer (List Symbol) → Answer (List Symbol)

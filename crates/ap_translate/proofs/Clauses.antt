@@ -1,6 +1,5 @@
 -- The clauses of `cond`, one after another.
 use Rattle.std.proofs.Common.{◌≡◌, ℕ, ◌+◌, ◌<◌, ◌≤◌, Bool, true, false, cond, nat_le, List, [], ◌∷◌, ◌++◌, length, drop, Option, Some, None, option_map, unwrap_or, Ok, Err, refl, sym, ap, ◌∙◌, arith}
-use Rattle.std.proofs.lemmas.Bool.Decides.{nat_tests}
 use Rattle.std.proofs.lemmas.List.{drop_all}
 use Rattle.ap_term.specs.declared.term.Term.{Term}
 use Rattle.ap_term.specs.Terms.{term_size}
@@ -13,11 +12,11 @@ use Rattle.ap_translate.specs.Answers.{Refusal, Answer, refused, ◌>>=◌, shap
 use Rattle.ap_translate.specs.Rows.{nil_term, if_term, or_term}
 use Rattle.ap_world.specs.Names.{nil_name}
 use Rattle.ap_translate.specs.Shapes.{Arm as Clause', arm_in, last_in, alone, pair, otherwise}
-use Rattle.ap_translate.specs.Sizes.{small, total, few_by, more_by, capped}
+use Rattle.ap_translate.specs.Sizes.{small, total, more_by, capped}
 use Rattle.ap_translate.specs.Kept.{arm_size, arm_alone, arm_pair, clause_kept, armed_by, armed, arms_before, kept_arms}
 use Rattle.ap_translate.specs.Table.{arm_term, arms_term}
-use Rattle.ap_translate.proofs.Kept.{past, total_more, few_none}
-use Rattle.ap_translate.proofs.Smalls.{small_none, small_some, symbol_kept}
+use Rattle.ap_translate.proofs.Kept.{past, total_more}
+use Rattle.ap_translate.proofs.Smalls.{small_none, symbol_kept}
 use Rattle.ap_translate.proofs.Chains.{arms_last}
 use Rattle.ap_translate.proofs.Makings.{size_if}
 use Rattle.ap_translate.proofs.Fails.{then_fails, fails_then, fails_capped, same_fails}

@@ -1,5 +1,5 @@
 -- Counts of nodes as far as they are at most 4,096, and the instance that they are counts of.
-use Rattle.std.proofs.Common.{◌≡◌, ℕ, ◌+◌, ◌<◌, ◌≤◌, Bool, true, false, cond, nat_le, List, [], ◌∷◌, ◌++◌, map, zip, length, Option, Some, None, unwrap_or, refl, sym, ap, ◌∙◌, length-append, arith}
+use Rattle.std.proofs.Common.{◌≡◌, ℕ, ◌+◌, ◌<◌, ◌≤◌, Bool, true, false, cond, List, [], ◌∷◌, ◌++◌, map, zip, length, Option, Some, None, unwrap_or, refl, sym, ap, ◌∙◌, length-append, arith}
 use Rattle.std.proofs.lemmas.Bool.Decides.{nat_tests}
 use Rattle.ap_list.specs.Lists.{lookup_by}
 use Rattle.ap_value.specs.declared.symbol.Symbol.{Symbol}
@@ -7,11 +7,11 @@ use Rattle.ap_value.specs.declared.value.Value.{Value}
 use Rattle.ap_value.specs.Values.{symbol_eq}
 use Rattle.ap_value.specs.Counts.{node_count}
 use Rattle.ap_term.specs.declared.term.Term.{Term, Var, Quote, Call}
-use Rattle.ap_term.specs.Terms.{term_size, subst_step, subst_of, size_step}
+use Rattle.ap_term.specs.Terms.{term_size, subst_of, size_step}
 use Rattle.ap_term.proofs.Induction.{fold_var, fold_quote, fold_call}
 use Rattle.ap_value.proofs.Equals.{symbol_eq-true}
 use Rattle.ap_world.proofs.Written.{subst_var, subst_quote, subst_call}
-use Rattle.ap_translate.specs.Instances.{Kept, nodes_found, sum_two, sum_known, nodes_step, nodes_of, at_most, more_than, replaced_by, kept_pair, known_pairs, kept_instance, in_turn_by, kept_in_turn, kept_by}
+use Rattle.ap_translate.specs.Instances.{Kept, nodes_found, sum_two, sum_known, nodes_step, nodes_of, more_than, replaced_by, kept_pair, known_pairs, kept_instance, in_turn_by, kept_in_turn, kept_by}
 
 -- so many more are counted where they are at most 4,096
 pub counted_low : (n m : ℕ) → n + m ≤ 4096 → Some (n + m) ≡ more_than n (Some m)

@@ -2,7 +2,6 @@
 use Rattle.std.proofs.Common.{◌≡◌, ℕ, List, Option, Result, Ok, Err, IsErrAnd, sym, ap, ◌∙◌, subst}
 use Rattle.ap_value.specs.declared.symbol.Symbol.{Symbol}
 use Rattle.ap_term.specs.declared.term.Term.{Term}
-use Rattle.ap_translate.specs.declared.fault.TransKind.{TransKind}
 use Rattle.ap_translate.specs.declared.fault.TransKind.TheVariants as kinds
 use Rattle.ap_translate.specs.declared.fault.TransError.{TransError}
 use Rattle.ap_translate.specs.declared.fault.TransError.TheVariants as errors

@@ -1,7 +1,7 @@
 -- A term with its variables replaced has no fewer nodes, and what is kept of it is what the program makes.
 use Rattle.std.proofs.Common.{◌≡◌, ℕ, ◌+◌, ◌<◌, ◌≤◌, Bool, true, false, cond, nat_le, List, [], ◌∷◌, map, zip, length, Option, Some, None, option_map, unwrap_or, refl, sym, ap, ◌∙◌, subst, arith}
 use Rattle.std.proofs.lemmas.Bool.Decides.{nat_tests}
-use Rattle.ap_list.specs.Lists.{Each, sum_of, lookup_by}
+use Rattle.ap_list.specs.Lists.{Each, lookup_by}
 use Rattle.ap_value.specs.declared.symbol.Symbol.{Symbol}
 use Rattle.ap_value.specs.declared.value.Value.{Value, out-Value, roll-Value, roll-out-Value, fold-roll-Value}
 use Rattle.ap_value.specs.declared.value.Value.TheOpen.{Value-F}

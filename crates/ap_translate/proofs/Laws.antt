@@ -1,6 +1,6 @@
 -- What the terms of forms have in common: a property of terms that each line of the table keeps holds of
 -- each term that a form is.
-use Rattle.std.proofs.Common.{◌≡◌, ℕ, zero, suc, Bool, true, false, cond, ◌≤◌, nat_eq, nat_le, ℤ, List, [], ◌∷◌, ◌++◌, map, zip, length, Option, Some, None, IfSome, option_map, Ok, Err, unwrap_or, refl, sym, ap, ◌∙◌, subst, append_assoc, arith}
+use Rattle.std.proofs.Common.{◌≡◌, ℕ, zero, suc, Bool, true, false, cond, ◌≤◌, nat_eq, nat_le, List, [], ◌∷◌, ◌++◌, map, zip, length, Option, Some, None, IfSome, option_map, Ok, Err, unwrap_or, refl, sym, ap, ◌∙◌, subst, append_assoc, arith}
 use Rattle.std.proofs.lemmas.Bool.Decides.{nat_tests}
 use Rattle.std.proofs.lemmas.List.{append-nil}
 use Rattle.std.proofs.Math.ListN.{length-map}
@@ -28,18 +28,17 @@ use Rattle.ap_world.proofs.Written.{subst_var, subst_quote, subst_call}
 use Rattle.ap_translate.specs.declared.build.Maker.{Maker}
 use Rattle.ap_translate.specs.declared.build.Maker.TheVariants as makers
 use Rattle.ap_translate.specs.declared.build.Piece.{Piece}
-use Rattle.ap_translate.specs.declared.fault.TransKind.{TransKind}
 use Rattle.ap_translate.specs.declared.fault.TransKind.TheVariants as kinds
 use Rattle.ap_translate.specs.declared.macros.Macro.{Macro}
 use Rattle.ap_translate.specs.declared.macros.Macro.TheVariants as m
-use Rattle.ap_translate.specs.Answers.{Refusal, Answer, refused, ◌>>=◌, shaped, each}
+use Rattle.ap_translate.specs.Answers.{Answer, refused, ◌>>=◌, shaped, each}
 use Rattle.ap_translate.specs.Names.{is_constant, is_starred}
-use Rattle.ap_translate.specs.Parts.{Layer, layer_of, symbol_in}
+use Rattle.ap_translate.specs.Parts.{Layer, layer_of}
 use Rattle.ap_translate.specs.Quoted.{quote_name}
-use Rattle.ap_translate.specs.Rows.{nil_term, t_term, integer_term, call_1, call_2, if_term, and_term, or_term, chained, joined, summed, built_few, built, turn_name, accessed, only, plus_literal, accessed_one, made, admits, piece_term, pieced, instances}
+use Rattle.ap_translate.specs.Rows.{nil_term, t_term, integer_term, call_1, call_2, if_term, and_term, or_term, chained, joined, summed, built_few, built, accessed, only, made, pieced, instances}
 use Rattle.ap_translate.specs.Shapes.{Arm, alone, pair, otherwise, arm_in, Bind, binding_in, Scope}
 use Rattle.ap_translate.specs.Plans.{Plan, empty, quotation, build, arms, bind, apply, arity_of, arity_in, plan_in}
-use Rattle.ap_translate.specs.Table.{Bound, with_bound, Readers, constant_term, variable_term, symbol_term, variable, variables, bindings, scope_of, body_of, let_term, lambda_term, arm_term, arms_term, quoted_term, plan_term, term_layer, part_layer, piece_layer, readers, term_in, level}
+use Rattle.ap_translate.specs.Table.{Bound, with_bound, Readers, constant_term, variable_term, symbol_term, variable, variables, bindings, scope_of, body_of, let_term, lambda_term, arm_term, arms_term, quoted_term, plan_term, term_layer, part_layer, piece_layer, readers, term_in}
 use Rattle.ap_translate.specs.Sizes.{small, capped}
 use Rattle.ap_translate.specs.Laws.{HasMacroFunctions}
 use Rattle.ap_translate.proofs.Makings.{each_length}

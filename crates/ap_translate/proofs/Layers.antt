@@ -5,7 +5,7 @@ use Rattle.ap_reader.specs.declared.form.Body.TheOpen.{Body-F}
 use Rattle.ap_world.specs.declared.entry.Entry.{Entry}
 use Rattle.ap_translate.specs.declared.fault.TransKind.TheVariants as kinds
 use Rattle.ap_translate.specs.Answers.{Answer, refused, ◌>>=◌, shaped, each}
-use Rattle.ap_translate.specs.Parts.{Layer, layer_of}
+use Rattle.ap_translate.specs.Parts.{layer_of}
 use Rattle.ap_translate.specs.Quoted.{constant_in}
 use Rattle.ap_translate.specs.Rows.{pieced}
 use Rattle.ap_translate.specs.Kept.{quote_pieced}

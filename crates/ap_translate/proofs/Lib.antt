@@ -1,4 +1,5 @@
 pub mod Clauses
+pub mod Agreeing
 pub mod Bindings
 pub mod Chains
 pub mod Constants

@@ -1,12 +1,12 @@
 -- What is made of terms has no fewer nodes than these, so that what has too many is found early.
-use Rattle.std.proofs.Common.{◌≡◌, ℕ, ◌+◌, ◌<◌, ◌≤◌, Bool, true, false, cond, nat_le, nat_eq, ℤ, pos, negsuc, List, [], ◌∷◌, length, map, Option, Some, None, Ok, Err, IfSome, suc, refl, sym, ap, ◌∙◌, subst, arith}
+use Rattle.std.proofs.Common.{◌≡◌, ℕ, ◌+◌, ◌≤◌, Bool, true, false, cond, nat_le, nat_eq, ℤ, pos, negsuc, List, [], ◌∷◌, length, Option, Some, None, Ok, Err, IfSome, suc, refl, sym, ap, ◌∙◌, arith}
 use Rattle.std.proofs.lemmas.Bool.Decides.{nat_tests}
 use Rattle.ap_value.specs.declared.symbol.Symbol.{Symbol}
 use Rattle.ap_value.specs.declared.value.Value.TheVariants.{Sym}
-use Rattle.ap_term.specs.declared.term.Term.{Term, Quote, Call}
+use Rattle.ap_term.specs.declared.term.Term.{Term, Quote}
 use Rattle.ap_term.specs.Terms.{term_size}
 use Rattle.ap_reader.specs.declared.form.Form.{Form}
-use Rattle.ap_world.specs.Names.{if_name, equal_name, cons_name, car_name, cdr_name, plus_name, times_name, minus_name, less_name, not_name, append_name}
+use Rattle.ap_world.specs.Names.{if_name, equal_name, cons_name, plus_name, times_name, minus_name, less_name, not_name, append_name}
 use Rattle.ap_translate.specs.declared.build.Maker.{Maker}
 use Rattle.ap_translate.specs.declared.build.Maker.TheVariants as makers
 use Rattle.ap_translate.specs.declared.build.Piece.{Piece}
@@ -14,11 +14,11 @@ use Rattle.ap_translate.specs.declared.macros.Macro.{Macro}
 use Rattle.ap_translate.specs.declared.macros.Macro.TheVariants as m
 use Rattle.ap_translate.specs.Answers.{Answer, ◌>>=◌, each}
 use Rattle.ap_translate.specs.Quoted.{quote_name}
-use Rattle.ap_translate.specs.Rows.{nil_term, t_term, integer_term, call_1, call_2, if_term, and_term, or_term, chained, joined, summed, built_few, built, turn_name, accessed, only, plus_literal, accessed_one, made, admits, piece_term, pieced}
-use Rattle.ap_translate.specs.Sizes.{small_by, total, few_by, few, small, capped}
+use Rattle.ap_translate.specs.Rows.{nil_term, t_term, integer_term, call_1, call_2, if_term, and_term, or_term, chained, joined, summed, built_few, built, turn_name, accessed, made, admits, pieced}
+use Rattle.ap_translate.specs.Sizes.{total, few_by, few, small, capped}
 use Rattle.ap_translate.specs.Kept.{kept_made, piece_size, few_pieces, small_piece, kept_pieced, quote_pieced, kept_quoted, as_piece}
 use Rattle.ap_translate.proofs.Kept.{past}
-use Rattle.ap_translate.proofs.Smalls.{small_none, small_some}
+use Rattle.ap_translate.proofs.Smalls.{small_none}
 use Rattle.ap_translate.proofs.Grown.{size_call}
 
 pub size_1 : (f : Symbol) (a : Term) → term_size (call_1 f a) ≡ term_size a + 1

@@ -1,5 +1,5 @@
 -- What a list asks for can be made: the shapes are looked at first.
-use Rattle.std.proofs.Common.{◌≡◌, ℕ, ℤ, Bool, true, false, cond, nat_eq, List, [], ◌∷◌, length, Option, Some, None, Ok, Err, refl, sym, ap, ◌∙◌, subst, arith}
+use Rattle.std.proofs.Common.{◌≡◌, ℕ, ℤ, Bool, true, false, cond, nat_eq, List, [], ◌∷◌, length, Option, Some, None, Ok, refl, ap, ◌∙◌, subst, arith}
 use Rattle.std.proofs.lemmas.Bool.Decides.{nat_tests}
 use Rattle.ap_value.specs.declared.symbol.Symbol.{Symbol}
 use Rattle.ap_reader.specs.declared.form.Form.{Form}
@@ -16,7 +16,7 @@ use Rattle.ap_translate.specs.Macros.{macro_of, path_of, fits}
 use Rattle.ap_translate.specs.Shapes.{are_arms, Scope, let_in, lambda_in, less_literal}
 use Rattle.ap_translate.specs.Rows.{admits}
 use Rattle.ap_translate.specs.Kept.{Admitted}
-use Rattle.ap_translate.specs.Plans.{Plan, empty, quotation, build, arms, bind, apply, quote_plan, cond_plan, plain_plan, minus_plan, macro_plan, access_plan, arity_in, call_plan, named_by, lambda_plan, headed_plan, plan_in}
+use Rattle.ap_translate.specs.Plans.{Plan, empty, quotation, build, arms, bind, apply, quote_plan, plain_plan, minus_plan, macro_plan, access_plan, arity_in, call_plan, named_by, lambda_plan, headed_plan, plan_in}
 
 -- so many terms, as many actuals as variables, and a function with as many formals
 abbrev pub Made : List Entry → Maker → ℕ → Type 0

@@ -1,5 +1,5 @@
 -- Which variables a term speaks of: one line for a variable, a constant and a call, and instances.
-use Rattle.std.proofs.Common.{◌≡◌, Bool, true, false, cond, ◌&&◌, ◌||◌, List, [], ◌∷◌, ◌++◌, map, Option, Some, None, unwrap_or, refl, sym, ap, ◌∙◌}
+use Rattle.std.proofs.Common.{◌≡◌, Bool, true, false, cond, ◌&&◌, ◌||◌, List, [], ◌∷◌, ◌++◌, map, Some, unwrap_or, refl, sym, ap, ◌∙◌}
 use Rattle.ap_list.specs.Lists.{Each, all_true, is_among, is_within, in_turn, lookup_by}
 use Rattle.ap_value.specs.declared.symbol.Symbol.{Symbol}
 use Rattle.ap_value.specs.declared.value.Value.{Value}

@@ -1,5 +1,5 @@
 -- A term with its variables replaced by what was kept of their terms, as far as it has at most 4,096 nodes.
-use Rattle.std.specs.Prelude.{ℕ, ◌+◌, Bool, true, false, cond, nat_le, List, [], ◌∷◌, map, Option, Some, None, option_map, unwrap_or}
+use Rattle.std.specs.Prelude.{ℕ, ◌+◌, Bool, true, false, cond, nat_le, List, [], ◌∷◌, map, Option, Some, None, unwrap_or}
 use Rattle.ap_list.specs.Lists.{lookup_by}
 use Rattle.ap_value.specs.declared.symbol.Symbol.{Symbol}
 use Rattle.ap_value.specs.Counts.{node_count}

@@ -5,7 +5,7 @@ use Rattle.ap_value.specs.declared.symbol.Symbol.{Symbol}
 use Rattle.ap_value.specs.declared.value.Value.{Value}
 use Rattle.ap_value.specs.declared.value.Value.TheVariants.{Int, Chr, Str, Sym}
 use Rattle.ap_value.specs.Values.{symbol_eq}
-use Rattle.ap_term.specs.declared.term.Term.{Term, Var, Quote, Call}
+use Rattle.ap_term.specs.declared.term.Term.{Term, Var, Quote}
 use Rattle.ap_term.specs.Terms.{term_size, subst_of}
 use Rattle.ap_reader.specs.declared.form.Form.{Form}
 use Rattle.ap_reader.specs.declared.form.Body.TheOpen.{Body-F}

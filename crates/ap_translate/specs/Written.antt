@@ -1,5 +1,5 @@
 -- A constant as `defconst` takes it: a form that is a constant by itself, or a quoted form.
-use Rattle.std.specs.Prelude.{ℕ, cond, nat_le, List, [], ◌∷◌, Option, Some, None, Result, Ok, Err, codes}
+use Rattle.std.specs.Prelude.{ℕ, cond, nat_le, [], ◌∷◌, Option, Some, None, Result, Ok, Err, codes}
 use Rattle.ap_value.specs.declared.value.Value.{Value}
 use Rattle.ap_value.specs.declared.value.Value.TheVariants.{Int, Chr, Str, Sym}
 use Rattle.ap_value.specs.Counts.{node_count}

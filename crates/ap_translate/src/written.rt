@@ -1,6 +1,7 @@
-ghost use Rattle.std.specs.Prelude.{◌≡◌, IfOk, option_map};
+ghost use Rattle.std.specs.Prelude.{◌≡◌, IfOk, IfSome, option_map};
 ghost use Rattle.ap_reader.specs.declared.form.Body.TheOpen.{Body-F};
 ghost use Rattle.ap_translate.specs.Answers.{Gives};
+ghost use Rattle.ap_translate.specs.Laws.{IsConstant};
 ghost use Rattle.ap_translate.specs.Sizes.{small_value};
 ghost use Rattle.ap_translate.specs.Written.{quoted_at, quoted_in, literal_in, kept_within, written};
 
@@ -78,20 +79,29 @@ fn within(place: usize, value: Option<Value>) -> Result<Option<Value>, TransErro
     }
 }
 
+/// The value of a form that is a constant by itself or is quoted.
+#[tactic(auto, using(crate::proofs::Writing::writings))]
+fn value_of(alloc: Global, form: &Form) -> Result<Option<Value>, TransError>
+    ensures { Gives result (written form.now) }
+{
+    if let Some(inner) = quoted_in(form) {
+        let value = constant(alloc, MOST_NESTED - 1, inner)?;
+        return within(form.place, value);
+    }
+    match literal(alloc, form)? {
+        Some(value) => within(form.place, value),
+        None => Ok(None),
+    }
+}
+
 /// The value of a form that is a constant by itself (an integer, a character, a string, a keyword, `t`,
 /// `nil`, `()`) or is quoted (`'x`, `(quote x)`): what `defconst` takes. `None` exactly where the form is
 /// neither. What stands in the quote is refused as in a term, with its place, and so is a constant of more
-/// than 4,096 nodes, as `TermTooLarge`.
-#[tactic(auto, using(crate::proofs::Writing::writings))]
+/// than 4,096 nodes, as `TermTooLarge`. `NoMemory` where memory is wanting. The form's term is the constant
+/// of that value.
 pub fn constant_value(alloc: Global, f: &Form) -> Result<Option<Value>, TransError>
-    ensures { Gives result (written f.now) }
+    ensures made { Gives result (written f.now) }
+    ensures term { IfOk result (λ o. IfSome o (IsConstant f.now)) }
 {
-    if let Some(inner) = quoted_in(f) {
-        let value = constant(alloc, MOST_NESTED - 1, inner)?;
-        return within(f.place, value);
-    }
-    match literal(alloc, f)? {
-        Some(value) => within(f.place, value),
-        None => Ok(None),
-    }
+    value_of(alloc, f)
 }

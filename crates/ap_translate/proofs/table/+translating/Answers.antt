@@ -1,4 +1,4 @@
-use Rattle.std.proofs.Common.{◌≡◌, ◌+◌, ◌++◌, ◌∷◌, [], List, Option, Some, Ok, IfSome, drop, length, true, sym, ap, ◌∙◌, subst, arith, rules}
+use Rattle.std.proofs.Common.{◌∷◌, [], List, Some, Ok, true, sym, ap, ◌∙◌, subst, arith, rules}
 use Rattle.ap_term.specs.Terms.{term_size}
 use Rattle.ap_reader.specs.declared.form.Form.{Form}
 use Rattle.ap_reader.specs.declared.form.Body.{out-Body}
@@ -8,12 +8,11 @@ use Rattle.ap_value.specs.declared.symbol.Symbol.{Symbol}
 use Rattle.ap_reader.specs.declared.form.Body.TheVariants.{outs-List, outs-Quoted, outs-Quasi, outs-Comma, outs-CommaAt}
 use Rattle.ap_translate.specs.Answers.{Answer, ◌>>=◌, each}
 use Rattle.ap_translate.specs.Rows.{pieced}
-use Rattle.ap_translate.specs.Quoted.{constant_in}
 use Rattle.ap_translate.specs.Shapes.{arm_seen, bind_seen, scope_seen}
 use Rattle.ap_translate.specs.Sizes.{small, few, capped, row_terms}
-use Rattle.ap_translate.specs.Kept.{piece_size, small_piece, few_pieces, list_pieces, arm_size, list_arms, AreArms, kept_bindings, each_small, kept_pieced, quote_pieced, Admitted}
-use Rattle.ap_translate.specs.Plans.{planned, plan_in}
-use Rattle.ap_translate.specs.Table.{with_bound, scope_of, variable, bindings, quoted_term, arms_term, plan_term, level, term_in, part_in, piece_in}
+use Rattle.ap_translate.specs.Kept.{piece_size, small_piece, few_pieces, list_pieces, list_arms, kept_bindings, each_small, quote_pieced, Admitted}
+use Rattle.ap_translate.specs.Plans.{planned}
+use Rattle.ap_translate.specs.Table.{with_bound, scope_of, variable, bindings, arms_term, plan_term, level, term_in, part_in, piece_in}
 use Rattle.ap_translate.proofs.Bindings.{small_next, bound_next, wider_scope, named_length, small_length, lambda_made, let_made}
 use Rattle.ap_translate.proofs.Clauses.{arm_next, arm_fails, last_next, last_is}
 use Rattle.ap_translate.proofs.Constants.{at_form}
@@ -22,7 +21,6 @@ use Rattle.ap_translate.proofs.Kept.{next}
 use Rattle.ap_translate.proofs.Layers.{term_list, term_quoted, term_quasi, part_list, part_quoted, part_comma, piece_splice, term_list_none, term_quoted_none, term_quasi_none, part_list_none, part_quoted_none, part_comma_none, piece_splice_none}
 use Rattle.ap_translate.proofs.Makings.{plan_built, enough, list_pieced, one_pieced, piece_kept}
 use Rattle.ap_translate.proofs.Planning.{admitted, sensible}
-use Rattle.ap_translate.proofs.Smalls.{quoted_made, quoted_fails}
 use Rattle.ap_translate.proofs.table.+translating.Goals as goal
 
 pub term-returns-in_err-left-in-List : goal.term-returns-in_err-left-in-List

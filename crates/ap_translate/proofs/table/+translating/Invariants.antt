@@ -1,4 +1,4 @@
-use Rattle.std.proofs.Common.{◌≡◌, ◌+◌, ◌*◌, [], drop, length, IfSome}
+use Rattle.std.proofs.Common.{◌≡◌, ◌+◌, ◌*◌, [], drop, IfSome}
 use Rattle.ap_term.specs.Terms.{term_size}
 use Rattle.ap_translate.specs.Answers.{each}
 use Rattle.ap_translate.specs.Sizes.{small, few, capped, row_terms, IsCounted}
