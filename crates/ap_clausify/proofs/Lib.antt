@@ -3,3 +3,4 @@ pub mod Framed
 pub mod Implied
 pub mod FalseFacts
 pub mod Placed
+pub mod SplitStands

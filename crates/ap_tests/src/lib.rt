@@ -35,6 +35,8 @@ mod values;
 #[cfg(test)]
 mod walks;
 #[cfg(test)]
+mod waterfall;
+#[cfg(test)]
 mod worlds;
 #[cfg(test)]
 mod written;

@@ -200,7 +200,8 @@ y => 1 at 0
 (let ((z 1)) (let ((w z)) (cons w x))) => (CONS '1 X)"#;
 
 /// The same of large terms; `small`: it has a term of exactly 4,096 nodes.
-const LARGE: &str = r#"(let* ((a (cons x x)) (b (cons a a)) (c (cons b b)) (d (cons c c)) (e (cons d d)) (f (cons e e)) (g (cons f f)) (h (cons g g)) (i (cons h h)) (j (cons i i)) (k (cons j j))) (car k)) => small
+const LARGE: &str =
+    r#"(let* ((a (cons x x)) (b (cons a a)) (c (cons b b)) (d (cons c c)) (e (cons d d)) (f (cons e e)) (g (cons f f)) (h (cons g g)) (i (cons h h)) (j (cons i i)) (k (cons j j))) (car k)) => small
 (let* ((a (cons x x)) (b (cons a a)) (c (cons b b)) (d (cons c c)) (e (cons d d)) (f (cons e e)) (g (cons f f)) (h (cons g g)) (i (cons h h)) (j (cons i i)) (k (cons j j))) (car (cdr k))) => 5 at 0
 (let* ((a (cons x x)) (b (cons a a)) (c (cons b b)) (d (cons c c)) (e (cons d d)) (f (cons e e)) (g (cons f f)) (h (cons g g)) (i (cons h h)) (j (cons i i)) (k (cons j j))) (cons k (foo))) => 1 at 181
 (let* ((a (cons x x)) (b (cons a a)) (c (cons b b)) (d (cons c c)) (e (cons d d)) (f (cons e e)) (g (cons f f)) (h (cons g g)) (i (cons h h)) (j (cons i i)) (k (cons j j))) (let ((z (cons k k))) x)) => X
@@ -479,8 +480,17 @@ fn nodes_of_text(alloc: Global, text: &[u8]) -> Result<Option<u64>, Fail> {
 #[test]
 fn the_deepest_forms_of_a_text_are_terms(rt: HostRuntime) -> Result<(), Fail> {
     let alloc = rt.alloc();
-    assert_eq!(rt; nodes_of_text(alloc, nested(alloc, "(list ", "x")?.as_slice())?, Some(801));
-    assert_eq!(rt; nodes_of_text(alloc, nested(alloc, "(let nil ", "x")?.as_slice())?, Some(1));
-    assert_eq!(rt; nodes_of_text(alloc, nested(alloc, "(let* nil ", "x")?.as_slice())?, Some(1));
+    assert_eq!(rt;
+        nodes_of_text(alloc, nested(alloc, "(list ", "x")?.as_slice())?,
+        Some(801)
+    );
+    assert_eq!(rt;
+        nodes_of_text(alloc, nested(alloc, "(let nil ", "x")?.as_slice())?,
+        Some(1)
+    );
+    assert_eq!(rt;
+        nodes_of_text(alloc, nested(alloc, "(let* nil ", "x")?.as_slice())?,
+        Some(1)
+    );
     Ok(())
 }

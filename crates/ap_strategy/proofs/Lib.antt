@@ -1,0 +1,5 @@
+pub mod Rooted
+pub mod Equations
+pub mod Closing
+pub mod Places
+pub mod Counted

@@ -1,0 +1,64 @@
+-- The tasks of the waterfall, as contracts see them.
+use Rattle.std.specs.Prelude.{◌≡◌, ◌≤◌, ℕ, Bool, true, false, IsTrue, IfSome, [], length, Option, None}
+use Rattle.ap_list.specs.Lists.{Each}
+use Rattle.ap_term.specs.declared.term.Term.{Term}
+use Rattle.ap_term.specs.declared.term.Clause.{Clause}
+use Rattle.ap_world.specs.Clauses.{flat}
+use Rattle.ap_world.specs.Meaning.{Defs}
+use Rattle.ap_world.specs.Sound.{known, HasFunctions}
+use Rattle.ap_world.specs.World.{function_of}
+use Rattle.ap_names.specs.Names.{Name, root, is_pushed, pushed_of}
+use Rattle.ap_kernel.specs.Reductions.{KnownClause}
+use Rattle.ap_strategy.specs.declared.plan.Plan.{Plan}
+use Rattle.ap_strategy.specs.declared.plan.Settings.{Settings}
+
+-- a goal: the plan that it is worked by, its name and clause, how many clauses stand above it, whether a
+-- checkpoint does, what holds for it and all below, whether it is the induction of a pushed goal, and the
+-- call that this is by, where one is given
+pub record Goal : Type 0 where
+  pub plan : Plan
+  pub name : Name
+  pub clause : Clause
+  pub depth : ℕ
+  pub under : Bool
+  pub settings : Settings
+  pub induct : Bool
+  pub scheme : Option Term
+
+-- the functions of a plan's world
+abbrev pub defs_of : Plan → Defs
+defs_of plan = function_of plan.world.entries
+
+-- what each task keeps
+pub record IsGoal (g : Goal) : Type 0 where
+  pub few : length g.plan.world.entries ≤ 18446744073709551615
+  pub functions : HasFunctions (defs_of g.plan)
+  pub clause : KnownClause (defs_of g.plan) g.clause
+  pub expand : Each (λ u. IsTrue (known (defs_of g.plan) u)) g.settings.expand
+  pub scheme : IfSome g.scheme (λ u. IsTrue (known (defs_of g.plan) u))
+  pub depth : g.depth ≤ 250
+  pub primes : g.name.primes ≤ g.depth
+  pub induction : g.induct ≡ true → (is_pushed g.name ≡ true) × (g.depth ≡ 0)
+  pub others : g.induct ≡ false → is_pushed g.name ≡ false
+
+-- what holds where no hint says otherwise
+abbrev pub first_settings : Plan → Settings
+first_settings plan = record { theory = plan.world.theory; expand = []; skip = [] }
+
+-- the goal that the attempt on a term starts from
+abbrev pub root_goal : Plan → Term → Goal
+root_goal plan u = record {
+  plan = plan;
+  name = root;
+  clause = record { 0 = flat u };
+  depth = 0;
+  under = false;
+  settings = first_settings plan;
+  induct = false;
+  scheme = None;
+}
+
+-- the induction of a goal that was pushed as number k of its walk: it has the pushed goal's name, and new
+-- paths begin at it
+abbrev pub inducted : Goal → ℕ → Goal
+inducted g k = record g { name = pushed_of g.name k; depth = 0; under = false; induct = true }

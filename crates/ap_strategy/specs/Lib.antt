@@ -1,0 +1,5 @@
+pub mod Goals
+pub mod Steps
+pub mod Repeats
+pub mod Reduced
+pub mod Laws

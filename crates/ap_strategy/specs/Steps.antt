@@ -1,0 +1,138 @@
+-- The waterfall's step on a goal: it is simplified, or it is pushed, or the attempt stops at it.
+use Rattle.std.specs.Prelude.{ℕ, ◌+◌, ◌-◌, Bool, true, false, cond, ◌||◌, nat_le, nat_lt, List, [], ◌∷◌, ◌++◌, length, map, Option, Some, None}
+use Rattle.std.specs.Option.{option_map}
+use Rattle.ap_list.specs.Lists.{is_among, joined}
+use Rattle.ap_term.specs.declared.term.Term.{Term}
+use Rattle.ap_term.specs.declared.term.Clause.{Clause}
+use Rattle.ap_term.specs.Equal.{term_eq}
+use Rattle.ap_world.specs.Meaning.{Total, Valid}
+use Rattle.ap_world.specs.Recursion.{args_eq}
+use Rattle.ap_world.specs.Sound.{HasFunctions}
+use Rattle.ap_names.specs.Names.{Name, child_of, primed_of}
+use Rattle.ap_walk.specs.declared.act.Reason.{Reason}
+use Rattle.ap_walk.specs.declared.act.Process.{Process}
+use Rattle.ap_walk.specs.declared.act.Out.{Out}
+use Rattle.ap_walk.specs.declared.act.Stepped.{Stepped}
+use Rattle.ap_kernel.specs.declared.reductions.Reduction.{Reduction}
+use Rattle.ap_kernel.specs.Shapes.{Shape, equation, shape_of}
+use Rattle.ap_kernel.specs.Reductions.{KnownClause}
+use Rattle.ap_kernel.specs.Tidying.{tidied, holds_by_itself}
+use Rattle.ap_kernel.specs.Solving.{solved_made}
+use Rattle.ap_clausify.specs.Splitting.{split_of}
+use Rattle.ap_strategy.specs.Goals.{Goal, defs_of}
+
+-- (equal a a)
+abbrev pub is_reflexive : Shape Term → Bool
+is_reflexive (equation a b) = term_eq a b
+is_reflexive y = false
+
+abbrev pub any_reflexive : List Term → Bool
+any_reflexive [] = false
+any_reflexive (u ∷ us) = is_reflexive (shape_of u) || any_reflexive us
+
+-- a tidied clause that needs no proof: it holds by itself, or it has a literal (equal a a)
+abbrev pub is_closed : List Term → Bool
+is_closed us = holds_by_itself us || any_reflexive us
+
+abbrev pub tidied_clause : Clause → Clause
+tidied_clause c = record { 0 = tidied c.0 }
+
+-- a clause tidied, or none where it then needs no proof
+abbrev pub settled : Clause → List Clause
+settled c = cond (is_closed (tidied c.0)) [] (tidied_clause c ∷ [])
+
+-- what comes first, if there is one, else what comes later
+abbrev pub or_later : {A : Type 0} → Option A → Option A → Option A
+or_later (Some a) o = Some a
+or_later None o = o
+
+-- the first literal that solves a variable, counted from this number on: the variable is replaced in the others
+abbrev pub first_solved : Clause → ℕ → List Term → Option Reduction
+first_solved c i [] = None
+first_solved c i (u ∷ us) = or_later (solved_made c i) (first_solved c (i + 1) us)
+
+-- the clauses that were split off, settled
+abbrev pub settled_all : List Clause × ℕ → List Clause
+settled_all p = joined (map settled p.0)
+
+-- a tidied clause with a variable solved, else split; None where the steps ran out
+abbrev pub opened : ℕ → Clause → Option Reduction → Option (List Clause)
+opened steps c (Some r) = Some r.to
+opened steps c None = option_map settled_all (split_of steps c)
+
+-- what a clause is reduced to: to none where the tidied clause needs no proof
+abbrev pub reduced : ℕ → Clause → Option (List Clause)
+reduced steps c = cond (is_closed (tidied c.0)) (Some []) (opened steps (tidied_clause c) (first_solved (tidied_clause c) 0 (tidied c.0)))
+
+abbrev pub literals_of : Clause → List Term
+literals_of c = c.0
+
+abbrev pub is_repeated : List Clause → Clause → Bool
+is_repeated ds c = is_among args_eq c.0 (map literals_of ds)
+
+-- clauses behind others, without those that stand before
+abbrev pub unrepeated : List Clause → List Clause → List Clause
+unrepeated ds [] = ds
+unrepeated ds (c ∷ cs) = unrepeated (cond (is_repeated ds c) ds (ds ++ c ∷ [])) cs
+
+-- what simplification makes of a clause: later equal clauses are left out
+abbrev pub simplified : ℕ → Clause → Option (List Clause)
+simplified steps c = option_map (unrepeated []) (reduced steps c)
+
+-- the clause alone
+abbrev pub is_alone : Clause → List Clause → Bool
+is_alone c (d ∷ []) = args_eq c.0 d.0
+is_alone c ds = false
+
+-- several children are numbered from their count down to 1; an only child adds a prime
+abbrev pub counted_down : Name → List Clause → List (Name × Clause)
+counted_down name [] = []
+counted_down name (d ∷ ds) = (child_of name (length ds + 1), d) ∷ counted_down name ds
+
+abbrev pub named : Name → List Clause → List (Name × Clause)
+named name (d ∷ []) = (primed_of name, d) ∷ []
+named name ds = counted_down name ds
+
+abbrev pub child : Goal → Name × Clause → Goal
+child g p = record g { name = p.0; clause = p.1; depth = g.depth + 1 }
+
+abbrev pub children : Goal → List Clause → List Goal
+children g ds = map (child g) (named g.name ds)
+
+abbrev pub done : Process → Bool → Bool → Out Goal → Stepped Goal
+done process missed limited out = record { act = record { process = process; missed = missed; limited = limited }; out = out }
+
+-- simplification applies where what it makes isn't the clause alone; else it missed, and the goal is pushed
+abbrev pub simplify_step : Goal → Option (List Clause) → Stepped Goal
+simplify_step g None = done Process.Push true true Out.Push
+simplify_step g (Some ds) = cond (is_alone g.clause ds) (done Process.Push true false Out.Push) (done Process.Simplify false false (Out.Split (children g ds)))
+
+abbrev pub stop_step : Bool → Reason → Stepped Goal
+stop_step missed r = done Process.Stop missed false (Out.Stop r)
+
+-- the empty clause counts as left unchanged
+abbrev pub clause_step : Goal → List Term → Stepped Goal
+clause_step g [] = stop_step true Reason.EmptyClause
+clause_step g us = cond (nat_le 250 g.depth) (stop_step false Reason.PathDepth) (simplify_step g (simplified g.plan.step_limit g.clause))
+
+-- there is no induction yet
+abbrev pub induct_step : Goal → Stepped Goal
+induct_step g = stop_step false (cond (nat_lt 9 (length g.name.induction)) Reason.InductionDepth Reason.NoScheme)
+
+unfoldable pub step_of : Goal → Stepped Goal
+step_of g = cond g.induct (induct_step g) (clause_step g g.clause.0)
+
+-- the clauses that may still stand below
+abbrev pub depth_of : Goal → ℕ
+depth_of g = 250 - g.depth
+
+-- what a proof of a goal establishes: in its plan's world, the clause is valid
+abbrev pub IsGood : Goal → Type 0
+IsGood g = HasFunctions (defs_of g.plan) → Total (defs_of g.plan) → KnownClause (defs_of g.plan) g.clause → Valid (defs_of g.plan) g.clause.0
+
+-- as reductions of the kernel
+abbrev pub settled_made : Clause → Reduction
+settled_made c = record { from = c; to = settled c }
+
+abbrev pub reduced_to : Clause → List Clause → Reduction
+reduced_to c ds = record { from = c; to = ds }

@@ -1,0 +1,80 @@
+ghost use Rattle.std.specs.Prelude.{◌≡◌, IfOk, IsTrue};
+ghost use Rattle.ap_world.specs.Sound.{known, HasFunctions};
+ghost use Rattle.ap_strategy.specs.Goals.{defs_of, root_goal};
+
+use crate::plan::Plan;
+use crate::stepping::step_of;
+use crate::task::{Task, copy_task, root_task, same_task};
+use ap_list::NoMemory;
+use ap_names::GoalName;
+use ap_term::Term;
+use ap_walk::{Step, Stepped};
+use std::alloc::Global;
+
+/// The waterfall of one plan.
+#[derive(Drop)]
+pub struct Acl2Step<'a> {
+    plan: &'a Plan,
+}
+
+impl<'a> Acl2Step<'a> {
+    /// The waterfall of a plan. Takes no memory.
+    pub fn new(plan: &'a Plan) -> Acl2Step<'a>
+        ensures { result.plan.now ≡ plan.now }
+    {
+        Acl2Step { plan }
+    }
+
+    /// The plan. Takes no memory.
+    pub fn plan(&self) -> &'a Plan
+        ensures { result.now ≡ self.now.plan.now }
+    {
+        self.plan
+    }
+
+    /// The task that the attempt on a term starts from. The only error is want of memory.
+    pub fn root(&self, alloc: Global, term: &Term) -> Result<Task<'a>, NoMemory>
+        requires functions { HasFunctions (defs_of self.now.plan.now) }
+        requires term { IsTrue (known (defs_of self.now.plan.now) term.now) }
+        ensures { IfOk result (λ t. t ≡ root_goal self.now.plan.now term.now) }
+    {
+        root_task(alloc, self.plan, term)
+    }
+}
+
+impl<'a> Step for Acl2Step<'a> {
+    ghost use Rattle.ap_strategy.specs.Steps.{step_of, depth_of, IsGood};
+    ghost use Rattle.ap_strategy.specs.Laws as laws;
+
+    type Task = Task<'a>;
+
+    ghost step_of = { step_of };
+
+    ghost good = { IsGood };
+
+    ghost name = { λ g. g.name };
+
+    ghost depth = { depth_of };
+
+    ghost tells = { laws.tells };
+
+    ghost deeper = { laws.deeper };
+
+    ghost whole = { laws.whole };
+
+    fn step(&self, alloc: Global, task: &Task<'a>) -> Result<Stepped<Task<'a>>, NoMemory> {
+        step_of(alloc, task)
+    }
+
+    fn copy_task(&self, alloc: Global, task: &Task<'a>) -> Result<Task<'a>, NoMemory> {
+        copy_task(alloc, task)
+    }
+
+    fn same_task(&self, a: &Task<'a>, b: &Task<'a>) -> bool {
+        same_task(a, b)
+    }
+
+    fn name_of(&self, alloc: Global, task: &Task<'a>) -> Result<GoalName, NoMemory> {
+        task.name.copy(alloc)
+    }
+}

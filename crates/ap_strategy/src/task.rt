@@ -1,0 +1,176 @@
+ghost use Rattle.std.specs.Prelude.{◌≡◌, ◌≤◌, ◌↔◌, IfOk, IsTrue};
+ghost use Rattle.ap_world.specs.Sound.{known, HasFunctions};
+ghost use Rattle.ap_names.specs.Names.{root};
+ghost use Rattle.ap_strategy.specs.Goals.{IsGoal, defs_of, root_goal, inducted};
+
+use crate::clauses::same_terms;
+use crate::plan::{Plan, Settings, copy_settings, first_settings};
+use crate::same::{has_entry, same_plan, same_settings};
+use ap_clausify::flat;
+use ap_list::{NoMemory, Seq};
+use ap_names::{GoalName, same_name};
+use ap_term::{Clause, Term, copy_term, copy_terms, same_term};
+use std::alloc::{AllocError, Global};
+use std::marker::Model;
+
+/// A goal of the waterfall, with all that its step depends on: the plan that it is worked by; its name and
+/// its clause; how many clauses stand above it; whether a checkpoint does; what holds for it and all below;
+/// whether it is the induction of a pushed goal; and the call that it is by, where one is given.
+///
+/// Its type keeps what its step needs. The plan's world has the functions of the ground world, and each call
+/// in the task's terms is of a primitive or of a function of that world, with its number of arguments; the
+/// world has fewer than 2^64 entries, so that two tasks can be compared.
+/// `depth` is at most 250, and the name has no more primes than that. Where `induct` is true the name is a
+/// pushed goal's, and `depth` is 0; where it is false the name is none.
+#[derive(Drop)]
+pub struct Task<'a> {
+    pub plan: &'a Plan,
+    pub name: GoalName,
+    pub clause: Clause,
+    pub depth: u32,
+    pub under: bool,
+    pub settings: Settings,
+    pub induct: bool,
+    pub scheme: Option<Term>,
+}
+
+impl<'a> Model for Task<'a> {
+    ghost use Rattle.std.specs.Coded.{codes};
+    ghost use Rattle.ap_term.specs.contracts.term.Term as term;
+    ghost use Rattle.ap_value.specs.contracts.value.Value as value;
+    ghost use Rattle.ap_strategy.specs.Goals.{Goal, IsGoal};
+
+    ghost Value = { Goal };
+
+    ghost coded = { Prim.hlevel (codes, term.the_row.coded, value.the_row.coded) };
+
+    ghost view = { λ t. record { plan = t.plan.now; name = t.name; clause = t.clause; depth = t.depth; under = t.under; settings = t.settings; induct = t.induct; scheme = t.scheme } };
+
+    ghost invariant = { λ t. IsGoal (record { plan = t.plan.now; name = t.name; clause = t.clause; depth = t.depth; under = t.under; settings = t.settings; induct = t.induct; scheme = t.scheme }) };
+}
+
+impl<'a> Task<'a> {
+    /// What every task keeps, for a proof that sees a task as a whole. Costs nothing.
+    pub fn is_goal(&self)
+        ensures { IsGoal self.now }
+    {
+        let _ = &self.depth;
+    }
+}
+
+/// A copy of a term, where there is one.
+pub(crate) fn copy_scheme(alloc: Global, scheme: &Option<Term>) -> Result<Option<Term>, NoMemory>
+    ensures { IfOk result (λ s. s ≡ scheme.now) }
+{
+    match scheme {
+        Some(term) => Ok(Some(copy_term(alloc, term)?)),
+        None => Ok(None),
+    }
+}
+
+/// The name `Goal`.
+fn root_name(alloc: Global) -> GoalName
+    ensures { result ≡ root }
+{
+    GoalName {
+        induction: Seq::new(alloc),
+        case: None,
+        path: Seq::new(alloc),
+        primes: 0,
+    }
+}
+
+/// The task that the attempt on a term starts from: its name is `Goal`, and its clause the term's. The only
+/// error is want of memory, which a world of 2^64 entries or more is taken for.
+pub fn root_task<'a>(alloc: Global, plan: &'a Plan, term: &Term) -> Result<Task<'a>, NoMemory>
+    requires functions { HasFunctions (defs_of plan.now) }
+    requires term { IsTrue (known (defs_of plan.now) term.now) }
+    ensures { IfOk result (λ t. t ≡ root_goal plan.now term.now) }
+{
+    plan.world.is_sound();
+    if has_entry(&plan.world, usize::MAX) {
+        return Err(AllocError);
+    }
+    let name = root_name(alloc);
+    let clause = flat(alloc, term)?;
+    let settings = first_settings(alloc, plan)?;
+    Ok(Task {
+        plan,
+        name,
+        clause,
+        depth: 0,
+        under: false,
+        settings,
+        induct: false,
+        scheme: None,
+    })
+}
+
+/// A copy of a task. The plan isn't copied. The only error is want of memory.
+pub fn copy_task<'a>(alloc: Global, task: &Task<'a>) -> Result<Task<'a>, NoMemory>
+    ensures { IfOk result (λ t. t ≡ task.now) }
+{
+    let name = task.name.copy(alloc)?;
+    let clause = Clause(copy_terms(alloc, task.clause.0.as_slice())?);
+    let settings = copy_settings(alloc, &task.settings)?;
+    let scheme = copy_scheme(alloc, &task.scheme)?;
+    Ok(Task {
+        plan: task.plan,
+        name,
+        clause,
+        depth: task.depth,
+        under: task.under,
+        settings,
+        induct: task.induct,
+        scheme,
+    })
+}
+
+/// The induction of a task that its walk pushed as number `k`, from 1: the goal has the pushed goal's name,
+/// and new paths begin at it. The only error is want of memory.
+pub fn induct_task<'a>(alloc: Global, task: &Task<'a>, k: u32) -> Result<Task<'a>, NoMemory>
+    requires { 1 ≤ k }
+    ensures { IfOk result (λ t. t ≡ inducted task.now k) }
+{
+    let name = task.name.pushed(alloc, k)?;
+    let clause = Clause(copy_terms(alloc, task.clause.0.as_slice())?);
+    let settings = copy_settings(alloc, &task.settings)?;
+    let scheme = copy_scheme(alloc, &task.scheme)?;
+    Ok(Task {
+        plan: task.plan,
+        name,
+        clause,
+        depth: 0,
+        under: false,
+        settings,
+        induct: true,
+        scheme,
+    })
+}
+
+/// Whether two terms are one, or neither is there. Takes no memory.
+fn same_scheme(a: &Option<Term>, b: &Option<Term>) -> bool
+    ensures { IsTrue result ↔ (a.now ≡ b.now) }
+{
+    match (a, b) {
+        (None, None) => true,
+        (Some(a), Some(b)) => same_term(a, b),
+        _ => false,
+    }
+}
+
+/// Whether two tasks are one, in all that they hold, their plans' worlds too. Takes no memory.
+pub fn same_task(a: &Task<'_>, b: &Task<'_>) -> bool
+    ensures { IsTrue result ↔ (a.now ≡ b.now) }
+{
+    a.is_goal();
+    b.is_goal();
+    a.depth == b.depth
+        && a.under == b.under
+        && a.induct == b.induct
+        && same_name(&a.name, &b.name)
+        && same_terms(a.clause.0.as_slice(), b.clause.0.as_slice())
+        && same_scheme(&a.scheme, &b.scheme)
+        && same_settings(&a.settings, &b.settings)
+        && same_plan(a.plan, b.plan)
+}
