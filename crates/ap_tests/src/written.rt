@@ -7,6 +7,7 @@ ghost use Rattle.ap_world.specs.World.{function_of};
 ghost use Rattle.ap_kernel.specs.Standing.{HasGround, KnownFacts};
 
 use ap_ground::ground_world;
+use ap_ground::laws::ground_has_its_functions;
 use ap_list::{Boxed, Bytes, NoMemory, Seq};
 use ap_term::Term;
 use ap_value::{Symbol, Value, acl2};
@@ -93,7 +94,9 @@ pub(crate) fn term(alloc: Global, text: &[u8]) -> Result<Term, NoMemory> {
 pub(crate) fn first_world(alloc: Global) -> Result<World, NoMemory>
     ensures { IfOk result (λ w. HasGround (function_of w.entries)) }
 {
-    ground_world(alloc)
+    ground_has_its_functions();
+    let world = ground_world(alloc)?;
+    Ok(world)
 }
 
 /// The number of arguments of a primitive.
