@@ -1,9 +1,0 @@
-use Rattle.std.proofs.Common.{◌≡◌, drop, map}
-use Rattle.ap_list.specs.Lists.{all_true}
-use Rattle.ap_world.specs.Sound.{known}
-use Rattle.ap_world.specs.World.{function_of}
-use Rattle.ap_tests.proofs.written.+knowing.Given as goal
-
-abbrev pub invariant-are_known-loop-t : goal.invariant-are_known-loop-t
-invariant-are_known-loop-t l =
-    all_true (map (known (function_of l.w.entries)) (drop l.t-index l.ts)) ≡ all_true (map (known (function_of l.w.entries)) l.ts)
