@@ -24,6 +24,6 @@ pub use ap_term::Term;
 pub use ap_value::{Symbol, Value};
 pub use ap_world::World;
 pub use fault::{TransError, TransKind};
-pub use names::{may_name, may_name_constant};
+pub use names::{can_be_bound, may_name, may_name_constant};
 pub use translator::translate;
 pub use written::constant_value;

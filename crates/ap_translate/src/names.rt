@@ -66,7 +66,7 @@ pub(crate) fn is_among(symbol: &Symbol, list: &[Symbol]) -> bool
 }
 
 /// Whether a symbol may be a variable besides those that are bound already.
-pub(crate) fn can_be_bound(symbol: &Symbol, bound: &[Symbol]) -> bool
+pub fn can_be_bound(symbol: &Symbol, bound: &[Symbol]) -> bool
     ensures { result ≡ can_be_bound symbol.now bound.now }
 {
     !is_constant(symbol) && !is_starred(symbol.name.as_slice()) && !is_among(symbol, bound)

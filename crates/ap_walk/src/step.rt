@@ -13,7 +13,7 @@ use std::alloc::Global;
 /// it, whether it is good (for a clause: valid), its name and the depth that is left below it are
 /// meanings of the task alone.
 pub trait Step {
-    type Task: Drop + Send;
+    type Task: Drop;
 
     /// What comes of a task.
     ghost step_of: { Self.Task → Stepped Self.Task };
