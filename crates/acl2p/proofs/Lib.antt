@@ -1,5 +1,5 @@
-pub mod Constants
+pub mod Commanding
 pub mod Grammars
-pub mod Calls
-pub mod Proving
+pub mod Numbers
 pub mod Showing
+pub mod Starting

@@ -1,9 +1,4 @@
-pub mod Attempt
 pub mod Command
-pub mod Events
-pub mod Fragment
-pub mod Parts
+pub mod Package
 pub mod Session
-pub mod Shapes
-pub mod Symbols
 pub mod Texts

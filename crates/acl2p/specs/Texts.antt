@@ -1,14 +1,9 @@
--- The printed texts.
+-- The printed texts of a session and its books.
 use Rattle.std.specs.Prelude.{ℕ, Bool, true, false, List, [], ◌∷◌, ◌++◌, codes, decimal}
-use Rattle.ap_value.specs.declared.symbol.Symbol.{Symbol}
-use Rattle.ap_term.specs.Printed.{symbol_text}
 use Rattle.ap_reader.specs.declared.fault.ReadKind.{ReadKind}
 use Rattle.ap_reader.specs.declared.fault.ReadKind.TheVariants as faults
 use Rattle.ap_reader.specs.Faults.{ReadFault, number_of}
-
--- a text and the end of its line
-abbrev pub line : List ℕ → List ℕ
-line text = text ++ 10 ∷ []
+use Rattle.ap_events.specs.Texts.{line}
 
 unfoldable pub usage_text : List ℕ
 usage_text =
@@ -51,20 +46,3 @@ read_error_text e =
 -- a book that doesn't begin with (in-package "ACL2")
 unfoldable pub no_package_text : List ℕ
 no_package_text = line (codes "IN-PACKAGE refused 12 NoInPackage")
-
--- an event without a symbol at its head, one that isn't supported, and one that isn't of its head's shape
-unfoldable pub no_head_text : List ℕ
-no_head_text = line (codes "FORM refused 1 NotSupported")
-
-unfoldable pub not_supported_text : Symbol → List ℕ
-not_supported_text h = symbol_text h ++ line (codes " refused 1 NotSupported")
-
-unfoldable pub bad_event_text : Symbol → List ℕ
-bad_event_text h = symbol_text h ++ line (codes " refused 2 BadEvent")
-
--- a theorem that is proved, by the lines of its goals, and one whose name is taken
-unfoldable pub proved_text : Symbol → List ℕ → List ℕ
-proved_text n lines = codes "DEFTHM " ++ symbol_text n ++ line [] ++ lines ++ codes "DEFTHM " ++ symbol_text n ++ line (codes " proved")
-
-unfoldable pub taken_text : Symbol → List ℕ
-taken_text n = codes "DEFTHM " ++ symbol_text n ++ line [] ++ codes "DEFTHM " ++ symbol_text n ++ line (codes " refused 3 NameTaken")

@@ -5,17 +5,12 @@
 ghost use Rattle.std.specs.Prelude.{◌≡◌, ◌↔◌, IsSome, false};
 ghost use Rattle.acl2p.specs.Session.{is_done, number_of};
 
-mod attempt;
 mod certifier;
 mod command;
-mod events;
-mod fragment;
-mod parts;
+mod package;
 mod reading;
 mod report;
-mod shapes;
 mod start;
-mod symbols;
 #[cfg(test)]
 mod tests;
 mod texts;

@@ -26,7 +26,7 @@ const REFL: &[u8] = b"(in-package \"ACL2\")\n(defthm refl (equal x x) :rule-clas
 const CERTIFIED: &[u8] =
     b"Book refl\nDEFTHM REFL\nGoal simplify 0\nDEFTHM REFL proved\nBook refl certified\n";
 
-const ROWS: [Row; 16] = [
+const ROWS: [Row; 23] = [
     Row {
         words: &["refl"],
         book: Some(REFL),
@@ -45,8 +45,8 @@ const ROWS: [Row; 16] = [
         words: &["plain"],
         book: Some(b"(in-package \"ACL2\") (defun f (x) x)"),
         failing: NONE,
-        status: Status::NotCertified,
-        text: b"Book plain\nDEFUN refused 1 NotSupported\nBook plain not certified\n",
+        status: Status::Certified,
+        text: b"Book plain\nDEFUN F\nDEFUN F admitted\nBook plain certified\n",
     },
     Row {
         words: &["case"],
@@ -69,7 +69,7 @@ const ROWS: [Row; 16] = [
         book: Some(b"(in-package \"ACL2\")\n(defthm a (equal x y) :rule-classes nil)\n"),
         failing: NONE,
         status: Status::NotCertified,
-        text: b"Book a\nDEFTHM refused 1 NotSupported\nBook a not certified\n",
+        text: b"Book a\nDEFTHM A\nGoal push *1\n*1 noscheme\nCheckpoints before induction\nGoal: (EQUAL X Y)\nDEFTHM A refused 8.1 NoScheme\nBook a not certified\n",
     },
     Row {
         words: &["twice"],
@@ -118,6 +118,55 @@ const ROWS: [Row; 16] = [
         text: USAGE,
     },
     Row {
+        words: &["--goals", "1", "refl"],
+        book: Some(REFL),
+        failing: NONE,
+        status: Status::NotCertified,
+        text: b"Book refl\nDEFTHM REFL\nGoal simplify 0\nGoal limit\nDEFTHM REFL refused 8.3 GoalLimit\nBook refl not certified\n",
+    },
+    Row {
+        words: &["--goals", "2", "refl"],
+        book: Some(REFL),
+        failing: NONE,
+        status: Status::Certified,
+        text: CERTIFIED,
+    },
+    Row {
+        words: &["--goals", "100000", "refl"],
+        book: Some(REFL),
+        failing: NONE,
+        status: Status::Certified,
+        text: CERTIFIED,
+    },
+    Row {
+        words: &["--goals", "100001", "refl"],
+        book: Some(REFL),
+        failing: NONE,
+        status: Status::Usage,
+        text: USAGE,
+    },
+    Row {
+        words: &["--goals", "0", "refl"],
+        book: Some(REFL),
+        failing: NONE,
+        status: Status::Usage,
+        text: USAGE,
+    },
+    Row {
+        words: &["--goals", "02", "refl"],
+        book: Some(REFL),
+        failing: NONE,
+        status: Status::Usage,
+        text: USAGE,
+    },
+    Row {
+        words: &["--steps", "2", "refl"],
+        book: Some(REFL),
+        failing: NONE,
+        status: Status::Usage,
+        text: USAGE,
+    },
+    Row {
         words: &["--demo", "1"],
         book: Some(REFL),
         failing: NONE,
@@ -154,7 +203,7 @@ fn shows(rt: &impl Abort, alloc: Global, row: &Row, book: Option<&[u8]>) -> Resu
     for word in row.words {
         words.push(String::from_str(alloc, word)?)?;
     }
-    if let (Some(name), Some(book)) = (row.words.first(), book) {
+    if let (Some(name), Some(book)) = (row.words.last(), book) {
         let file = format!(in alloc; "{name}.lisp")?;
         files.push((
             Bytes::from_slice(alloc, file.as_bytes())?,
@@ -238,12 +287,73 @@ x:y => Read error 12 BadPackage at 20
 (defthm a (equal x x) :rule-classes :linear) => DEFTHM refused 1 NotSupported
 (defthm a (equal x x) :rule-classes (:rewrite :type-prescription)) => DEFTHM refused 1 NotSupported
 (defthm a (equal x x) :hints nil :rule-classes nil) => DEFTHM refused 1 NotSupported
-(defthm if (equal x (f x)) :rule-classes nil) => DEFTHM refused 1 NotSupported
-(defthm a (equal x x x) :rule-classes nil) => DEFTHM refused 1 NotSupported
-(defthm a (equal *c* *c*) :rule-classes nil) => DEFTHM refused 1 NotSupported
-(defthm a (equal `x `x) :rule-classes nil) => DEFTHM refused 1 NotSupported
-(defthm a (equal '(a ,b) '(a ,b)) :rule-classes nil) => DEFTHM refused 1 NotSupported
-(defthm a (if x y z) :rule-classes nil) => DEFTHM refused 1 NotSupported"##;
+(defun) => DEFUN refused 2 BadEvent
+(defun f (x)) => DEFUN refused 2 BadEvent
+(defun f x x) => DEFUN refused 2 BadEvent
+(defun f (3) 3) => DEFUN refused 2 BadEvent
+(defun *f* (x) x) => DEFUN refused 2 BadEvent
+(defun cond (x) x) => DEFUN refused 2 BadEvent
+(defun f (x) x :hints nil) => DEFUN refused 2 BadEvent
+(defun f (x) (declare (ignore x)) "doc" x) => DEFUN refused 2 BadEvent
+(defun f (x) (declare (ignore x)) (declare (ignore x)) 1) => DEFUN refused 2 BadEvent
+(defun f (x) (declare (optimize speed)) x) => DEFUN refused 2 BadEvent
+(defun f (x) (declare (xargs :guard t) (xargs :measure x)) x) => DEFUN refused 2 BadEvent
+(defun f (x) (declare (xargs :guard t :guard t)) x) => DEFUN refused 2 BadEvent
+(defun f (x) (declare (xargs :mode :logic)) x) => DEFUN refused 2 BadEvent
+(defun f (x) (declare (xargs :guard)) x) => DEFUN refused 2 BadEvent
+(defun f (x) (declare (xargs :verify-guards 3)) x) => DEFUN refused 2 BadEvent
+(defun f (x) (declare (xargs :hints nil)) x) => DEFUN refused 1 NotSupported
+(defun f (x) (if (consp x) (f (cdr x)) x)) => DEFUN refused 1 NotSupported
+(defun f (x) (declare (xargs :verify-guards t :guard (g x))) x) => DEFUN F / DEFUN F refused 11 GuardsAsked
+(defun car (x) x) => DEFUN CAR / DEFUN CAR refused 3 NameTaken
+(defun f (x x) x) => DEFUN F / DEFUN F refused 4.6 NotAVariable
+(defun f (t) (g t)) => DEFUN F / DEFUN F refused 4.6 NotAVariable
+(defun f (x *c*) x) => DEFUN F / DEFUN F refused 4.6 NotAVariable
+(defun f (x ()) x) => DEFUN F / DEFUN F refused 4.6 NotAVariable
+(defun f (x) y) => DEFUN F / DEFUN F refused 4.1 UnknownName
+(defun f (x) (declare)) => DEFUN F / DEFUN F refused 4.1 UnknownName
+(defun f (x) (declare (xargs :guard (car x x))) (g x)) => DEFUN F / DEFUN F refused 4.2 WrongArity
+(defun f (x) (declare (xargs :measure (car x x))) (let ((x)) x)) => DEFUN F / DEFUN F refused 4.3 BadForm
+(defun f (x) (declare (xargs :measure (lex x (car x x)))) x) => DEFUN F / DEFUN F refused 4.2 WrongArity
+(defun f (x) (car . x)) => DEFUN F / DEFUN F refused 4.4 DottedForm
+(defconst *c*) => DEFCONST refused 2 BadEvent
+(defconst c 3) => DEFCONST refused 2 BadEvent
+(defconst ** 3) => DEFCONST refused 2 BadEvent
+(defconst *c* x) => DEFCONST refused 2 BadEvent
+(defconst *c* (car 'x)) => DEFCONST refused 2 BadEvent
+(defconst *c* `x) => DEFCONST refused 2 BadEvent
+(defconst *c* 3 4) => DEFCONST refused 2 BadEvent
+(defconst *c* '(a ,b)) => DEFCONST *C* refused 4.7 CommaOutside
+(defconst *c* 1) (defconst *c* 1) => DEFCONST *C* admitted / DEFCONST *C* refused 3 NameTaken
+(defun f (x) x) (defthm f (equal x x) :rule-classes nil) => DEFUN F / DEFUN F admitted / DEFTHM F / DEFTHM F refused 3 NameTaken
+(defthm if (equal x (f x)) :rule-classes nil) => DEFTHM IF / DEFTHM IF refused 3 NameTaken
+(defthm q (equal (foo x) x) :rule-classes nil) => DEFTHM Q / DEFTHM Q refused 4.1 UnknownName
+(defthm a (equal x x x) :rule-classes nil) => DEFTHM A / DEFTHM A refused 4.2 WrongArity
+(defthm a (equal *c* *c*) :rule-classes nil) => DEFTHM A / DEFTHM A refused 4.1 UnknownName
+(defthm a (equal '(a ,b) '(a ,b)) :rule-classes nil) => DEFTHM A / DEFTHM A refused 4.7 CommaOutside
+(defthm e nil :rule-classes nil) => DEFTHM E / Goal simplify 1 / Goal' empty / Checkpoints before induction / Goal': NIL / DEFTHM E refused 8.2 EmptyClause
+(defthm h2 (if (equal (equal x y) (equal z w)) (equal u v) nil) :rule-classes nil) => DEFTHM H2 / Goal simplify 2 / Subgoal 2 push *1 / Subgoal 1 push *2 / Revert / *1 noscheme / Checkpoints before induction / Subgoal 2: (OR (NOT (EQUAL (EQUAL X Y) (EQUAL Z W))) (EQUAL U V)) / Subgoal 1: (EQUAL (EQUAL X Y) (EQUAL Z W)) / DEFTHM H2 refused 8.1 NoScheme
+(defthm a (if x y z) :rule-classes nil) => DEFTHM A / Goal simplify 2 / Subgoal 2 push *1 / Subgoal 1 push *2 / Revert / *1 noscheme / Checkpoints before induction / Subgoal 2: (OR (NOT X) Y) / Subgoal 1: (OR X Z) / DEFTHM A refused 8.1 NoScheme
+(defthm a (implies (equal x (car y)) (consp (cons x z))) :rule-classes nil) => DEFTHM A / Goal simplify 1 / Goal' push *1 / *1 noscheme / Checkpoints before induction / Goal': (CONSP (CONS (CAR Y) Z)) / DEFTHM A refused 8.1 NoScheme"##;
+
+/// What is admitted: events behind a book's first line, and the lines that they print.
+const ADMITTED: &str = r##"(defun f (x) x) => DEFUN F / DEFUN F admitted
+(defun |f g| () nil) => DEFUN |f g| / DEFUN |f g| admitted
+(defun f (x y) "A text." (declare (ignore y) (xargs :verify-guards nil :guard (natp x))) (+ x 1)) => DEFUN F / DEFUN F admitted
+(defun f (x) "A body.") => DEFUN F / DEFUN F admitted
+(defun f (x) (declare (xargs :measure (lex (acl2-count x) 3))) (and x 1)) => DEFUN F / DEFUN F admitted
+(defun f (x) (* x x)) (defun g (x) (f (f x))) => DEFUN F / DEFUN F admitted / DEFUN G / DEFUN G admitted
+(defun f (x) x) (defthm a (equal (f y) (f y)) :rule-classes nil) => DEFUN F / DEFUN F admitted / DEFTHM A / Goal simplify 0 / DEFTHM A proved
+(defconst *c* 'x) => DEFCONST *C* admitted
+(defconst *c* (quote (a . b))) => DEFCONST *C* admitted
+(defconst *c* -3) => DEFCONST *C* admitted
+(defconst *c* #\a) (defconst *d* "s") => DEFCONST *C* admitted / DEFCONST *D* admitted
+(defconst *c* :key) (defconst *d* t) (defconst *e* ()) => DEFCONST *C* admitted / DEFCONST *D* admitted / DEFCONST *E* admitted
+(defconst *c* '(1 2)) (defthm a (equal *c* '(1 2)) :rule-classes nil) => DEFCONST *C* admitted / DEFTHM A / Goal simplify 0 / DEFTHM A proved
+(defthm a (equal `x `x) :rule-classes nil) => DEFTHM A / Goal simplify 0 / DEFTHM A proved
+(defthm s (implies (equal x y) (equal y x)) :rule-classes nil) => DEFTHM S / Goal simplify 1 / Goal' simplify 0 / DEFTHM S proved
+(defthm a (implies (and p q) (or q r)) :rule-classes nil) => DEFTHM A / Goal simplify 0 / DEFTHM A proved
+(defthm a (if x (equal x x) (not x)) :rule-classes nil) => DEFTHM A / Goal simplify 0 / DEFTHM A proved"##;
 
 /// Names that are taken: a primitive's, a function's and a rule's of the ground world.
 const TAKEN: [&str; 4] = ["COERCE", "NOT", "MAKE-CHARACTER-LIST", "COERCE-INVERSE"];
@@ -263,20 +373,41 @@ fn names_of_the_ground_world_are_taken(rt: HostRuntime) -> Result<(), Fail> {
     Ok(())
 }
 
-#[test]
-fn each_fault_and_refusal_is_printed(rt: HostRuntime) -> Result<(), Fail> {
-    let alloc = rt.alloc();
+/// Certifies the book of each line of a table, and asserts what it prints. The lines of a text stand
+/// between strokes.
+fn prints_each(
+    rt: &impl Abort,
+    alloc: Global,
+    table: &str,
+    last: &str,
+    rows: u32,
+) -> Result<(), Fail> {
     let mut count = 0u32;
-    for line in REFUSED.lines() {
-        if let Some((form, body)) = line.split_once(" => ") {
+    for row in table.lines() {
+        if let Some((events, body)) = row.split_once(" => ") {
             count = count.saturating_add(1);
-            let book = format!(in alloc; "(in-package \"ACL2\")\n{form}")?;
-            let text = format!(in alloc; "Book b\n{body}\nBook b not certified\n")?;
-            prints(&rt, alloc, book.as_bytes(), text.as_bytes())?;
+            let book = format!(in alloc; "(in-package \"ACL2\")\n{events}")?;
+            let mut text = Vec::from_slice(alloc, b"Book b\n")?;
+            for line in body.split(" / ") {
+                text.extend_from_slice(line.as_bytes())?;
+                text.push(10)?;
+            }
+            text.extend_from_slice(last.as_bytes())?;
+            prints(rt, alloc, book.as_bytes(), text.as_slice())?;
         }
     }
-    assert_eq!(rt; count, 48);
+    assert_eq!(rt; count, rows);
     Ok(())
+}
+
+#[test]
+fn each_fault_and_refusal_is_printed(rt: HostRuntime) -> Result<(), Fail> {
+    prints_each(&rt, rt.alloc(), REFUSED, "Book b not certified\n", 90)
+}
+
+#[test]
+fn what_is_admitted_is_printed(rt: HostRuntime) -> Result<(), Fail> {
+    prints_each(&rt, rt.alloc(), ADMITTED, "Book b certified\n", 17)
 }
 
 #[test]
@@ -365,12 +496,12 @@ fn strings(alloc: Global, count: usize) -> Result<Vec<u8>, Fail> {
 }
 
 #[test]
-fn a_term_of_more_than_4096_nodes_is_not_supported(rt: HostRuntime) -> Result<(), Fail> {
+fn a_term_of_more_than_4096_nodes_is_too_large(rt: HostRuntime) -> Result<(), Fail> {
     let alloc = rt.alloc();
     let least = strings(alloc, 2046)?;
     let text = b"Book b\nDEFTHM A\nGoal simplify 0\nDEFTHM A proved\nBook b certified\n";
     prints(&rt, alloc, least.as_slice(), text)?;
-    let refused = b"Book b\nDEFTHM refused 1 NotSupported\nBook b not certified\n";
+    let refused = b"Book b\nDEFTHM A\nDEFTHM A refused 4.5 TermTooLarge\nBook b not certified\n";
     let large = strings(alloc, 2047)?;
     prints(&rt, alloc, large.as_slice(), refused)?;
     let first = b"(in-package \"ACL2\")\n(defthm a (equal x '(";

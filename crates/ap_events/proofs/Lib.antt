@@ -1,0 +1,5 @@
+pub mod Attempted
+pub mod Defining
+pub mod Ending
+pub mod Formals
+pub mod Within

@@ -1,0 +1,5 @@
+use Rattle.ap_world.specs.declared.entry.Entry.TheVariants as entry
+use Rattle.ap_events.proofs.constant.add.Goals as goal
+
+pub returns-in-Ok-clause-follows : goal.returns-in-Ok-clause-follows
+returns-in-Ok-clause-follows c = (entry.Constant _ _, c.in-Ok.ensures.ok)

@@ -1,0 +1,11 @@
+pub mod Attempts
+pub mod Bounds
+pub mod Constants
+pub mod Definitions
+pub mod Ends
+pub mod Events
+pub mod Limits
+pub mod Lines
+pub mod Shapes
+pub mod Texts
+pub mod Theorems

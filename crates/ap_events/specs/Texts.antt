@@ -1,0 +1,62 @@
+-- The printed lines of events.
+use Rattle.std.specs.Prelude.{ℕ, List, [], ◌∷◌, ◌++◌, codes, decimal}
+use Rattle.ap_value.specs.declared.symbol.Symbol.{Symbol}
+use Rattle.ap_term.specs.Printed.{symbol_text}
+use Rattle.ap_translate.specs.declared.fault.TransKind.{TransKind}
+use Rattle.ap_translate.specs.declared.fault.TransKind.TheVariants as kinds
+use Rattle.ap_translate.specs.Answers as translation
+use Rattle.ap_walk.specs.declared.act.Reason.{Reason}
+use Rattle.ap_walk.specs.Visits.{reason_number}
+
+-- a text and the end of its line
+abbrev pub line : List ℕ → List ℕ
+line text = text ++ 10 ∷ []
+
+-- an event without a symbol at its head, one that isn't built, and one that isn't of its head's shape
+unfoldable pub no_head_text : List ℕ
+no_head_text = line (codes "FORM refused 1 NotSupported")
+
+unfoldable pub not_supported_text : Symbol → List ℕ
+not_supported_text h = symbol_text h ++ line (codes " refused 1 NotSupported")
+
+unfoldable pub bad_event_text : Symbol → List ℕ
+bad_event_text h = symbol_text h ++ line (codes " refused 2 BadEvent")
+
+-- a line of an event: its head, its name, and what became of it
+unfoldable pub event_line : List ℕ → Symbol → List ℕ → List ℕ
+event_line head n said = head ++ codes " " ++ symbol_text n ++ line said
+
+-- a refusal's number and word
+abbrev pub refused_as : List ℕ → List ℕ
+refused_as reason = codes " refused " ++ reason
+
+unfoldable pub kind_text : TransKind → List ℕ
+kind_text kinds.UnknownName = codes "UnknownName"
+kind_text kinds.WrongArity = codes "WrongArity"
+kind_text kinds.BadForm = codes "BadForm"
+kind_text kinds.DottedForm = codes "DottedForm"
+kind_text kinds.TermTooLarge = codes "TermTooLarge"
+kind_text kinds.NotAVariable = codes "NotAVariable"
+kind_text kinds.CommaOutside = codes "CommaOutside"
+
+unfoldable pub translation_text : TransKind → List ℕ
+translation_text k = codes "4." ++ decimal (translation.number_of k) ++ codes " " ++ kind_text k
+
+unfoldable pub reason_text : Reason → List ℕ
+reason_text Reason.NoScheme = codes "NoScheme"
+reason_text Reason.EmptyClause = codes "EmptyClause"
+reason_text Reason.GoalLimit = codes "GoalLimit"
+reason_text Reason.PathDepth = codes "PathDepth"
+reason_text Reason.InductionDepth = codes "InductionDepth"
+reason_text Reason.DoNotInduct = codes "DoNotInduct"
+
+unfoldable pub failure_text : Reason → List ℕ
+failure_text r = codes "8." ++ decimal (reason_number r) ++ codes " " ++ reason_text r
+
+-- what an event with a name prints: its opening line, other lines, and what became of it
+abbrev pub event_text : List ℕ → Symbol → List ℕ → List ℕ → List ℕ
+event_text head n lines said = event_line head n [] ++ lines ++ event_line head n said
+
+-- a constant's event has the last line alone
+abbrev pub constant_line : Symbol → List ℕ → List ℕ
+constant_line n said = event_line (codes "DEFCONST") n said

@@ -1,0 +1,113 @@
+ghost use Rattle.std.specs.Prelude.{◌≡◌, ◌≤◌, ℕ, IfOk};
+ghost use Rattle.ap_names.specs.Names.{pushed_of};
+
+use ap_attempt::Prover;
+use ap_list::NoMemory;
+use ap_names::GoalName;
+use ap_strategy::{Acl2Step, Task, induct_task};
+use ap_walk::{Step, Stepped};
+use std::alloc::Global;
+
+/// A waterfall whose pushed tasks have inductions. The induction of a task is a meaning of the task alone.
+pub trait Inducts: Step {
+    /// The induction of a task that was pushed as number `k`.
+    ghost inducted: { Self.Task → ℕ → Self.Task };
+
+    /// The induction of a task that a walk pushed as number `k`, from 1. The only error is want of memory.
+    fn induct(&self, alloc: Global, task: &Self::Task, k: u32) -> Result<Self::Task, NoMemory>
+        requires { 1 ≤ k }
+        ensures { IfOk result (λ induction. induction ≡ inducted task.now k) };
+
+    // An induction has the name of the pushed goal.
+    ghost called: { (task : Self.Task) (k : ℕ) → 1 ≤ k → Self.name (inducted task k) ≡ pushed_of (Self.name task) k };
+
+    // Where the induction of a task is good the task is good.
+    ghost shows: { (task : Self.Task) (k : ℕ) → 1 ≤ k → Self.good (inducted task k) → Self.good task };
+}
+
+impl<'a> Inducts for Acl2Step<'a> {
+    ghost use Rattle.std.proofs.Common.{refl};
+    ghost use Rattle.ap_strategy.specs.Goals.{inducted};
+
+    ghost inducted = { inducted };
+
+    ghost called = { λ task k some. refl };
+
+    ghost shows = { λ task k some good. good };
+
+    fn induct(&self, alloc: Global, task: &Task<'a>, k: u32) -> Result<Task<'a>, NoMemory> {
+        induct_task(alloc, task, k)
+    }
+}
+
+/// A waterfall that proves what it pushes by induction, and that reverts to the goal as it came. No hint
+/// forbids induction.
+#[derive(Drop)]
+pub struct Proving<S> {
+    pub step: S,
+}
+
+impl<S: Step> Step for Proving<S> {
+    type Task = S::Task;
+
+    ghost step_of = { S.step_of };
+
+    ghost good = { S.good };
+
+    ghost name = { S.name };
+
+    ghost depth = { S.depth };
+
+    ghost tells = { S.tells };
+
+    ghost deeper = { S.deeper };
+
+    ghost whole = { S.whole };
+
+    fn step(&self, alloc: Global, task: &S::Task) -> Result<Stepped<S::Task>, NoMemory> {
+        self.step.step(alloc, task)
+    }
+
+    fn copy_task(&self, alloc: Global, task: &S::Task) -> Result<S::Task, NoMemory> {
+        self.step.copy_task(alloc, task)
+    }
+
+    fn same_task(&self, a: &S::Task, b: &S::Task) -> bool {
+        self.step.same_task(a, b)
+    }
+
+    fn name_of(&self, alloc: Global, task: &S::Task) -> Result<GoalName, NoMemory> {
+        self.step.name_of(alloc, task)
+    }
+}
+
+impl<S: Inducts> Prover for Proving<S> {
+    ghost use Rattle.std.specs.Prelude.{false};
+    ghost use Rattle.std.proofs.Common.{refl};
+
+    ghost inducted = { S.inducted };
+
+    ghost original_of = { λ root. root };
+
+    ghost refuses_induction = { λ _. false };
+
+    ghost named = { S.called };
+
+    ghost original_named = { λ root. refl };
+
+    ghost by_induction = { S.shows };
+
+    ghost by_original = { λ root good. good };
+
+    fn induct_task(&self, alloc: Global, task: &S::Task, k: u32) -> Result<S::Task, NoMemory> {
+        self.step.induct(alloc, task, k)
+    }
+
+    fn original(&self, alloc: Global, root: &S::Task) -> Result<S::Task, NoMemory> {
+        self.step.copy_task(alloc, root)
+    }
+
+    fn do_not_induct(&self) -> bool {
+        false
+    }
+}
