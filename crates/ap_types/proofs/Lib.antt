@@ -1,0 +1,9 @@
+pub mod Listing
+pub mod Formed
+pub mod Sets
+pub mod RowsHold
+pub mod Recognising
+pub mod Cutting
+pub mod TypesHold
+pub mod RulesHold
+pub mod KeptHolds

@@ -1,0 +1,6 @@
+pub mod Kinds
+pub mod Rows
+pub mod Narrowing
+pub mod Typing
+pub mod Kept
+pub mod Laws

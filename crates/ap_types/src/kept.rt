@@ -1,0 +1,79 @@
+ghost use Rattle.std.specs.Prelude.{◌≡◌, IsTrue, IfOk, map, false};
+ghost use Rattle.ap_value.specs.Values.{V};
+ghost use Rattle.ap_world.specs.Meaning.{Env, HasValue};
+ghost use Rattle.ap_world.specs.Types.{Has};
+ghost use Rattle.ap_world.specs.Sound.{known};
+ghost use Rattle.ap_world.specs.World.{function_of, has_name};
+ghost use Rattle.ap_kernel.specs.Standing.{HasGround};
+ghost use Rattle.ap_types.specs.Typing.{rules_in, seen_rule};
+ghost use Rattle.ap_types.specs.Kept.{body_types, settled, kept_types};
+
+use crate::calls::{Own, Setting};
+use crate::kinds::ALL;
+use crate::rules::{TypeRule, rules_in};
+use crate::typing::types_at;
+use ap_kernel::Ctx;
+use ap_list::{NoMemory, Seq};
+use ap_term::Term;
+use ap_value::Symbol;
+use ap_world::{Mask, World};
+use std::alloc::Global;
+
+/// What a body gives back where the calls of its function have this mask.
+fn body_types(
+    alloc: Global,
+    w: &World,
+    rules: &[TypeRule],
+    name: &Symbol,
+    body: &Term,
+    mask: u16,
+) -> Result<u16, NoMemory>
+    requires rules { map seen_rule rules.now ≡ rules_in w.now.theory w.now.entries }
+    ensures { IfOk result (λ m. m ≡ body_types w.now name.now body.now mask) }
+{
+    let nothing = Ctx::new(alloc, Seq::new(alloc))?;
+    let setting = Setting {
+        alloc,
+        w,
+        rules,
+        own: Some(Own { name, mask }),
+    };
+    types_at(&setting, &nothing, body)
+}
+
+/// The first mask that is given back as it was, in so many rounds.
+fn settled(
+    alloc: Global,
+    w: &World,
+    rules: &[TypeRule],
+    name: &Symbol,
+    body: &Term,
+    rounds: u32,
+    mask: u16,
+) -> Result<u16, NoMemory>
+    requires rules { map seen_rule rules.now ≡ rules_in w.now.theory w.now.entries }
+    ensures { IfOk result (λ m. m ≡ settled (body_types w.now name.now body.now) rounds mask) }
+{
+    if rounds == 0 {
+        return Ok(ALL);
+    }
+    let next = body_types(alloc, w, rules, name, body, mask)?;
+    if next == mask {
+        return Ok(mask);
+    }
+    settled(alloc, w, rules, name, body, rounds - 1, next)
+}
+
+/// The mask that a function of this name and body keeps when it is added to the world: the least that the
+/// body's mask gives back, iterated from the empty mask, with formals of any type. A call of the function
+/// in its own body has the mask of the round. Where the name is free and the body has no call of it, the
+/// mask has the type of the body's value under every assignment; for a function that calls itself the law
+/// is [`crate::laws::kept_masks_hold`].
+pub fn kept_mask(alloc: Global, w: &World, name: &Symbol, body: &Term) -> Result<Mask, NoMemory>
+    ensures made { IfOk result (λ m. m ≡ record { 0 = kept_types w.now name.now body.now }) }
+    ensures holds { IfOk result (λ m. HasGround (function_of w.now.entries) → has_name w.now.entries name.now ≡ false → IsTrue (known (function_of w.now.entries) body.now) → (e : Env) (v : V) → HasValue (function_of w.now.entries) body.now e v → Has m v) }
+{
+    w.is_sound();
+    let rules = rules_in(alloc, w)?;
+    Ok(Mask(settled(alloc, w, rules.as_slice(), name, body, 11, 0)?))
+}

@@ -1,0 +1,106 @@
+ghost use Rattle.std.specs.Prelude.{◌≡◌};
+ghost use Rattle.ap_types.specs.Kinds.{kinds, bit, all, without, meets};
+ghost use Rattle.ap_types.specs.Rows.{sign_of, sign_bit};
+
+/// The ten basic types of a value.
+#[derive(Clone, Copy, Debug)]
+pub(crate) enum Kind {
+    Zero,
+    Positive,
+    Negative,
+    Nil,
+    True,
+    OtherSymbol,
+    Proper,
+    Improper,
+    Text,
+    Character,
+}
+
+/// A type as a number: zero, positive or negative.
+#[derive(Clone, Copy, Debug)]
+pub(crate) enum Sign {
+    Zero,
+    Positive,
+    Negative,
+}
+
+/// The mask of all ten.
+pub(crate) const ALL: u16 = 1023;
+
+/// The bits of `nil` and `t`.
+pub(crate) const NIL: u16 = 8;
+
+pub(crate) const T: u16 = 16;
+
+/// The ten types.
+pub(crate) fn kinds() -> [Kind; 10]
+    ensures { result ≡ kinds }
+{
+    [
+        Kind::Zero,
+        Kind::Positive,
+        Kind::Negative,
+        Kind::Nil,
+        Kind::True,
+        Kind::OtherSymbol,
+        Kind::Proper,
+        Kind::Improper,
+        Kind::Text,
+        Kind::Character,
+    ]
+}
+
+/// The mask of one type.
+pub(crate) fn bit(kind: Kind) -> u16
+    ensures { result ≡ bit kind }
+{
+    match kind {
+        Kind::Zero => 1,
+        Kind::Positive => 2,
+        Kind::Negative => 4,
+        Kind::Nil => 8,
+        Kind::True => 16,
+        Kind::OtherSymbol => 32,
+        Kind::Proper => 64,
+        Kind::Improper => 128,
+        Kind::Text => 256,
+        Kind::Character => 512,
+    }
+}
+
+/// All types but those of a mask.
+pub(crate) fn without(mask: u16) -> u16
+    ensures { result ≡ without mask }
+{
+    ALL ^ mask
+}
+
+/// Whether two masks share a type.
+pub(crate) fn meets(a: u16, b: u16) -> bool
+    ensures { result ≡ meets a b }
+{
+    a & b != 0
+}
+
+/// A type's sign as a number; one that isn't an integer's counts as zero.
+pub(crate) fn sign_of(kind: Kind) -> Sign
+    ensures { result ≡ sign_of kind }
+{
+    match kind {
+        Kind::Positive => Sign::Positive,
+        Kind::Negative => Sign::Negative,
+        _ => Sign::Zero,
+    }
+}
+
+/// The mask of the integers of one sign.
+pub(crate) fn sign_bit(sign: Sign) -> u16
+    ensures { result ≡ sign_bit sign }
+{
+    match sign {
+        Sign::Zero => 1,
+        Sign::Positive => 2,
+        Sign::Negative => 4,
+    }
+}

@@ -1,0 +1,54 @@
+ghost use Rattle.std.specs.Prelude.{◌≡◌, IsTrue, IfOk};
+ghost use Rattle.ap_world.specs.Sound.{known};
+ghost use Rattle.ap_world.specs.World.{function_of};
+ghost use Rattle.ap_kernel.specs.Standing.{HasGround, KnownFacts};
+ghost use Rattle.ap_kernel.specs.Masks.{MaskHolds};
+ghost use Rattle.ap_types.specs.Typing.{types};
+
+use crate::calls::Setting;
+use crate::rules::rules_in;
+use crate::typing::types_at;
+use ap_kernel::{Ctx, TypeOracle};
+use ap_list::NoMemory;
+use ap_term::Term;
+use ap_world::{Mask, World};
+use std::alloc::Global;
+
+/// The types that a term's value can have wherever the facts hold: those of the term's form, cut by the
+/// facts on the term. The kept mask of a function is used where its type-prescription rune is enabled in
+/// the world's current theory, cut by the world's enabled type-prescription theorems about the function.
+/// Linear in the term's size times its facts; the world's entries are read once. See the manual's topics
+/// `type-set` and `type-prescription`.
+pub fn types_of(alloc: Global, w: &World, ctx: &Ctx, t: &Term) -> Result<Mask, NoMemory>
+    requires ground { HasGround (function_of w.now.entries) }
+    requires facts { KnownFacts (function_of w.now.entries) ctx.now.0 }
+    requires term { IsTrue (known (function_of w.now.entries) t.now) }
+    ensures made { IfOk result (λ m. m ≡ record { 0 = types w.now ctx.now.0 t.now }) }
+    ensures holds { IfOk result (λ m. MaskHolds (function_of w.now.entries) ctx.now.0 t.now m) }
+{
+    w.is_sound();
+    let rules = rules_in(alloc, w)?;
+    let setting = Setting {
+        alloc,
+        w,
+        rules: rules.as_slice(),
+        own: None,
+    };
+    Ok(Mask(types_at(&setting, ctx, t)?))
+}
+
+/// The kernel's oracle of types, by [`types_of`].
+#[derive(Clone, Copy, Drop)]
+pub struct Types;
+
+impl TypeOracle for Types {
+    fn mask(&self, alloc: Global, w: &World, ctx: &Ctx, t: &Term) -> Result<Mask, NoMemory>
+        requires ground { HasGround (function_of w.now.entries) }
+        requires facts { KnownFacts (function_of w.now.entries) ctx.now.0 }
+        requires term { IsTrue (known (function_of w.now.entries) t.now) }
+        ensures made { IfOk result (λ m. m ≡ record { 0 = types w.now ctx.now.0 t.now }) }
+        ensures holds { IfOk result (λ m. MaskHolds (function_of w.now.entries) ctx.now.0 t.now m) }
+    {
+        types_of(alloc, w, ctx, t)
+    }
+}

@@ -1,0 +1,282 @@
+ghost use Rattle.std.specs.Prelude.{◌≡◌, map};
+ghost use Rattle.ap_list.specs.Lists.{lookup_by};
+ghost use Rattle.ap_value.specs.Values.{symbol_eq, acl2};
+ghost use Rattle.ap_kernel.specs.Shapes.{shape_of};
+ghost use Rattle.ap_types.specs.Kinds.{bit, union_from, union};
+ghost use Rattle.ap_types.specs.Rows.{recognised, tested, test_types, plus_row, times_row, minus_row, less_row, is_single, equal_row, cons_row, car_row, cdr_row, char_code_row, row_one, row_two, over_one, over_two, coerce_by, coerce_types};
+
+use crate::constants::{is_list_name, is_named};
+use crate::kinds::{ALL, Kind, NIL, Sign, T, bit, kinds, meets, sign_bit, sign_of, without};
+use ap_term::Term;
+use ap_value::Symbol;
+use ap_world::Primitive;
+
+/// What stands beside the name in a table.
+fn find_named(symbol: &Symbol, table: &[(&'static [u8], u16)]) -> Option<u16>
+    ensures { result ≡ lookup_by symbol_eq (map (λ p. (acl2 p.0.now, p.1)) table.now) symbol.now }
+{
+    for (name, mask) in table {
+        if is_named(symbol, name) {
+            return Some(*mask);
+        }
+    }
+    None
+}
+
+/// The types that a recogniser of this name is true of.
+pub(crate) fn recognised(name: &Symbol) -> Option<u16>
+    ensures { result ≡ recognised name.now }
+{
+    find_named(
+        name,
+        &[
+            (b"CONSP", 64 + 128),
+            (b"INTEGERP", 1 + 2 + 4),
+            (b"SYMBOLP", 8 + 16 + 32),
+            (b"STRINGP", 256),
+            (b"CHARACTERP", 512),
+            (b"TRUE-LISTP", 8 + 64),
+        ],
+    )
+}
+
+/// The types for which a call of this name gives `t`, where it tests types.
+#[tactic(auto, unfolding(ap_world::specs::Names::not_name))]
+pub(crate) fn tested(name: &Symbol) -> Option<u16>
+    ensures { result ≡ tested name.now }
+{
+    if is_named(name, b"NOT") {
+        return Some(NIL);
+    }
+    recognised(name)
+}
+
+/// `t` where the mask has a type that is tested for, `nil` where it has another.
+pub(crate) fn test_types(types: u16, mask: u16) -> u16
+    ensures { result ≡ test_types types mask }
+{
+    let yes = if meets(mask, types) { T } else { 0 };
+    let no = if meets(mask, without(types)) { NIL } else { 0 };
+    yes | no
+}
+
+/// `(binary-+ x y)`, by signs.
+fn plus_row(a: Sign, b: Sign) -> u16
+    ensures { result ≡ plus_row a b }
+{
+    match (a, b) {
+        (Sign::Zero, s) | (s, Sign::Zero) => sign_bit(s),
+        (Sign::Positive, Sign::Positive) => 2,
+        (Sign::Negative, Sign::Negative) => 4,
+        _ => 1 + 2 + 4,
+    }
+}
+
+/// `(binary-* x y)`, by signs.
+fn times_row(a: Sign, b: Sign) -> u16
+    ensures { result ≡ times_row a b }
+{
+    match (a, b) {
+        (Sign::Zero, _) | (_, Sign::Zero) => 1,
+        (Sign::Positive, s) | (s, Sign::Positive) => sign_bit(s),
+        (Sign::Negative, Sign::Negative) => 2,
+    }
+}
+
+/// `(unary-- x)`, by the sign.
+fn minus_row(a: Sign) -> u16
+    ensures { result ≡ minus_row a }
+{
+    match a {
+        Sign::Zero => 1,
+        Sign::Positive => 4,
+        Sign::Negative => 2,
+    }
+}
+
+/// `(< x y)`, by signs.
+fn less_row(a: Sign, b: Sign) -> u16
+    ensures { result ≡ less_row a b }
+{
+    match (a, b) {
+        (Sign::Negative, Sign::Negative) | (Sign::Positive, Sign::Positive) => NIL | T,
+        (Sign::Negative, _) | (Sign::Zero, Sign::Positive) => T,
+        (Sign::Zero, _) | (Sign::Positive, _) => NIL,
+    }
+}
+
+/// Whether a type has one value alone: zero, `nil`, `t`.
+pub(crate) fn is_single(kind: Kind) -> bool
+    ensures { result ≡ is_single kind }
+{
+    meets(bit(kind), 1 + 8 + 16)
+}
+
+/// `(equal x y)`.
+fn equal_row(a: Kind, b: Kind) -> u16
+    ensures { result ≡ equal_row a b }
+{
+    if !meets(bit(a), bit(b)) {
+        return NIL;
+    }
+    if is_single(a) { T } else { NIL | T }
+}
+
+/// `(cons x y)`, by the type of y.
+fn cons_row(kind: Kind) -> u16
+    ensures { result ≡ cons_row kind }
+{
+    match kind {
+        Kind::Nil | Kind::Proper => 64,
+        _ => 128,
+    }
+}
+
+/// `(car x)`.
+fn car_row(kind: Kind) -> u16
+    ensures { result ≡ car_row kind }
+{
+    match kind {
+        Kind::Proper | Kind::Improper => ALL,
+        _ => NIL,
+    }
+}
+
+/// `(cdr x)`.
+fn cdr_row(kind: Kind) -> u16
+    ensures { result ≡ cdr_row kind }
+{
+    match kind {
+        Kind::Proper => 8 + 64,
+        Kind::Improper => without(8 + 64),
+        _ => NIL,
+    }
+}
+
+/// `(char-code x)`.
+fn char_code_row(kind: Kind) -> u16
+    ensures { result ≡ char_code_row kind }
+{
+    match kind {
+        Kind::Character => 1 + 2,
+        _ => 1,
+    }
+}
+
+/// A primitive of one argument of this type.
+fn row_one(p: Primitive, kind: Kind) -> u16
+    ensures { result ≡ row_one p kind }
+{
+    match p {
+        Primitive::Car => car_row(kind),
+        Primitive::Cdr => cdr_row(kind),
+        Primitive::Minus => minus_row(sign_of(kind)),
+        Primitive::CharCode => char_code_row(kind),
+        Primitive::CodeChar => 512,
+        Primitive::SymbolName => 256,
+        _ => ALL,
+    }
+}
+
+/// A primitive of two arguments of these types.
+fn row_two(p: Primitive, a: Kind, b: Kind) -> u16
+    ensures { result ≡ row_two p a b }
+{
+    match p {
+        Primitive::Equal => equal_row(a, b),
+        Primitive::Less => less_row(sign_of(a), sign_of(b)),
+        Primitive::Plus => plus_row(sign_of(a), sign_of(b)),
+        Primitive::Times => times_row(sign_of(a), sign_of(b)),
+        Primitive::Cons => cons_row(b),
+        _ => ALL,
+    }
+}
+
+/// The union over the types of a mask, from these types on.
+fn one_from(p: Primitive, kinds: &[Kind], mask: u16) -> u16
+    ensures { result ≡ union_from (row_one p) kinds.now mask 0 }
+{
+    let mut out = 0;
+    for kind in kinds {
+        let row = if meets(mask, bit(*kind)) {
+            row_one(p, *kind)
+        } else {
+            0
+        };
+        out = out | row;
+    }
+    out
+}
+
+/// A primitive of one argument with this mask.
+pub(crate) fn over_one(p: Primitive, mask: u16) -> u16
+    ensures { result ≡ over_one p mask }
+{
+    one_from(p, &kinds(), mask)
+}
+
+/// The union over the types of the second argument's mask, from these types on.
+fn second_from(p: Primitive, first: Kind, kinds: &[Kind], mask: u16) -> u16
+    ensures { result ≡ union_from (row_two p first) kinds.now mask 0 }
+{
+    let mut out = 0;
+    for kind in kinds {
+        let row = if meets(mask, bit(*kind)) {
+            row_two(p, first, *kind)
+        } else {
+            0
+        };
+        out = out | row;
+    }
+    out
+}
+
+/// A primitive of two arguments, the first of this type, the second with this mask.
+fn over_second(p: Primitive, first: Kind, mask: u16) -> u16
+    ensures { result ≡ union (row_two p first) mask }
+{
+    second_from(p, first, &kinds(), mask)
+}
+
+/// The union over the types of both masks, from these types of the first on.
+fn both_from(p: Primitive, kinds: &[Kind], a: u16, b: u16) -> u16
+    ensures { result ≡ union_from (λ j. union (row_two p j) b) kinds.now a 0 }
+{
+    let mut out = 0;
+    for kind in kinds {
+        let row = if meets(a, bit(*kind)) {
+            over_second(p, *kind, b)
+        } else {
+            0
+        };
+        out = out | row;
+    }
+    out
+}
+
+/// A primitive of two arguments with these masks.
+pub(crate) fn over_two(p: Primitive, a: u16, b: u16) -> u16
+    ensures { result ≡ over_two p a b }
+{
+    both_from(p, &kinds(), a, b)
+}
+
+/// `(coerce x y)`, by y.
+fn coerce_by(t: &Term) -> u16
+    ensures { result ≡ coerce_by (shape_of t.now) }
+{
+    match t {
+        Term::Quote(v) => { if is_list_name(v) { 8 + 64 } else { 256 } }
+        _ => 8 + 64 + 256,
+    }
+}
+
+/// `coerce` by its arguments.
+pub(crate) fn coerce_types(arguments: &[Term]) -> u16
+    ensures { result ≡ coerce_types arguments.now }
+{
+    match arguments {
+        [_, kind] => coerce_by(kind),
+        _ => ALL,
+    }
+}
