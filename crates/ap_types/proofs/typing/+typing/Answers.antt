@@ -6,23 +6,23 @@ use Rattle.ap_types.specs.Typing.{types_in, types_by, if_parts, call_types}
 use Rattle.ap_types.proofs.Formed.{item_size, types_var, types_quote, call_cut, head_other}
 use Rattle.ap_types.proofs.typing.+typing.Goals as goal
 
-pub form_types-returns-in-Var : goal.form_types-returns-in-Var
-form_types-returns-in-Var t c =
+pub form_types-returns-in-Var-clause-is : goal.form_types-returns-in-Var-clause-is
+form_types-returns-in-Var-clause-is t c =
     let e : c.args.t.now ≡ Var c.in-Var.field-0 = c.in-Var.is in
     rw e (sym (types_var (types_in c.args.s.now.w.now c.args.s.now.own) c.in-Var.field-0 (in_scope c.args.scopes.now)))
 
-pub form_types-returns-in-Quote : goal.form_types-returns-in-Quote
-form_types-returns-in-Quote t c =
+pub form_types-returns-in-Quote-clause-is : goal.form_types-returns-in-Quote-clause-is
+form_types-returns-in-Quote-clause-is t c =
     let e : c.args.t.now ≡ Quote c.in-Quote.v = c.in-Quote.is in
     rw (e, c.bit.ensures, c.kind_of.ensures) (sym (types_quote (types_in c.args.s.now.w.now c.args.s.now.own) c.in-Quote.v (in_scope c.args.scopes.now)))
 
-pub form_types-returns-in-Call : goal.form_types-returns-in-Call
-form_types-returns-in-Call t c =
+pub form_types-returns-in-Call-clause-is : goal.form_types-returns-in-Call-clause-is
+form_types-returns-in-Call-clause-is t c =
     call_cut (types_in c.args.s.now.w.now c.args.s.now.own) c.head_types.result c.args.t.now c.in-Call.f c.in-Call.ts (in_scope c.args.scopes.now) c.in-Call.is
     (rw (← c.as_slice.ensures) c.head_types.ensures.is)
 
-pub head_types-returns-in_ok-masks-in-None : goal.head_types-returns-in_ok-masks-in-None
-head_types-returns-in_ok-masks-in-None t c =
+pub head_types-returns-in_ok-masks-in-None-clause-is : goal.head_types-returns-in_ok-masks-in-None-clause-is
+head_types-returns-in_ok-masks-in-None-clause-is t c =
     let K = types_in c.args.s.now.w.now c.args.s.now.own in
     let f = c.args.f.now in
     let ts = c.args.ts.now in
