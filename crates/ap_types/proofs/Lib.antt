@@ -1,5 +1,6 @@
 pub mod Listing
 pub mod Formed
+pub mod Scoped
 pub mod Sets
 pub mod RowsHold
 pub mod Recognising

@@ -12,7 +12,6 @@ use crate::calls::{Own, Setting};
 use crate::kinds::ALL;
 use crate::rules::{TypeRule, rules_in};
 use crate::typing::types_at;
-use ap_kernel::Ctx;
 use ap_list::{NoMemory, Seq};
 use ap_term::Term;
 use ap_value::Symbol;
@@ -31,14 +30,14 @@ fn body_types(
     requires rules { map seen_rule rules.now ≡ rules_in w.now.theory w.now.entries }
     ensures { IfOk result (λ m. m ≡ body_types w.now name.now body.now mask) }
 {
-    let nothing = Ctx::new(alloc, Seq::new(alloc))?;
+    let mut nothing = Seq::new(alloc);
     let setting = Setting {
         alloc,
         w,
         rules,
         own: Some(Own { name, mask }),
     };
-    types_at(&setting, &nothing, body)
+    types_at(&setting, &mut nothing, body)
 }
 
 /// The first mask that is given back as it was, in so many rounds.

@@ -16,6 +16,7 @@ pub mod laws;
 mod oracle;
 mod rows;
 mod rules;
+mod scopes;
 mod typing;
 
 pub use ap_kernel::{Ctx, TypeOracle};

@@ -9,7 +9,7 @@ use crate::calls::Setting;
 use crate::rules::rules_in;
 use crate::typing::types_at;
 use ap_kernel::{Ctx, TypeOracle};
-use ap_list::NoMemory;
+use ap_list::{NoMemory, Seq};
 use ap_term::Term;
 use ap_world::{Mask, World};
 use std::alloc::Global;
@@ -17,8 +17,8 @@ use std::alloc::Global;
 /// The types that a term's value can have wherever the facts hold: those of the term's form, cut by the
 /// facts on the term. The kept mask of a function is used where its type-prescription rune is enabled in
 /// the world's current theory, cut by the world's enabled type-prescription theorems about the function.
-/// Linear in the term's size times its facts; the world's entries are read once. See the manual's topics
-/// `type-set` and `type-prescription`.
+/// Linear in the term's size times the facts that are in force at its parts, of which none is copied; the
+/// world's entries are read once. See the manual's topics `type-set` and `type-prescription`.
 pub fn types_of(alloc: Global, w: &World, ctx: &Ctx, t: &Term) -> Result<Mask, NoMemory>
     requires ground { HasGround (function_of w.now.entries) }
     requires facts { KnownFacts (function_of w.now.entries) ctx.now.0 }
@@ -34,7 +34,9 @@ pub fn types_of(alloc: Global, w: &World, ctx: &Ctx, t: &Term) -> Result<Mask, N
         rules: rules.as_slice(),
         own: None,
     };
-    Ok(Mask(types_at(&setting, ctx, t)?))
+    let mut scopes = Seq::new(alloc);
+    scopes.push(ctx.share()?)?;
+    Ok(Mask(types_at(&setting, &mut scopes, t)?))
 }
 
 /// The kernel's oracle of types, by [`types_of`].

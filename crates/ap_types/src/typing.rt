@@ -1,40 +1,48 @@
-ghost use Rattle.std.specs.Prelude.{◌≡◌, true, false, map, IfOk};
+ghost use Rattle.std.specs.Prelude.{◌≡◌, true, false, map, IfOk, OnOk};
 ghost use Rattle.std.specs.Option.{option_map};
 ghost use Rattle.ap_world.specs.Primitives.{prim_of};
 ghost use Rattle.ap_kernel.specs.Assume.{assume};
+ghost use Rattle.ap_types.specs.Kinds.{if_so};
 ghost use Rattle.ap_types.specs.Narrowing.{cut};
+ghost use Rattle.ap_types.specs.Scopes.{in_scope};
 ghost use Rattle.ap_types.specs.Typing.{rules_in, seen_rule, types_in, if_parts, head_types, types_by, chosen_types};
 
 use crate::calls::{Setting, call_types};
 use crate::constants::kind_of;
-use crate::facts::cut;
 use crate::kinds::{ALL, NIL, bit, meets, without};
-use ap_kernel::{Ctx, assume};
+use crate::scopes::{cut_by_each, enter};
+use ap_kernel::Ctx;
 use ap_list::{NoMemory, Seq};
 use ap_term::Term;
 use ap_value::Symbol;
 use ap_world::{Primitive, primitive_of};
 
-/// The types of a term under the facts of a context.
+/// The types of a term under the facts of the contexts. On the way contexts are added and taken away again.
 #[cycle(typing)]
-pub(crate) fn types_at(s: &Setting<'_, '_>, ctx: &Ctx, t: &Term) -> Result<u16, NoMemory>
+pub(crate) fn types_at(
+    s: &Setting<'_, '_>,
+    scopes: &mut Seq<Ctx>,
+    t: &Term,
+) -> Result<u16, NoMemory>
     requires rules { map seen_rule s.now.rules.now ≡ rules_in s.now.w.now.theory s.now.w.now.entries }
-    ensures { IfOk result (λ m. m ≡ types_by (types_in s.now.w.now s.now.own) t.now ctx.now.0) }
+    ensures is { IfOk result (λ m. m ≡ types_by (types_in s.now.w.now s.now.own) t.now (in_scope scopes.old)) }
+    ensures scopes { OnOk result (scopes.new ≡ scopes.old) }
 {
-    let mask = form_types(s, ctx, t)?;
-    Ok(cut(ctx.facts(), t, mask))
+    let mask = form_types(s, scopes, t)?;
+    Ok(cut_by_each(scopes.as_slice(), t, mask))
 }
 
 /// The types of a term by its form; the facts on the term itself cut them.
 #[cycle(typing)]
-fn form_types(s: &Setting<'_, '_>, ctx: &Ctx, t: &Term) -> Result<u16, NoMemory>
+fn form_types(s: &Setting<'_, '_>, scopes: &mut Seq<Ctx>, t: &Term) -> Result<u16, NoMemory>
     requires rules { map seen_rule s.now.rules.now ≡ rules_in s.now.w.now.theory s.now.w.now.entries }
-    ensures { IfOk result (λ m. cut ctx.now.0 t.now m ≡ types_by (types_in s.now.w.now s.now.own) t.now ctx.now.0) }
+    ensures is { IfOk result (λ m. cut (in_scope scopes.old) t.now m ≡ types_by (types_in s.now.w.now s.now.own) t.now (in_scope scopes.old)) }
+    ensures scopes { OnOk result (scopes.new ≡ scopes.old) }
 {
     match t {
         Term::Var(_) => Ok(ALL),
         Term::Quote(v) => Ok(bit(kind_of(v))),
-        Term::Call(f, ts) => head_types(s, ctx, f, ts.as_slice()),
+        Term::Call(f, ts) => head_types(s, scopes, f, ts.as_slice()),
     }
 }
 
@@ -50,15 +58,21 @@ fn if_parts(p: Option<Primitive>, ts: &[Term]) -> Option<(&Term, &Term, &Term)>
 
 /// The types of a call.
 #[cycle(typing)]
-fn head_types(s: &Setting<'_, '_>, ctx: &Ctx, f: &Symbol, ts: &[Term]) -> Result<u16, NoMemory>
+fn head_types(
+    s: &Setting<'_, '_>,
+    scopes: &mut Seq<Ctx>,
+    f: &Symbol,
+    ts: &[Term],
+) -> Result<u16, NoMemory>
     requires rules { map seen_rule s.now.rules.now ≡ rules_in s.now.w.now.theory s.now.w.now.entries }
-    ensures { IfOk result (λ m. m ≡ head_types (types_in s.now.w.now s.now.own) f.now (prim_of f.now) (map (λ u. (u, types_by (types_in s.now.w.now s.now.own) u)) ts.now) ctx.now.0) }
+    ensures is { IfOk result (λ m. m ≡ head_types (types_in s.now.w.now s.now.own) f.now (prim_of f.now) (map (λ u. (u, types_by (types_in s.now.w.now s.now.own) u)) ts.now) (in_scope scopes.old)) }
+    ensures scopes { OnOk result (scopes.new ≡ scopes.old) }
 {
     let p = primitive_of(f);
     match if_parts(p, ts) {
-        Some((a, b, c)) => if_types(s, ctx, a, b, c),
+        Some((a, b, c)) => if_types(s, scopes, a, b, c),
         None => {
-            let masks = masks_of(s, ctx, ts)?;
+            let masks = masks_of(s, scopes, ts)?;
             Ok(call_types(s, f, p, ts, masks.as_slice()))
         }
     }
@@ -66,49 +80,58 @@ fn head_types(s: &Setting<'_, '_>, ctx: &Ctx, f: &Symbol, ts: &[Term]) -> Result
 
 /// The types of an `if`: a branch that its test never chooses isn't looked at.
 #[cycle(typing)]
-fn if_types(s: &Setting<'_, '_>, ctx: &Ctx, a: &Term, b: &Term, c: &Term) -> Result<u16, NoMemory>
+fn if_types(
+    s: &Setting<'_, '_>,
+    scopes: &mut Seq<Ctx>,
+    a: &Term,
+    b: &Term,
+    c: &Term,
+) -> Result<u16, NoMemory>
     requires rules { map seen_rule s.now.rules.now ≡ rules_in s.now.w.now.theory s.now.w.now.entries }
-    ensures { IfOk result (λ m. m ≡ chosen_types (types_by (types_in s.now.w.now s.now.own) a.now ctx.now.0) (types_by (types_in s.now.w.now s.now.own) b.now (assume ctx.now.0 a.now true)) (types_by (types_in s.now.w.now s.now.own) c.now (assume ctx.now.0 a.now false))) }
+    ensures is { IfOk result (λ m. m ≡ chosen_types (types_by (types_in s.now.w.now s.now.own) a.now (in_scope scopes.old)) (types_by (types_in s.now.w.now s.now.own) b.now (assume (in_scope scopes.old) a.now true)) (types_by (types_in s.now.w.now s.now.own) c.now (assume (in_scope scopes.old) a.now false))) }
+    ensures scopes { OnOk result (scopes.new ≡ scopes.old) }
 {
-    let test = types_at(s, ctx, a)?;
-    let yes = if meets(test, without(NIL)) {
-        types_under(s, ctx, a, true, b)?
-    } else {
-        0
-    };
-    let no = if meets(test, NIL) {
-        types_under(s, ctx, a, false, c)?
-    } else {
-        0
-    };
+    let test = types_at(s, scopes, a)?;
+    let yes = types_under(s, scopes, meets(test, without(NIL)), a, true, b)?;
+    let no = types_under(s, scopes, meets(test, NIL), a, false, c)?;
     Ok(yes | no)
 }
 
-/// The types of a branch under its test.
+/// The types of a branch under its test, none where the test never chooses it. While the branch is looked
+/// at, the test's facts stand behind the others.
 #[cycle(typing)]
 fn types_under(
     s: &Setting<'_, '_>,
-    ctx: &Ctx,
+    scopes: &mut Seq<Ctx>,
+    chosen: bool,
     test: &Term,
     sign: bool,
     t: &Term,
 ) -> Result<u16, NoMemory>
     requires rules { map seen_rule s.now.rules.now ≡ rules_in s.now.w.now.theory s.now.w.now.entries }
-    ensures { IfOk result (λ m. m ≡ types_by (types_in s.now.w.now s.now.own) t.now (assume ctx.now.0 test.now sign)) }
+    ensures is { IfOk result (λ m. m ≡ if_so chosen (types_by (types_in s.now.w.now s.now.own) t.now (assume (in_scope scopes.old) test.now sign))) }
+    ensures scopes { OnOk result (scopes.new ≡ scopes.old) }
 {
-    let more = assume(s.alloc, ctx, test, sign)?;
-    types_at(s, &more, t)
+    if !chosen {
+        return Ok(0);
+    }
+    let kept = scopes.len();
+    enter(s.alloc, scopes, test, sign)?;
+    let mask = types_at(s, scopes, t)?;
+    scopes.truncate(kept);
+    Ok(mask)
 }
 
 /// The masks of a call's arguments.
 #[cycle(typing)]
-fn masks_of(s: &Setting<'_, '_>, ctx: &Ctx, ts: &[Term]) -> Result<Seq<u16>, NoMemory>
+fn masks_of(s: &Setting<'_, '_>, scopes: &mut Seq<Ctx>, ts: &[Term]) -> Result<Seq<u16>, NoMemory>
     requires rules { map seen_rule s.now.rules.now ≡ rules_in s.now.w.now.theory s.now.w.now.entries }
-    ensures { IfOk result (λ ms. ms ≡ map (λ u. types_by (types_in s.now.w.now s.now.own) u ctx.now.0) ts.now) }
+    ensures is { IfOk result (λ ms. ms ≡ map (λ u. types_by (types_in s.now.w.now s.now.own) u (in_scope scopes.old)) ts.now) }
+    ensures scopes { OnOk result (scopes.new ≡ scopes.old) }
 {
     let mut masks = Seq::new(s.alloc);
     for t in ts {
-        masks.push(types_at(s, ctx, t)?)?;
+        masks.push(types_at(s, scopes, t)?)?;
     }
     Ok(masks)
 }

@@ -1,6 +1,7 @@
 use Rattle.std.proofs.Common.{◌≡◌, ◌+◌, ◌*◌, take, map}
 use Rattle.ap_list.specs.Lists.{sum_of}
 use Rattle.ap_term.specs.Terms.{term_size}
+use Rattle.ap_types.specs.Scopes.{in_scope}
 use Rattle.ap_types.specs.Typing.{types_in, types_by}
 use Rattle.ap_types.proofs.typing.+typing.Given as goal
 
@@ -23,6 +24,9 @@ decreases-types_under l = 8 * term_size l.t.now + 4
 abbrev pub decreases-masks_of : goal.decreases-masks_of
 decreases-masks_of l = 8 * sum_of (map term_size l.ts.now) + 5
 
--- the masks of those so far
+-- the masks of those so far, the contexts as they were
 abbrev pub invariant-masks_of-loop-t : goal.invariant-masks_of-loop-t
-invariant-masks_of-loop-t l = l.masks ≡ map (λ u. types_by (types_in l.s.w.now l.s.own) u l.ctx.0) (take l.t-index l.ts)
+invariant-masks_of-loop-t l = record {
+  masks : l.masks ≡ map (λ u. types_by (types_in l.s.w.now l.s.own) u (in_scope l.fn.scopes)) (take l.t-index l.ts);
+  scopes : l.scopes ≡ l.fn.scopes;
+}
