@@ -1,0 +1,457 @@
+ghost use Rattle.std.specs.Prelude.{◌≡◌, ◌≤◌, ◌∷◌, [], IfOk, true, false};
+ghost use Rattle.ap_names.specs.Names.{child_of};
+
+use ap_attempt::*;
+use ap_names::{GoalName, same_name};
+use ap_walk::{Act, End, Out, Process, Reason, Rule, Step, Stepped};
+use std::alloc::Global;
+use std::process::Abort;
+use std::test::Fail;
+
+/// What comes of a goal.
+#[derive(Clone, Copy, Debug, PartialEq, Eq)]
+enum Kind {
+    /// Splits into none.
+    Easy,
+    /// Stops, for want of an induction.
+    Stuck,
+    /// Is pushed. Its induction is stuck.
+    Lone,
+    /// Is pushed. Its induction is easy.
+    Late,
+    /// Is pushed. Its induction splits into two late ones.
+    Nest,
+    /// Splits into two late ones.
+    Twice,
+    /// Splits into a nest and a late one. What it reverts to is late.
+    Pair,
+}
+
+#[derive(Debug, Drop)]
+struct Goal {
+    name: GoalName,
+    kind: Kind,
+}
+
+/// A prover of such goals.
+#[derive(Clone, Copy)]
+struct Given {
+    refuses: bool,
+}
+
+impl Step for Given {
+    ghost use Rattle.std.specs.Prelude.{ℕ, [], ◌∷◌, true, false};
+    ghost use Rattle.std.proofs.Common.{rules, arith};
+    ghost use Rattle.ap_names.specs.Names.{Name, child_of};
+    ghost use Rattle.ap_walk.specs.declared.act.Reason.{Reason};
+    ghost use Rattle.ap_walk.specs.declared.act.Process.{Process};
+    ghost use Rattle.ap_walk.specs.declared.act.Stepped.{Stepped};
+    ghost use Rattle.ap_walk.specs.declared.act.Out.{Out};
+    ghost use Rattle.ap_walk.specs.Visits.{Tells, IsSplit, out_children};
+    ghost use Rattle.ap_list.specs.Lists.{Each};
+    ghost use Rattle.ap_tests.specs.declared.attempts.Goal.{Goal};
+    ghost use Rattle.ap_tests.specs.declared.attempts.Kind.{Kind};
+    ghost use Rattle.ap_tests.specs.declared.attempts.Kind.TheVariants.{Easy, Stuck, Lone, Late, Nest, Twice, Pair};
+
+    type Task = Goal;
+
+    ghost step_of = { λ goal. elim goal.kind as (λ _. Stepped Goal) [
+      | Easy ↦ record { act = record { process = Process.Simplify; missed = false; limited = false }; out = Out.Split [] }
+      | Stuck ↦ record { act = record { process = Process.Stop; missed = true; limited = false }; out = Out.Stop Reason.NoScheme }
+      | Lone ↦ record { act = record { process = Process.Push; missed = true; limited = false }; out = Out.Push }
+      | Late ↦ record { act = record { process = Process.Push; missed = true; limited = false }; out = Out.Push }
+      | Nest ↦ record { act = record { process = Process.Push; missed = true; limited = false }; out = Out.Push }
+      | Twice ↦ record { act = record { process = Process.Simplify; missed = false; limited = false }; out = Out.Split (record { name = child_of goal.name 2; kind = Late } ∷ record { name = child_of goal.name 1; kind = Late } ∷ []) }
+      | Pair ↦ record { act = record { process = Process.Simplify; missed = false; limited = false }; out = Out.Split (record { name = child_of goal.name 2; kind = Nest } ∷ record { name = child_of goal.name 1; kind = Late } ∷ []) }
+    ] };
+
+    ghost good = { λ _. Unit {0} };
+
+    ghost name = { λ goal. goal.name };
+
+    ghost depth = { λ goal. elim goal.kind as (λ _. ℕ) [ Easy ↦ 0 | Stuck ↦ 0 | Lone ↦ 0 | Late ↦ 0 | Nest ↦ 0 | Twice ↦ 1 | Pair ↦ 1 ] };
+
+    ghost tells = { λ goal. Prim.search rules };
+
+    ghost deeper = { λ goal. Prim.grind arith };
+
+    ghost whole = { λ _ _ _. tt };
+
+    fn step(&self, alloc: Global, task: &Goal) -> Result<Stepped<Goal>, NoMemory> {
+        match task.kind {
+            Kind::Easy => Ok(split(Seq::new(alloc))),
+            Kind::Stuck => Ok(missed(Process::Stop, Out::Stop(Reason::NoScheme))),
+            Kind::Lone | Kind::Late | Kind::Nest => Ok(missed(Process::Push, Out::Push)),
+            Kind::Twice => Ok(split(children(alloc, task, Kind::Late)?)),
+            Kind::Pair => Ok(split(children(alloc, task, Kind::Nest)?)),
+        }
+    }
+
+    fn copy_task(&self, alloc: Global, task: &Goal) -> Result<Goal, NoMemory> {
+        let name = task.name.copy(alloc)?;
+        let kind = task.kind;
+        Ok(Goal { name, kind })
+    }
+
+    fn same_task(&self, a: &Goal, b: &Goal) -> bool {
+        a.kind == b.kind && same_name(&a.name, &b.name)
+    }
+
+    fn name_of(&self, alloc: Global, task: &Goal) -> Result<GoalName, NoMemory> {
+        task.name.copy(alloc)
+    }
+}
+
+impl Prover for Given {
+    ghost use Rattle.std.specs.Prelude.{ℕ, refl};
+    ghost use Rattle.ap_names.specs.Names.{pushed_of};
+    ghost use Rattle.ap_tests.specs.declared.attempts.Kind.{Kind};
+    ghost use Rattle.ap_tests.specs.declared.attempts.Kind.TheVariants.{Easy, Stuck, Lone, Late, Nest, Twice, Pair};
+
+    ghost inducted = { λ goal k. record { name = pushed_of goal.name k; kind = elim goal.kind as (λ _. Kind) [ Easy ↦ Easy | Stuck ↦ Stuck | Lone ↦ Stuck | Late ↦ Easy | Nest ↦ Twice | Twice ↦ Twice | Pair ↦ Pair ] } };
+
+    ghost original_of = { λ root. record { name = root.name; kind = Late } };
+
+    ghost refuses_induction = { λ given. given.refuses };
+
+    ghost named = { λ _ _ _. refl };
+
+    ghost original_named = { λ _. refl };
+
+    ghost by_induction = { λ _ _ _ _. tt };
+
+    ghost by_original = { λ _ _. tt };
+
+    fn induct_task(&self, alloc: Global, task: &Goal, k: u32) -> Result<Goal, NoMemory> {
+        let name = task.name.pushed(alloc, k)?;
+        match task.kind {
+            Kind::Lone => Ok(Goal {
+                name,
+                kind: Kind::Stuck,
+            }),
+            Kind::Late => Ok(Goal {
+                name,
+                kind: Kind::Easy,
+            }),
+            Kind::Nest => Ok(Goal {
+                name,
+                kind: Kind::Twice,
+            }),
+            Kind::Easy | Kind::Stuck | Kind::Twice | Kind::Pair => Ok(Goal {
+                name,
+                kind: task.kind,
+            }),
+        }
+    }
+
+    fn original(&self, alloc: Global, root: &Goal) -> Result<Goal, NoMemory> {
+        let name = root.name.copy(alloc)?;
+        Ok(Goal {
+            name,
+            kind: Kind::Late,
+        })
+    }
+
+    fn do_not_induct(&self) -> bool {
+        self.refuses
+    }
+}
+
+/// The two children of a goal.
+fn children(alloc: Global, goal: &Goal, first: Kind) -> Result<Seq<Goal>, NoMemory>
+    ensures { IfOk result (λ goals. goals ≡ record { name = child_of goal.now.name 2; kind = first } ∷ record { name = child_of goal.now.name 1; kind = Kind.Late } ∷ []) }
+{
+    let mut goals = Seq::new(alloc);
+    goals.push(Goal {
+        name: goal.name.child(alloc, 2)?,
+        kind: first,
+    })?;
+    goals.push(Goal {
+        name: goal.name.child(alloc, 1)?,
+        kind: Kind::Late,
+    })?;
+    Ok(goals)
+}
+
+/// The step of a goal that splits.
+fn split(children: Seq<Goal>) -> Stepped<Goal>
+    ensures { result ≡ record { act = record { process = Process.Simplify; missed = false; limited = false }; out = Out.Split children } }
+{
+    Stepped {
+        act: Act {
+            process: Process::Simplify,
+            missed: false,
+            limited: false,
+        },
+        out: Out::Split(children),
+    }
+}
+
+/// The step of a goal that no process changed.
+fn missed(process: Process, out: Out<Goal>) -> Stepped<Goal>
+    ensures { result ≡ record { act = record { process = process; missed = true; limited = false }; out = out } }
+{
+    Stepped {
+        act: Act {
+            process,
+            missed: true,
+            limited: false,
+        },
+        out,
+    }
+}
+
+/// The name `Goal`.
+fn root_name(alloc: Global) -> GoalName {
+    GoalName {
+        induction: Seq::new(alloc),
+        case: None,
+        path: Seq::new(alloc),
+        primes: 0,
+    }
+}
+
+/// The rule of the first walk.
+fn first(otf: bool, goal_limit: u32) -> Rule
+    requires low { 1 ≤ goal_limit }
+    requires high { goal_limit ≤ 200002 }
+{
+    Rule {
+        initial: true,
+        otf,
+        goal_limit,
+    }
+}
+
+/// What is expected of a walk: the name at which it begins, its number of marks, and its end.
+type Row = (&'static [u8], usize, End);
+
+/// Compares an attempt with what is expected.
+fn expect_attempt(
+    rt: &impl Abort,
+    alloc: Global,
+    done: &Attempt<Goal>,
+    verdict: Verdict,
+    rows: &[Row],
+) -> Result<(), NoMemory> {
+    assert_eq!(rt; done.verdict, verdict, "the verdict");
+    assert_eq!(rt; done.walks.len(), rows.len(), "walks");
+    for (walked, row) in done.walks.as_slice().iter().zip(rows.iter()) {
+        let mut names = Seq::new(alloc);
+        for mark in walked.marks.as_slice() {
+            names.push(mark.task.name.print(alloc)?)?;
+        }
+        assert_eq!(rt; names.len(), row.1, "marks");
+        if let Some(name) = names.get(0) {
+            assert_eq!(rt; name.as_slice(), row.0, "the name");
+        }
+        assert_eq!(rt; walked.end, row.2, "the end");
+    }
+    Ok(())
+}
+
+/// Makes an attempt on a goal of a kind, and compares it with what is expected.
+fn expect(
+    rt: &impl Abort,
+    alloc: Global,
+    kind: Kind,
+    refuses: bool,
+    rule: Rule,
+    verdict: Verdict,
+    rows: &[Row],
+) -> Result<(), NoMemory> {
+    let root = Goal {
+        name: root_name(alloc),
+        kind,
+    };
+    let done = prove(alloc, &Given { refuses }, root, rule)?;
+    expect_attempt(rt, alloc, &done, verdict, rows)
+}
+
+const NONE_LEFT: Verdict = Verdict::Failed(Reason::GoalLimit);
+
+#[test]
+fn a_second_push_reverts_to_the_original(rt: HostRuntime) -> Result<(), Fail> {
+    let mut rows: [Row; 2] = [(b"Goal", 3, End::Revert), (b"*1", 1, End::Through)];
+    expect(
+        &rt,
+        rt.alloc(),
+        Kind::Twice,
+        false,
+        first(false, 10),
+        Verdict::Qed,
+        &rows,
+    )?;
+    expect(
+        &rt,
+        rt.alloc(),
+        Kind::Twice,
+        false,
+        first(false, 5),
+        Verdict::Qed,
+        &rows,
+    )?;
+    rows[1].2 = End::Limit;
+    expect(
+        &rt,
+        rt.alloc(),
+        Kind::Twice,
+        false,
+        first(false, 4),
+        NONE_LEFT,
+        &rows,
+    )?;
+    Ok(())
+}
+
+#[test]
+fn a_push_without_an_induction_fails(rt: HostRuntime) -> Result<(), Fail> {
+    let rows: &[Row] = &[
+        (b"Goal", 1, End::Through),
+        (b"*1", 1, End::Stopped(Reason::NoScheme)),
+    ];
+    let verdict = Verdict::Failed(Reason::NoScheme);
+    expect(
+        &rt,
+        rt.alloc(),
+        Kind::Lone,
+        false,
+        first(false, 10),
+        verdict,
+        rows,
+    )?;
+    let rows: &[Row] = &[(b"Goal", 1, End::Stopped(Reason::NoScheme))];
+    expect(
+        &rt,
+        rt.alloc(),
+        Kind::Stuck,
+        false,
+        first(false, 10),
+        verdict,
+        rows,
+    )?;
+    Ok(())
+}
+
+#[test]
+fn goals_run_out(rt: HostRuntime) -> Result<(), Fail> {
+    let rows: &[Row] = &[(b"Goal", 1, End::Limit)];
+    expect(
+        &rt,
+        rt.alloc(),
+        Kind::Twice,
+        false,
+        first(false, 1),
+        NONE_LEFT,
+        rows,
+    )?;
+    expect(
+        &rt,
+        rt.alloc(),
+        Kind::Easy,
+        false,
+        first(false, 1),
+        NONE_LEFT,
+        rows,
+    )?;
+    let rows: &[Row] = &[(b"Goal", 3, End::Revert)];
+    expect(
+        &rt,
+        rt.alloc(),
+        Kind::Twice,
+        false,
+        first(false, 3),
+        NONE_LEFT,
+        rows,
+    )?;
+    let rows: &[Row] = &[(b"Goal", 1, End::Through), (b"*1", 1, End::Limit)];
+    expect(
+        &rt,
+        rt.alloc(),
+        Kind::Late,
+        false,
+        first(false, 2),
+        NONE_LEFT,
+        rows,
+    )?;
+    Ok(())
+}
+
+#[test]
+fn a_hint_forbids_induction(rt: HostRuntime) -> Result<(), Fail> {
+    let verdict = Verdict::Failed(Reason::DoNotInduct);
+    let rows: &[Row] = &[(b"Goal", 1, End::Through)];
+    expect(
+        &rt,
+        rt.alloc(),
+        Kind::Late,
+        true,
+        first(false, 10),
+        verdict,
+        rows,
+    )?;
+    expect(
+        &rt,
+        rt.alloc(),
+        Kind::Easy,
+        true,
+        first(false, 10),
+        Verdict::Qed,
+        rows,
+    )?;
+    let rows: &[Row] = &[(b"Goal", 3, End::Revert)];
+    expect(
+        &rt,
+        rt.alloc(),
+        Kind::Twice,
+        true,
+        first(false, 3),
+        verdict,
+        rows,
+    )?;
+    Ok(())
+}
+
+#[test]
+fn pushes_of_a_pushed_goal_come_before_the_rest(rt: HostRuntime) -> Result<(), Fail> {
+    let mut rows: [Row; 5] = [
+        (b"Goal", 3, End::Through),
+        (b"*1", 3, End::Through),
+        (b"*1.1", 1, End::Through),
+        (b"*1.2", 1, End::Through),
+        (b"*2", 1, End::Through),
+    ];
+    expect(
+        &rt,
+        rt.alloc(),
+        Kind::Pair,
+        false,
+        first(true, 10),
+        Verdict::Qed,
+        &rows,
+    )?;
+    rows[4].2 = End::Limit;
+    expect(
+        &rt,
+        rt.alloc(),
+        Kind::Pair,
+        false,
+        first(true, 9),
+        NONE_LEFT,
+        &rows,
+    )?;
+    Ok(())
+}
+
+#[test]
+fn a_push_is_named_by_its_number(rt: HostRuntime) -> Result<(), Fail> {
+    let alloc = rt.alloc();
+    let name = root_name(alloc).pushed(alloc, 1)?.child(alloc, 3)?;
+    let goal = Goal {
+        name,
+        kind: Kind::Late,
+    };
+    let name = push_name(alloc, &Given { refuses: false }, &goal, 2)?;
+    assert_eq!(rt; name.print(alloc)?.as_slice(), b"*1.2".as_slice());
+    Ok(())
+}

@@ -1,0 +1,21 @@
+use ap_list::{Boxed, Bytes, NoMemory};
+use std::alloc::Global;
+use std::test::Fail;
+
+/// A list made by each call that adds to one.
+fn made(alloc: Global) -> Result<Bytes, NoMemory> {
+    let mut bytes = Bytes::from_slice(alloc, b"ca")?;
+    bytes.push(b'r')?;
+    bytes.extend(b" ni")?;
+    bytes.append(Bytes::from_slice(alloc, b"l")?)?;
+    Ok(bytes)
+}
+
+#[test]
+fn lists_and_boxes_hold_what_they_are_given(rt: HostRuntime) -> Result<(), Fail> {
+    let bytes = made(rt.alloc())?;
+    assert_eq!(rt; bytes.as_slice(), b"car nil".as_slice());
+    let boxed = Boxed::new(rt.alloc(), bytes)?;
+    assert_eq!(rt; boxed.get().as_slice(), b"car nil".as_slice());
+    Ok(())
+}
