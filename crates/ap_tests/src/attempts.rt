@@ -1,15 +1,15 @@
 ghost use Rattle.std.specs.Prelude.{◌≡◌, ◌≤◌, ◌∷◌, [], IfOk, true, false};
 ghost use Rattle.ap_names.specs.Names.{child_of};
 
+use crate::expect::expect;
 use ap_attempt::*;
 use ap_names::{GoalName, same_name};
-use ap_walk::{Act, End, Out, Process, Reason, Rule, Step, Stepped};
-use std::alloc::Global;
+use ap_walk::{Act, End, Out, Process, Reason, Rule, Step, Stepped, Walked};
+use std::alloc::{AllocError, Global};
 use std::process::Abort;
-use std::test::Fail;
 
 /// What comes of a goal.
-#[derive(Clone, Copy, Debug, PartialEq, Eq)]
+#[derive(Clone, Copy, PartialEq)]
 enum Kind {
     /// Splits into none.
     Easy,
@@ -27,7 +27,7 @@ enum Kind {
     Pair,
 }
 
-#[derive(Debug, Drop)]
+#[derive(Drop)]
 struct Goal {
     name: GoalName,
     kind: Kind,
@@ -224,234 +224,227 @@ fn first(otf: bool, goal_limit: u32) -> Rule
 }
 
 /// What is expected of a walk: the name at which it begins, its number of marks, and its end.
-type Row = (&'static [u8], usize, End);
+type Walk = (&'static str, usize, End);
 
-/// Compares an attempt with what is expected.
-fn expect_attempt(
+/// Compares a walk with what is expected.
+fn expect_walk(
     rt: &impl Abort,
     alloc: Global,
-    done: &Attempt<Goal>,
-    verdict: Verdict,
-    rows: &[Row],
+    walked: &Walked<Goal>,
+    wanted: &Walk,
 ) -> Result<(), NoMemory> {
-    assert_eq!(rt; done.verdict, verdict, "the verdict");
-    assert_eq!(rt; done.walks.len(), rows.len(), "walks");
-    for (walked, row) in done.walks.as_slice().iter().zip(rows.iter()) {
-        let mut names = Seq::new(alloc);
-        for mark in walked.marks.as_slice() {
-            names.push(mark.task.name.print(alloc)?)?;
-        }
-        assert_eq!(rt; names.len(), row.1, "marks");
-        if let Some(name) = names.get(0) {
-            assert_eq!(rt; name.as_slice(), row.0, "the name");
-        }
-        assert_eq!(rt; walked.end, row.2, "the end");
+    let marks = walked.marks.as_slice();
+    assert_eq!(rt; (marks.len(), walked.end), (wanted.1, wanted.2));
+    if let [mark, ..] = marks {
+        expect(rt, mark.task.name.print(alloc)?.as_slice(), wanted.0);
     }
     Ok(())
 }
 
-/// Makes an attempt on a goal of a kind, and compares it with what is expected.
-fn expect(
+/// Compares the walks of an attempt with what is expected.
+fn expect_walks(
     rt: &impl Abort,
     alloc: Global,
-    kind: Kind,
-    refuses: bool,
-    rule: Rule,
-    verdict: Verdict,
-    rows: &[Row],
+    walks: &[Walked<Goal>],
+    wanted: &[Walk],
 ) -> Result<(), NoMemory> {
-    let root = Goal {
-        name: root_name(alloc),
-        kind,
-    };
-    let done = prove(alloc, &Given { refuses }, root, rule)?;
-    expect_attempt(rt, alloc, &done, verdict, rows)
+    assert!(rt; walks.len() == wanted.len(), "walks");
+    for (walked, row) in walks.iter().zip(wanted) {
+        expect_walk(rt, alloc, walked, row)?;
+    }
+    Ok(())
+}
+
+/// An attempt: the kind of its goal, whether no induction may be made, and its first rule's switch and limit.
+#[derive(Clone, Copy)]
+struct Trial(Kind, bool, bool, u32);
+
+/// Makes an attempt.
+fn attempt(alloc: Global, trial: Trial) -> Result<Attempt<Goal>, NoMemory> {
+    let Trial(kind, refuses, otf, limit) = trial;
+    if limit < 1 || limit > 200002 {
+        return Err(AllocError);
+    }
+    let name = root_name(alloc);
+    prove(
+        alloc,
+        &Given { refuses },
+        Goal { name, kind },
+        first(otf, limit),
+    )
+}
+
+/// What is expected of an attempt: its verdict, and its walks.
+type Row = (Trial, Verdict, &'static [Walk]);
+
+/// Compares an attempt with what is expected.
+fn expect_row(
+    rt: &impl Abort,
+    alloc: Global,
+    trial: Trial,
+    verdict: Verdict,
+    walks: &[Walk],
+) -> Result<(), NoMemory> {
+    let done = attempt(alloc, trial)?;
+    assert!(rt; done.verdict == verdict, "the verdict");
+    expect_walks(rt, alloc, done.walks.as_slice(), walks)
+}
+
+/// Compares attempts with what is expected.
+fn expect_rows(rt: &impl Abort, alloc: Global, rows: &[Row]) -> Result<(), NoMemory> {
+    for (trial, verdict, walks) in rows {
+        expect_row(rt, alloc, *trial, *verdict, *walks)?;
+    }
+    Ok(())
 }
 
 const NONE_LEFT: Verdict = Verdict::Failed(Reason::GoalLimit);
 
-#[test]
-fn a_second_push_reverts_to_the_original(rt: HostRuntime) -> Result<(), Fail> {
-    let mut rows: [Row; 2] = [(b"Goal", 3, End::Revert), (b"*1", 1, End::Through)];
-    expect(
-        &rt,
-        rt.alloc(),
-        Kind::Twice,
-        false,
-        first(false, 10),
+const NO_SCHEME: Verdict = Verdict::Failed(Reason::NoScheme);
+
+const FORBIDDEN: Verdict = Verdict::Failed(Reason::DoNotInduct);
+
+const REVERTS: &[Row] = &[
+    (
+        Trial(Kind::Twice, false, false, 10),
         Verdict::Qed,
-        &rows,
-    )?;
-    expect(
-        &rt,
-        rt.alloc(),
-        Kind::Twice,
-        false,
-        first(false, 5),
+        &[("Goal", 3, End::Revert), ("*1", 1, End::Through)],
+    ),
+    (
+        Trial(Kind::Twice, false, false, 5),
         Verdict::Qed,
-        &rows,
-    )?;
-    rows[1].2 = End::Limit;
-    expect(
-        &rt,
-        rt.alloc(),
-        Kind::Twice,
-        false,
-        first(false, 4),
+        &[("Goal", 3, End::Revert), ("*1", 1, End::Through)],
+    ),
+    (
+        Trial(Kind::Twice, false, false, 4),
         NONE_LEFT,
-        &rows,
-    )?;
-    Ok(())
-}
+        &[("Goal", 3, End::Revert), ("*1", 1, End::Limit)],
+    ),
+];
 
 #[test]
-fn a_push_without_an_induction_fails(rt: HostRuntime) -> Result<(), Fail> {
-    let rows: &[Row] = &[
-        (b"Goal", 1, End::Through),
-        (b"*1", 1, End::Stopped(Reason::NoScheme)),
-    ];
-    let verdict = Verdict::Failed(Reason::NoScheme);
-    expect(
-        &rt,
-        rt.alloc(),
-        Kind::Lone,
-        false,
-        first(false, 10),
-        verdict,
-        rows,
-    )?;
-    let rows: &[Row] = &[(b"Goal", 1, End::Stopped(Reason::NoScheme))];
-    expect(
-        &rt,
-        rt.alloc(),
-        Kind::Stuck,
-        false,
-        first(false, 10),
-        verdict,
-        rows,
-    )?;
-    Ok(())
+fn a_second_push_reverts_to_the_original(rt: HostRuntime) -> Result<(), NoMemory> {
+    expect_rows(&rt, rt.alloc(), REVERTS)
 }
 
-#[test]
-fn goals_run_out(rt: HostRuntime) -> Result<(), Fail> {
-    let rows: &[Row] = &[(b"Goal", 1, End::Limit)];
-    expect(
-        &rt,
-        rt.alloc(),
-        Kind::Twice,
-        false,
-        first(false, 1),
-        NONE_LEFT,
-        rows,
-    )?;
-    expect(
-        &rt,
-        rt.alloc(),
-        Kind::Easy,
-        false,
-        first(false, 1),
-        NONE_LEFT,
-        rows,
-    )?;
-    let rows: &[Row] = &[(b"Goal", 3, End::Revert)];
-    expect(
-        &rt,
-        rt.alloc(),
-        Kind::Twice,
-        false,
-        first(false, 3),
-        NONE_LEFT,
-        rows,
-    )?;
-    let rows: &[Row] = &[(b"Goal", 1, End::Through), (b"*1", 1, End::Limit)];
-    expect(
-        &rt,
-        rt.alloc(),
-        Kind::Late,
-        false,
-        first(false, 2),
-        NONE_LEFT,
-        rows,
-    )?;
-    Ok(())
-}
+const STUCK: &[Row] = &[
+    (
+        Trial(Kind::Lone, false, false, 10),
+        NO_SCHEME,
+        &[
+            ("Goal", 1, End::Through),
+            ("*1", 1, End::Stopped(Reason::NoScheme)),
+        ],
+    ),
+    (
+        Trial(Kind::Stuck, false, false, 10),
+        NO_SCHEME,
+        &[("Goal", 1, End::Stopped(Reason::NoScheme))],
+    ),
+];
 
 #[test]
-fn a_hint_forbids_induction(rt: HostRuntime) -> Result<(), Fail> {
-    let verdict = Verdict::Failed(Reason::DoNotInduct);
-    let rows: &[Row] = &[(b"Goal", 1, End::Through)];
-    expect(
-        &rt,
-        rt.alloc(),
-        Kind::Late,
-        true,
-        first(false, 10),
-        verdict,
-        rows,
-    )?;
-    expect(
-        &rt,
-        rt.alloc(),
-        Kind::Easy,
-        true,
-        first(false, 10),
+fn a_push_without_an_induction_fails(rt: HostRuntime) -> Result<(), NoMemory> {
+    expect_rows(&rt, rt.alloc(), STUCK)
+}
+
+const LIMITS: &[Row] = &[
+    (
+        Trial(Kind::Twice, false, false, 1),
+        NONE_LEFT,
+        &[("Goal", 1, End::Limit)],
+    ),
+    (
+        Trial(Kind::Easy, false, false, 1),
+        NONE_LEFT,
+        &[("Goal", 1, End::Limit)],
+    ),
+    (
+        Trial(Kind::Twice, false, false, 3),
+        NONE_LEFT,
+        &[("Goal", 3, End::Revert)],
+    ),
+    (
+        Trial(Kind::Late, false, false, 2),
+        NONE_LEFT,
+        &[("Goal", 1, End::Through), ("*1", 1, End::Limit)],
+    ),
+];
+
+#[test]
+fn goals_run_out(rt: HostRuntime) -> Result<(), NoMemory> {
+    expect_rows(&rt, rt.alloc(), LIMITS)
+}
+
+const HINTS: &[Row] = &[
+    (
+        Trial(Kind::Late, true, false, 10),
+        FORBIDDEN,
+        &[("Goal", 1, End::Through)],
+    ),
+    (
+        Trial(Kind::Easy, true, false, 10),
         Verdict::Qed,
-        rows,
-    )?;
-    let rows: &[Row] = &[(b"Goal", 3, End::Revert)];
-    expect(
-        &rt,
-        rt.alloc(),
-        Kind::Twice,
-        true,
-        first(false, 3),
-        verdict,
-        rows,
-    )?;
-    Ok(())
-}
+        &[("Goal", 1, End::Through)],
+    ),
+    (
+        Trial(Kind::Twice, true, false, 3),
+        FORBIDDEN,
+        &[("Goal", 3, End::Revert)],
+    ),
+];
 
 #[test]
-fn pushes_of_a_pushed_goal_come_before_the_rest(rt: HostRuntime) -> Result<(), Fail> {
-    let mut rows: [Row; 5] = [
-        (b"Goal", 3, End::Through),
-        (b"*1", 3, End::Through),
-        (b"*1.1", 1, End::Through),
-        (b"*1.2", 1, End::Through),
-        (b"*2", 1, End::Through),
-    ];
-    expect(
-        &rt,
-        rt.alloc(),
-        Kind::Pair,
-        false,
-        first(true, 10),
+fn a_hint_forbids_induction(rt: HostRuntime) -> Result<(), NoMemory> {
+    expect_rows(&rt, rt.alloc(), HINTS)
+}
+
+const ORDERS: &[Row] = &[
+    (
+        Trial(Kind::Pair, false, true, 10),
         Verdict::Qed,
-        &rows,
-    )?;
-    rows[4].2 = End::Limit;
-    expect(
-        &rt,
-        rt.alloc(),
-        Kind::Pair,
-        false,
-        first(true, 9),
+        &[
+            ("Goal", 3, End::Through),
+            ("*1", 3, End::Through),
+            ("*1.1", 1, End::Through),
+            ("*1.2", 1, End::Through),
+            ("*2", 1, End::Through),
+        ],
+    ),
+    (
+        Trial(Kind::Pair, false, true, 9),
         NONE_LEFT,
-        &rows,
-    )?;
-    Ok(())
+        &[
+            ("Goal", 3, End::Through),
+            ("*1", 3, End::Through),
+            ("*1.1", 1, End::Through),
+            ("*1.2", 1, End::Through),
+            ("*2", 1, End::Limit),
+        ],
+    ),
+];
+
+#[test]
+fn pushes_of_a_pushed_goal_come_before_the_rest(rt: HostRuntime) -> Result<(), NoMemory> {
+    expect_rows(&rt, rt.alloc(), ORDERS)
+}
+
+/// The case 3 of the induction 1.
+fn case_name(alloc: Global) -> Result<GoalName, NoMemory> {
+    let pushed = root_name(alloc).pushed(alloc, 1)?;
+    pushed.child(alloc, 3)
+}
+
+/// The name of the push 2 of that case.
+fn case_push(alloc: Global) -> Result<GoalName, NoMemory> {
+    let name = case_name(alloc)?;
+    let kind = Kind::Late;
+    push_name(alloc, &Given { refuses: false }, &Goal { name, kind }, 2)
 }
 
 #[test]
-fn a_push_is_named_by_its_number(rt: HostRuntime) -> Result<(), Fail> {
-    let alloc = rt.alloc();
-    let name = root_name(alloc).pushed(alloc, 1)?.child(alloc, 3)?;
-    let goal = Goal {
-        name,
-        kind: Kind::Late,
-    };
-    let name = push_name(alloc, &Given { refuses: false }, &goal, 2)?;
-    assert_eq!(rt; name.print(alloc)?.as_slice(), b"*1.2".as_slice());
+fn a_push_is_named_by_its_number(rt: HostRuntime) -> Result<(), NoMemory> {
+    let name = case_push(rt.alloc())?;
+    expect(&rt, name.print(rt.alloc())?.as_slice(), "*1.2");
     Ok(())
 }

@@ -1,3 +1,4 @@
+use crate::expect::expect;
 use ap_list::{Boxed, Bytes, NoMemory};
 use std::alloc::Global;
 use std::test::Fail;
@@ -13,9 +14,8 @@ fn made(alloc: Global) -> Result<Bytes, NoMemory> {
 
 #[test]
 fn lists_and_boxes_hold_what_they_are_given(rt: HostRuntime) -> Result<(), Fail> {
-    let bytes = made(rt.alloc())?;
-    assert_eq!(rt; bytes.as_slice(), b"car nil".as_slice());
-    let boxed = Boxed::new(rt.alloc(), bytes)?;
-    assert_eq!(rt; boxed.get().as_slice(), b"car nil".as_slice());
+    expect(&rt, made(rt.alloc())?.as_slice(), "car nil");
+    let boxed = Boxed::new(rt.alloc(), made(rt.alloc())?)?;
+    expect(&rt, boxed.get().as_slice(), "car nil");
     Ok(())
 }

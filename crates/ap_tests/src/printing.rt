@@ -1,10 +1,10 @@
+use crate::expect::expect;
 use ap_print::{
     Bytes, Clause, NoMemory, Seq, Symbol, Term, Value, print_clause, print_term, print_value,
 };
 use ap_term::Boxed;
 use ap_value::acl2;
 use std::alloc::Global;
-use std::process::Abort;
 use std::test::Fail;
 
 fn cons(alloc: Global, first: Value, rest: Value) -> Result<Value, NoMemory> {
@@ -33,84 +33,134 @@ fn atom(alloc: Global, variable: &[u8]) -> Result<Term, NoMemory> {
     call(alloc, b"P", one(alloc, Term::Var(acl2(alloc, variable)?))?)
 }
 
-fn shows_value(rt: &impl Abort, alloc: Global, v: Value, text: &[u8]) -> Result<(), NoMemory> {
-    let printed = print_value(alloc, &v)?;
-    assert_eq!(rt; printed.as_slice(), text);
-    Ok(())
+/// What a symbol of this name prints as.
+fn symbol_text(alloc: Global, keyword: bool, name: &[u8]) -> Result<Bytes, NoMemory> {
+    let name = Bytes::from_slice(alloc, name)?;
+    print_value(alloc, &Value::Sym(Symbol { keyword, name }))
 }
 
-fn shows_symbol(rt: &impl Abort, alloc: Global, name: &[u8], text: &[u8]) -> Result<(), NoMemory> {
-    shows_value(rt, alloc, Value::Sym(acl2(alloc, name)?), text)
-}
-
-fn shows_term(rt: &impl Abort, alloc: Global, t: Term, text: &[u8]) -> Result<(), NoMemory> {
-    let printed = print_term(alloc, &t)?;
-    assert_eq!(rt; printed.as_slice(), text);
-    Ok(())
-}
-
-fn shows_clause(rt: &impl Abort, alloc: Global, c: Clause, text: &[u8]) -> Result<(), NoMemory> {
-    let printed = print_clause(alloc, &c)?;
-    assert_eq!(rt; printed.as_slice(), text);
-    Ok(())
-}
+/// Each row: whether a symbol is a keyword, its name, and what it prints as.
+const SYMBOLS: &[(bool, &[u8], &str)] = &[
+    (false, b"BINARY-+", "BINARY-+"),
+    (false, b"foo bar", "|foo bar|"),
+    (false, b"1", "|1|"),
+    (false, b"-1/2", "|-1/2|"),
+    (false, b"1.E5", "1.E5"),
+    (false, b"1+", "1+"),
+    (false, b"..", "|..|"),
+    (false, b"", "||"),
+    (false, b"A|B\\", "|A\\|B\\\\|"),
+    (true, b"1", ":1"),
+];
 
 #[test]
 fn symbols_that_are_not_read_back_stand_between_bars(rt: HostRuntime) -> Result<(), Fail> {
-    let alloc = rt.alloc();
-    shows_symbol(&rt, alloc, b"BINARY-+", b"BINARY-+")?;
-    shows_symbol(&rt, alloc, b"foo bar", b"|foo bar|")?;
-    shows_symbol(&rt, alloc, b"1", b"|1|")?;
-    shows_symbol(&rt, alloc, b"-1/2", b"|-1/2|")?;
-    shows_symbol(&rt, alloc, b"1.E5", b"1.E5")?;
-    shows_symbol(&rt, alloc, b"1+", b"1+")?;
-    shows_symbol(&rt, alloc, b"..", b"|..|")?;
-    shows_symbol(&rt, alloc, b"", b"||")?;
-    shows_symbol(&rt, alloc, b"A|B\\", b"|A\\|B\\\\|")?;
-    let key = Symbol {
-        keyword: true,
-        name: Bytes::from_slice(alloc, b"1")?,
-    };
-    shows_value(&rt, alloc, Value::Sym(key), b":1")?;
+    for (keyword, name, text) in SYMBOLS {
+        let printed = symbol_text(rt.alloc(), *keyword, *name)?;
+        expect(&rt, printed.as_slice(), *text);
+    }
     Ok(())
+}
+
+/// `(1 -2)`
+fn list(alloc: Global) -> Result<Value, NoMemory> {
+    let nil = Value::Sym(acl2(alloc, b"NIL")?);
+    let last = cons(alloc, Value::Int(-2), nil)?;
+    cons(alloc, Value::Int(1), last)
+}
+
+/// What a value of each kind prints as.
+const VALUES: &[&str] = &["#\\Space", "#\\a", "\"a\\\"b\\\\\"", "(1 -2)"];
+
+/// The value of a row.
+fn value(alloc: Global, row: usize) -> Result<Value, NoMemory> {
+    match row {
+        0 => Ok(Value::Chr(32)),
+        1 => Ok(Value::Chr(97)),
+        2 => Ok(Value::Str(Bytes::from_slice(alloc, b"a\"b\\")?)),
+        _ => list(alloc),
+    }
+}
+
+/// What the value of a row prints as.
+fn value_text(alloc: Global, row: usize) -> Result<Bytes, NoMemory> {
+    let v = value(alloc, row)?;
+    print_value(alloc, &v)
 }
 
 #[test]
 fn values_print_as_they_are_written(rt: HostRuntime) -> Result<(), Fail> {
-    let alloc = rt.alloc();
-    shows_value(&rt, alloc, Value::Chr(32), b"#\\Space")?;
-    shows_value(&rt, alloc, Value::Chr(97), b"#\\a")?;
-    let text = Bytes::from_slice(alloc, b"a\"b\\")?;
-    shows_value(&rt, alloc, Value::Str(text), b"\"a\\\"b\\\\\"")?;
-    let nil = Value::Sym(acl2(alloc, b"NIL")?);
-    let last = cons(alloc, Value::Int(-2), nil)?;
-    shows_value(&rt, alloc, cons(alloc, Value::Int(1), last)?, b"(1 -2)")?;
+    for (row, text) in VALUES.iter().enumerate() {
+        let printed = value_text(rt.alloc(), row)?;
+        expect(&rt, printed.as_slice(), *text);
+    }
     Ok(())
 }
 
-#[test]
-fn terms_and_clauses_print_as_lists(rt: HostRuntime) -> Result<(), Fail> {
-    let alloc = rt.alloc();
+/// `(BINARY-+ '1 'M)` of the greatest integer M.
+fn sum(alloc: Global) -> Result<Term, NoMemory> {
     let greatest = Term::Quote(Value::Int(i128::MAX));
-    let sum = two(alloc, Term::Quote(Value::Int(1)), greatest)?;
-    shows_term(
-        &rt,
-        alloc,
-        call(alloc, b"BINARY-+", sum)?,
-        b"(BINARY-+ '1 '170141183460469231731687303715884105727)",
-    )?;
+    let arguments = two(alloc, Term::Quote(Value::Int(1)), greatest)?;
+    call(alloc, b"BINARY-+", arguments)
+}
+
+/// `'(A . B)`
+fn pair(alloc: Global) -> Result<Term, NoMemory> {
     let a = Value::Sym(acl2(alloc, b"A")?);
-    let pair = cons(alloc, a, Value::Sym(acl2(alloc, b"B")?))?;
-    shows_term(&rt, alloc, Term::Quote(pair), b"'(A . B)")?;
-    shows_clause(&rt, alloc, Clause(Seq::new(alloc)), b"NIL")?;
-    shows_clause(
-        &rt,
-        alloc,
-        Clause(one(alloc, atom(alloc, b"X")?)?),
-        b"(P X)",
-    )?;
+    let b = Value::Sym(acl2(alloc, b"B")?);
+    Ok(Term::Quote(cons(alloc, a, b)?))
+}
+
+/// What the sum prints as, and the pair.
+const TERMS: &[&str] = &[
+    "(BINARY-+ '1 '170141183460469231731687303715884105727)",
+    "'(A . B)",
+];
+
+/// What the term of a row prints as.
+fn row_text(alloc: Global, row: usize) -> Result<Bytes, NoMemory> {
+    let term = if row == 0 { sum(alloc)? } else { pair(alloc)? };
+    print_term(alloc, &term)
+}
+
+#[test]
+fn terms_print_as_lists(rt: HostRuntime) -> Result<(), Fail> {
+    for (row, text) in TERMS.iter().enumerate() {
+        let printed = row_text(rt.alloc(), row)?;
+        expect(&rt, printed.as_slice(), *text);
+    }
+    Ok(())
+}
+
+/// `(NOT (P X))` and `(P Y)`
+fn both(alloc: Global) -> Result<Seq<Term>, NoMemory> {
     let negated = call(alloc, b"NOT", one(alloc, atom(alloc, b"X")?)?)?;
-    let both = two(alloc, negated, atom(alloc, b"Y")?)?;
-    shows_clause(&rt, alloc, Clause(both), b"(OR (NOT (P X)) (P Y))")?;
+    two(alloc, negated, atom(alloc, b"Y")?)
+}
+
+/// What a clause of so many literals prints as.
+const CLAUSES: &[&str] = &["NIL", "(P X)", "(OR (NOT (P X)) (P Y))"];
+
+/// The literals of a clause of so many.
+fn literals(alloc: Global, count: usize) -> Result<Seq<Term>, NoMemory> {
+    match count {
+        0 => Ok(Seq::new(alloc)),
+        1 => one(alloc, atom(alloc, b"X")?),
+        _ => both(alloc),
+    }
+}
+
+/// What the clause of so many literals prints as.
+fn clause_text(alloc: Global, count: usize) -> Result<Bytes, NoMemory> {
+    let clause = Clause(literals(alloc, count)?);
+    print_clause(alloc, &clause)
+}
+
+#[test]
+fn clauses_print_as_lists(rt: HostRuntime) -> Result<(), Fail> {
+    for (count, text) in CLAUSES.iter().enumerate() {
+        let printed = clause_text(rt.alloc(), count)?;
+        expect(&rt, printed.as_slice(), *text);
+    }
     Ok(())
 }

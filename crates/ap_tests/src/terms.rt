@@ -2,9 +2,8 @@ use ap_term::{
     Bytes, NoMemory, Seq, Steps, Term, Value, copy_symbols, copy_term, copy_terms, same_term, size,
     term_less,
 };
-use ap_value::acl2;
+use ap_value::{Symbol, acl2};
 use std::alloc::Global;
-use std::process::Abort;
 use std::test::Fail;
 
 /// `(f x 'n)`
@@ -16,7 +15,7 @@ fn call(alloc: Global, f: &[u8], n: i128) -> Result<Term, NoMemory> {
 }
 
 /// Each row: how many nodes its term has, and its place in the order of the rows' terms.
-const ROWS: [(u64, u32); 5] = [(1, 1), (4, 0), (3, 2), (3, 4), (3, 3)];
+const ROWS: &[(u64, u32)] = &[(1, 1), (4, 0), (3, 2), (3, 4), (3, 3)];
 
 /// The term of a row.
 fn term(alloc: Global, row: usize) -> Result<Term, NoMemory> {
@@ -29,36 +28,38 @@ fn term(alloc: Global, row: usize) -> Result<Term, NoMemory> {
     }
 }
 
-/// Compares a copy of one row's term with another row's.
-fn expect_order(
-    rt: &impl Abort,
-    alloc: Global,
-    i: usize,
-    j: usize,
-    comes_first: bool,
-) -> Result<(), NoMemory> {
-    let a = copy_term(alloc, &term(alloc, i)?)?;
+/// A copy of the term of a row.
+fn copied(alloc: Global, row: usize) -> Result<Term, NoMemory> {
+    let t = term(alloc, row)?;
+    copy_term(alloc, &t)
+}
+
+/// Whether terms are the same, and whether the first comes first.
+fn answers(a: &Term, b: &Term) -> (bool, bool) {
+    (same_term(a, b), term_less(a, b))
+}
+
+/// Whether a copy of one row's term is another row's term, and whether it comes first.
+fn compared(alloc: Global, i: usize, j: usize) -> Result<(bool, bool), NoMemory> {
+    let a = copied(alloc, i)?;
     let b = term(alloc, j)?;
-    assert_eq!(rt; same_term(&a, &b), i == j, "at {i} and {j}");
-    assert_eq!(rt; term_less(&a, &b), comes_first, "at {i} and {j}");
-    Ok(())
+    Ok(answers(&a, &b))
+}
+
+/// The nodes of a copy of a row's term.
+fn nodes(alloc: Global, row: usize) -> Result<Option<u64>, NoMemory> {
+    let t = copied(alloc, row)?;
+    Ok(size(&t))
 }
 
 #[test]
-fn terms_are_copied_compared_and_ordered(rt: HostRuntime) -> Result<(), Fail> {
-    for (i, (_, place)) in ROWS.iter().enumerate() {
+fn terms_are_copied_compared_and_counted(rt: HostRuntime) -> Result<(), Fail> {
+    for (i, (count, place)) in ROWS.iter().enumerate() {
+        assert!(rt; nodes(rt.alloc(), i)? == Some(*count), "at {i}");
         for (j, (_, other)) in ROWS.iter().enumerate() {
-            expect_order(&rt, rt.alloc(), i, j, *place < *other)?;
+            let found = compared(rt.alloc(), i, j)?;
+            assert!(rt; found == (i == j, place < other), "at {i} and {j}");
         }
-    }
-    Ok(())
-}
-
-#[test]
-fn terms_are_counted(rt: HostRuntime) -> Result<(), Fail> {
-    for (i, (nodes, _)) in ROWS.iter().enumerate() {
-        let again = copy_term(rt.alloc(), &term(rt.alloc(), i)?)?;
-        assert_eq!(rt; size(&again), Some(*nodes), "at {i}");
     }
     Ok(())
 }
@@ -71,22 +72,37 @@ fn pair(alloc: Global) -> Result<Seq<Term>, NoMemory> {
     Ok(terms)
 }
 
+/// Whether terms are the same.
+fn are_same(ts: &[Term], us: &[Term]) -> bool {
+    for (t, u) in ts.iter().zip(us) {
+        if !same_term(t, u) {
+            return false;
+        }
+    }
+    ts.len() == us.len()
+}
+
 #[test]
 fn lists_of_terms_are_copied(rt: HostRuntime) -> Result<(), Fail> {
     let pair = pair(rt.alloc())?;
     let terms = copy_terms(rt.alloc(), pair.as_slice())?;
-    assert_eq!(rt; terms.len(), 2);
-    for (a, b) in terms.as_slice().iter().zip(pair.as_slice()) {
-        assert!(rt; same_term(a, b));
-    }
+    assert!(rt; terms.len() == 2 && are_same(terms.as_slice(), pair.as_slice()));
     Ok(())
+}
+
+/// `x` and `y`
+fn names(alloc: Global) -> Result<Seq<Symbol>, NoMemory> {
+    let mut names = Seq::new(alloc);
+    names.push(acl2(alloc, b"X")?)?;
+    names.push(acl2(alloc, b"Y")?)?;
+    Ok(names)
 }
 
 #[test]
 fn lists_of_symbols_are_copied(rt: HostRuntime) -> Result<(), Fail> {
-    let names = [acl2(rt.alloc(), b"X")?, acl2(rt.alloc(), b"Y")?];
+    let names = names(rt.alloc())?;
     let symbols = copy_symbols(rt.alloc(), names.as_slice())?;
-    assert!(rt; symbols.as_slice() == names.as_slice());
+    assert!(rt; symbols.len() == 2 && symbols.as_slice() == names.as_slice());
     Ok(())
 }
 

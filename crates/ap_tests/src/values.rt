@@ -1,8 +1,8 @@
+use crate::expect::expect;
 use ap_value::{
     Boxed, Bytes, NoMemory, Symbol, Value, acl2_count, copy, copy_bytes, copy_symbol, nodes, same,
 };
 use std::alloc::Global;
-use std::process::Abort;
 use std::test::Fail;
 
 fn text(alloc: Global, codes: &[u8]) -> Result<Value, NoMemory> {
@@ -50,7 +50,7 @@ enum Made {
 }
 
 /// Each row: what a value is made of, its nodes, and its `acl2-count`.
-const ROWS: [(Made, u64, u128); 8] = [
+const ROWS: &[(Made, u64, u128)] = &[
     (Made::Int(-3), 1, 3),
     (
         Made::Int(i128::MIN),
@@ -85,46 +85,69 @@ fn value(alloc: Global, made: Made) -> Result<Value, NoMemory> {
     }
 }
 
-/// Compares a copy of a value with it and with its counts.
-fn expect_counts(rt: &impl Abort, v: &Value, again: &Value, size: u64, count: u128) {
-    assert!(rt; same(v, again));
-    assert_eq!(rt; nodes(again), Some(size));
-    assert_eq!(rt; acl2_count(again), Some(count));
-    assert!(rt; !same(v, &Value::Chr(97)));
+/// Whether a value's copy is the same, the copy's counts, and whether the value is the character `a`.
+type Counts = (bool, Option<u64>, Option<u128>, bool);
+
+fn counts(v: &Value, again: &Value) -> Counts {
+    let is_a = same(v, &Value::Chr(97));
+    (same(v, again), nodes(again), acl2_count(again), is_a)
+}
+
+fn counted(alloc: Global, made: Made) -> Result<Counts, NoMemory> {
+    let v = value(alloc, made)?;
+    let again = copy(alloc, &v)?;
+    Ok(counts(&v, &again))
 }
 
 #[test]
 fn values_are_copied_compared_and_counted(rt: HostRuntime) -> Result<(), Fail> {
     for (made, size, count) in ROWS {
-        let v = value(rt.alloc(), made)?;
-        let again = copy(rt.alloc(), &v)?;
-        expect_counts(&rt, &v, &again, size, count);
+        let found = counted(rt.alloc(), *made)?;
+        assert_eq!(rt; found, (true, Some(*size), Some(*count), false));
     }
     Ok(())
 }
 
+/// The keyword of the name `CAR`, or the text.
+fn other(alloc: Global, is_keyword: bool) -> Result<Value, NoMemory> {
+    if is_keyword {
+        symbol(alloc, true, b"CAR")
+    } else {
+        text(alloc, b"CAR")
+    }
+}
+
+/// Whether that is the symbol `CAR`.
+fn is_car(alloc: Global, is_keyword: bool) -> Result<bool, NoMemory> {
+    let other = other(alloc, is_keyword)?;
+    let car = symbol(alloc, false, b"CAR")?;
+    Ok(same(&car, &other))
+}
+
 #[test]
 fn a_symbol_is_no_keyword_and_no_text(rt: HostRuntime) -> Result<(), Fail> {
-    let car = symbol(rt.alloc(), false, b"CAR")?;
-    let key = symbol(rt.alloc(), true, b"CAR")?;
-    assert!(rt; !same(&car, &key));
-    assert!(rt; !same(&car, &text(rt.alloc(), b"CAR")?));
+    assert!(rt; !is_car(rt.alloc(), true)? && !is_car(rt.alloc(), false)?);
     Ok(())
+}
+
+/// A copied name.
+fn name(alloc: Global) -> Result<Bytes, NoMemory> {
+    let name = Bytes::from_slice(alloc, b"CAR")?;
+    copy_bytes(alloc, &name)
+}
+
+/// A copied keyword of a copied name.
+fn key(alloc: Global) -> Result<Symbol, NoMemory> {
+    let name = name(alloc)?;
+    let keyword = true;
+    copy_symbol(alloc, &Symbol { keyword, name })
 }
 
 #[test]
 fn bytes_and_symbols_are_copied(rt: HostRuntime) -> Result<(), Fail> {
-    let alloc = rt.alloc();
-    let name = copy_bytes(alloc, &Bytes::from_slice(alloc, b"CAR")?)?;
-    assert_eq!(rt; name.as_slice(), b"CAR".as_slice());
-    let key = copy_symbol(
-        alloc,
-        &Symbol {
-            keyword: true,
-            name,
-        },
-    )?;
+    expect(&rt, name(rt.alloc())?.as_slice(), "CAR");
+    let key = key(rt.alloc())?;
+    expect(&rt, key.name.as_slice(), "CAR");
     assert!(rt; key.keyword);
-    assert_eq!(rt; key.name.as_slice(), b"CAR".as_slice());
     Ok(())
 }

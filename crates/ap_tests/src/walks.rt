@@ -4,10 +4,9 @@ use ap_names::GoalName;
 use ap_walk::*;
 use std::alloc::Global;
 use std::process::Abort;
-use std::test::Fail;
 
 /// A tree that is given as data, by its root.
-#[derive(Clone, Copy, Debug, PartialEq, Eq)]
+#[derive(Clone, Copy, PartialEq)]
 enum Tree {
     /// Splits into no tasks.
     Empty,
@@ -135,86 +134,97 @@ fn missed(process: Process, out: Out<Tree>) -> Stepped<Tree>
 
 const BOTH: &[(Tree, u32)] = &[(Tree::Pair, 2), (Tree::Left, 0), (Tree::Right, 0)];
 
+const FIRST: &[(Tree, u32)] = &[(Tree::Pair, 2)];
+
+const SECOND: &[(Tree, u32)] = &[(Tree::Pair, 2), (Tree::Left, 0)];
+
 const STOPPED: &[(Tree, u32)] = &[(Tree::Deep, 2), (Tree::Over, 1), (Tree::Halt, 2)];
 
 const EMPTY: &[(Tree, u32)] = &[(Tree::Empty, 0)];
 
-/// A rule with a limit that is far off.
-fn wide(initial: bool, otf: bool) -> Rule
-    ensures { result.goal_limit ≡ 10 }
+const STOP: End = End::Stopped(Reason::EmptyClause);
+
+/// The rule of a walk.
+fn rule(initial: bool, otf: bool, goal_limit: u32) -> Rule
+    ensures low { 1 ≤ result.goal_limit }
+    ensures high { result.goal_limit ≤ 200002 }
 {
     Rule {
         initial,
         otf,
-        goal_limit: 10,
+        goal_limit: goal_limit.clamp(1, 200002),
     }
 }
 
-/// A rule of an initial walk.
-fn narrow(goal_limit: u32) -> Rule
-    requires low { 1 ≤ goal_limit }
-    requires high { goal_limit ≤ 200002 }
-{
-    Rule {
-        initial: true,
-        otf: false,
-        goal_limit,
+/// Whether marks are of these tasks, each with its children.
+fn are_marks(marks: &[Mark<Tree>], wanted: &[(Tree, u32)]) -> bool {
+    for (mark, (task, children)) in marks.iter().zip(wanted) {
+        if mark.task != *task || mark.children != *children {
+            return false;
+        }
     }
+    marks.len() == wanted.len()
 }
 
-/// Compares a walk with what is expected: its tasks, each with its children, how many are pushed, the
-/// goals that were counted before it, and its end.
-fn expect_walk(
-    rt: &impl Abort,
-    walked: &Walked<Tree>,
-    expected: &[(Tree, u32)],
-    pushes: u32,
-    before: usize,
-    end: End,
-) {
-    let marks = walked.marks.as_slice();
-    assert_eq!(rt; marks.len(), expected.len(), "marks");
-    for (mark, wanted) in marks.iter().zip(expected.iter()) {
-        assert_eq!(rt; (mark.task, mark.children), *wanted, "a mark");
-    }
-    assert_eq!(rt; walked.tally.pushes, pushes, "pushes");
-    assert_eq!(rt;
-        (walked.tally.goals as usize).checked_sub(before),
-        Some(marks.len()),
-        "goals"
-    );
-    assert_eq!(rt; walked.end, end, "the end");
+/// What is expected of a walk: its tasks, each with its children, how many are pushed, and its end.
+type Row = (&'static [(Tree, u32)], u32, End);
+
+/// Compares a walk with what is expected, where so many goals were counted before it.
+fn expect_walk(rt: &impl Abort, walked: &Walked<Tree>, before: u32, row: &Row) {
+    let (wanted, pushes, end) = *row;
+    let are_marks = are_marks(walked.marks.as_slice(), wanted);
+    let goals = walked.tally.goals.checked_sub(before);
+    let count = u32::try_from(wanted.len()).ok();
+    let found = (are_marks, walked.tally.pushes, walked.end, goals);
+    assert_eq!(rt; found, (true, pushes, end, count));
 }
+
+/// Each row: a task, whether the walk is initial, its rule's switch and limit, and what is expected.
+const ROWS: &[(Tree, bool, bool, u32, Row)] = &[
+    (Tree::Pair, true, false, 10, (BOTH, 2, End::Revert)),
+    (Tree::Pair, false, false, 10, (BOTH, 2, End::Through)),
+    (Tree::Pair, true, true, 10, (BOTH, 2, End::Through)),
+    (Tree::Deep, true, false, 10, (STOPPED, 0, STOP)),
+    (Tree::Deep, true, false, 3, (STOPPED, 0, STOP)),
+    (Tree::Pair, true, false, 1, (FIRST, 0, End::Limit)),
+    (Tree::Pair, true, false, 2, (SECOND, 1, End::Limit)),
+    (Tree::Pair, true, false, 3, (BOTH, 2, End::Revert)),
+    (Tree::Empty, true, false, 2, (EMPTY, 0, End::Through)),
+];
 
 #[test]
-fn walks_end_at_a_stop_a_second_push_and_the_limit(rt: HostRuntime) -> Result<(), Fail> {
-    let stop = End::Stopped(Reason::EmptyClause);
-    let rows = [
-        (Tree::Pair, wide(true, false), BOTH, 2, End::Revert),
-        (Tree::Pair, wide(false, false), BOTH, 2, End::Through),
-        (Tree::Pair, wide(true, true), BOTH, 2, End::Through),
-        (Tree::Deep, wide(true, false), STOPPED, 0, stop),
-        (Tree::Deep, narrow(3), STOPPED, 0, stop),
-        (Tree::Pair, narrow(1), &BOTH[..1], 0, End::Limit),
-        (Tree::Pair, narrow(2), &BOTH[..2], 1, End::Limit),
-        (Tree::Pair, narrow(3), BOTH, 2, End::Revert),
-        (Tree::Empty, narrow(2), EMPTY, 0, End::Through),
-    ];
-    for (root, rule, marks, pushes, end) in rows {
-        let walked = serial(rt.alloc(), &Trees, &root, rule)?;
-        expect_walk(&rt, &walked, marks, pushes, 0, end);
+fn walks_end_at_a_stop_a_second_push_and_the_limit(rt: HostRuntime) -> Result<(), NoMemory> {
+    for (root, initial, otf, limit, row) in ROWS {
+        let walked = serial(rt.alloc(), &Trees, root, rule(*initial, *otf, *limit))?;
+        expect_walk(&rt, &walked, 0, row);
     }
     Ok(())
 }
 
-#[test]
-fn a_cut_counts_what_came_before(rt: HostRuntime) -> Result<(), Fail> {
-    let walked = serial(rt.alloc(), &Trees, &Tree::Pair, wide(false, false))?;
+/// The rule of a cut.
+fn wide(initial: bool) -> Rule
+    ensures { result.goal_limit ≡ 10 }
+{
+    Rule {
+        initial,
+        otf: false,
+        goal_limit: 10,
+    }
+}
+
+/// A walk through `Left` and `Right`, cut where four goals and a push came before it.
+fn cut(alloc: Global) -> Result<Walked<Tree>, NoMemory> {
+    let walked = serial(alloc, &Trees, &Tree::Pair, wide(false))?;
     let start = Tally {
         pushes: 1,
         goals: 4,
     };
-    let walked = cut_from(start, walked.marks, wide(true, false));
-    expect_walk(&rt, &walked, &BOTH[..2], 2, 4, End::Revert);
+    Ok(cut_from(start, walked.marks, wide(true)))
+}
+
+#[test]
+fn a_cut_counts_what_came_before(rt: HostRuntime) -> Result<(), NoMemory> {
+    let walked = cut(rt.alloc())?;
+    expect_walk(&rt, &walked, 4, &(SECOND, 2, End::Revert));
     Ok(())
 }
