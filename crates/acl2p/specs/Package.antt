@@ -1,5 +1,5 @@
 -- The first form of a book: (in-package "ACL2").
-use Rattle.std.specs.Prelude.{ℕ, Bool, false, ◌&&◌, List, [], ◌∷◌, Option, Some, None, codes}
+use Rattle.std.specs.Prelude.{ℕ, Bool, false, ◌&&◌, List, [], ◌∷◌, codes}
 use Rattle.ap_value.specs.Values.{bytes_eq}
 use Rattle.ap_reader.specs.declared.form.Form.{Form}
 use Rattle.ap_reader.specs.declared.form.Body.TheOpen.{Body-F}

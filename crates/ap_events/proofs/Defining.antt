@@ -4,7 +4,6 @@ use Rattle.ap_list.specs.Lists.{Each, is_distinct}
 use Rattle.ap_value.specs.declared.symbol.Symbol.{Symbol}
 use Rattle.ap_value.specs.Values.{V, symbol_eq}
 use Rattle.ap_value.proofs.Equals.{symbol_eq-true}
-use Rattle.ap_world.specs.declared.entry.Case.{Case}
 use Rattle.ap_world.specs.declared.entry.Mask.{Mask}
 use Rattle.ap_world.specs.declared.entry.Function.{Function}
 use Rattle.ap_world.specs.declared.entry.Entry.{Entry}
@@ -18,6 +17,7 @@ use Rattle.ap_world.proofs.Adding.{sound-define}
 use Rattle.ap_world.proofs.Extending.{not_taken}
 use Rattle.ap_translate.specs.Laws.{HasMacroFunctions}
 use Rattle.ap_events.specs.declared.definition.Translated.{Translated}
+use Rattle.ap_events.specs.Definitions.{function_with}
 
 -- the functions that macros stand for are among the given ones
 pub macro_functions : (D : Defs) → HasFunctions D → HasMacroFunctions D
@@ -39,25 +39,16 @@ not_given D n (f ∷ fs) h free = go (symbol_eq n f.name) refl (not_given D n fs
     go true q rest = absurd (no (sym (ap D (symbol_eq-true n f.name q) ∙ h.0) ∙ free))
     go false q rest = rest
 
--- what is asked of a function without a measure, as it is added
-abbrev with_mask : Symbol → Translated → Mask → Function
-with_mask n d k = record { name = n; formals = d.formals; body = d.body; measure = None; cases = []; mask = k }
-
-sound_plain : (W : List Entry) (n : Symbol) (d : Translated) (k : Mask) → Sound W → HasFunctions (function_of W) → has_name W n ≡ false
-    → is_distinct symbol_eq d.formals ≡ true → speaks_of d.formals d.body ≡ true → known (function_of W) d.body ≡ true
+-- a function without a measure whose mask has the types of its body keeps the world sound
+pub sound_definition : (W : List Entry) (n m : Symbol) (k : Mask) (d : Translated) → Sound W → HasFunctions (function_of W) → has_name W n ≡ false
+    → is_distinct symbol_eq d.formals ≡ true → speaks_of d.formals d.body ≡ true → known (function_of W) d.body ≡ true → m ≡ n
     → ((e : Env) (v : V) → HasValue (function_of W) d.body e v → Has k v)
-    → Sound (W ++ entry.Function (with_mask n d k) ∷ [])
-sound_plain W n d k sound functions free distinct speaks body_known kept =
-    let undefined : function_of W n ≡ None = ap as_function (not_taken W n free).1 in
-    sound-define W (with_mask n d k) sound free distinct speaks body_known refl refl
-    (subst (λ o. IfSome o (DefinedAlike (with_mask n d k))) (sym (not_given (function_of W) n ground_functions functions undefined)) tt)
-    (λ vs v l h. kept (zip d.formals vs) v h)
-
-pub sound_definition : (W : List Entry) (n m : Symbol) (cs : List Case) (k : Mask) (d : Translated) → Sound W → HasFunctions (function_of W) → has_name W n ≡ false
-    → is_distinct symbol_eq d.formals ≡ true → speaks_of d.formals d.body ≡ true → known (function_of W) d.body ≡ true
-    → m ≡ n → cs ≡ [] → ((e : Env) (v : V) → HasValue (function_of W) d.body e v → Has k v)
-    → Sound (W ++ entry.Function (record { name = m; formals = d.formals; body = d.body; measure = None; cases = cs; mask = k }) ∷ [])
-sound_definition W n m cs k d sound functions free distinct speaks body_known named none kept =
-    subst (λ f. Sound (W ++ entry.Function f ∷ []))
-    (λ i. record { name = sym named i; formals = d.formals; body = d.body; measure = None; cases = sym none i; mask = k })
-    (sound_plain W n d k sound functions free distinct speaks body_known kept)
+    → Sound (W ++ entry.Function (function_with m k d) ∷ [])
+sound_definition W n m k d sound functions free distinct speaks body_known named kept =
+    subst (λ x. Sound (W ++ entry.Function (function_with x k d) ∷ [])) (sym named)
+    (sound-define W (function_with n k d) sound free distinct speaks body_known refl refl
+    (subst (λ o. IfSome o (DefinedAlike (function_with n k d))) (sym (not_given (function_of W) n ground_functions functions undefined)) tt)
+    (λ vs v l h. kept (zip d.formals vs) v h))
+  where
+    undefined : function_of W n ≡ None
+    undefined = ap as_function (not_taken W n free).1

@@ -7,9 +7,11 @@ use Rattle.ap_term.specs.declared.term.Term.{Term}
 use Rattle.ap_world.specs.declared.entry.Entry.{Entry}
 use Rattle.ap_world.specs.declared.entry.Entry.TheVariants as entry
 use Rattle.ap_world.specs.declared.entry.Function.{Function}
+use Rattle.ap_world.specs.declared.entry.Mask.{Mask}
 use Rattle.ap_world.specs.World.{Shown, has_name}
 use Rattle.ap_reader.specs.declared.form.Form.{Form, fold-Form}
 use Rattle.ap_reader.specs.declared.form.Body.TheOpen.{Body-F, Form-F}
+use Rattle.ap_translate.specs.declared.fault.TransKind.{TransKind}
 use Rattle.ap_translate.specs.declared.fault.TransKind.TheVariants as kinds
 use Rattle.ap_translate.specs.Answers.{Answer, refused as refused_at, each, ◌>>=◌}
 use Rattle.ap_translate.specs.Names.{can_be_bound}
@@ -101,9 +103,13 @@ seen_in n = fold-Form Seen Seen (calls_step n) seen_body
 abbrev pub calls_itself : Symbol → Form → Bool
 calls_itself n f = (seen_in n f).calls
 
--- a function without a measure; it keeps the types that its body gives back
+-- a function without a measure
+abbrev pub function_with : Symbol → Mask → Translated → Function
+function_with n k t = record { name = n; formals = t.formals; body = t.body; measure = None; cases = []; mask = k }
+
+-- it keeps the types that its body gives back
 abbrev pub plain_function : Shown → Symbol → Translated → Function
-plain_function w n t = record { name = n; formals = t.formals; body = t.body; measure = None; cases = []; mask = record { 0 = kept_types w n t.body } }
+plain_function w n t = function_with n (record { 0 = kept_types w n t.body }) t
 
 abbrev pub added_definition : Shown → Symbol → Translated → Step
 added_definition w n t = admitted w (entry.Function (plain_function w n t)) (event_text (codes "DEFUN") n [] (codes " admitted"))
@@ -112,8 +118,11 @@ abbrev pub refused_definition : Symbol → List ℕ → Step
 refused_definition n reason = refused_event (codes "DEFUN") n [] reason
 
 -- a definition that calls itself isn't built; its own name is unknown while its body is translated
+abbrev pub untranslated_definition : Symbol → Defined → TransKind → Step
+untranslated_definition h d k = cond (calls_itself d.name d.body) (not_supported h) (refused_definition d.name (translation_text k))
+
 unfoldable pub defined_step : Shown → Symbol → Defined → Answer Translated → Step
-defined_step w h d (Err e) = cond (calls_itself d.name d.body) (not_supported h) (refused_definition d.name (translation_text e.kind))
+defined_step w h d (Err e) = untranslated_definition h d e.kind
 defined_step w h d (Ok t) = added_definition w d.name t
 
 -- before that its name is looked up

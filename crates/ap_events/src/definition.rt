@@ -1,27 +1,33 @@
-ghost use Rattle.std.specs.Prelude.{◌≡◌, [], IfOk, IfSome, IsTrue, false, codes, map, option_map};
+ghost use Rattle.std.specs.Prelude.{◌≡◌, [], ◌∷◌, ◌++◌, IfOk, IfSome, IsTrue, false, codes, map, option_map};
 ghost use Rattle.ap_list.specs.Lists.{is_distinct};
 ghost use Rattle.ap_value.specs.Values.{symbol_eq};
-ghost use Rattle.ap_world.specs.Sound.{known, speaks_of, HasFunctions};
+ghost use Rattle.ap_value.specs.Values.{V};
+ghost use Rattle.ap_world.specs.declared.entry.Entry.TheVariants as entry;
+ghost use Rattle.ap_world.specs.Meaning.{Env, HasValue};
+ghost use Rattle.ap_world.specs.Types.{Has};
+ghost use Rattle.ap_world.specs.Sound.{known, speaks_of, HasFunctions, Sound};
+ghost use Rattle.ap_types.specs.Kept.{kept_types};
 ghost use Rattle.ap_world.specs.World.{function_of, has_name};
 ghost use Rattle.ap_translate.specs.Answers.{Gives};
 ghost use Rattle.ap_translate.specs.Laws.{HasMacroFunctions};
 ghost use Rattle.ap_translate.specs.Parts.{items_in};
 ghost use Rattle.ap_translate.specs.Names.{can_be_bound};
 ghost use Rattle.ap_events.specs.Shapes.{as_defined};
-ghost use Rattle.ap_events.specs.Ends.{step_in, Follows};
-ghost use Rattle.ap_events.specs.Definitions.{formal_in, formal_names, component_forms_by, component_forms, guard_forms, translated_all, translated_definition, seen_in, first_named, any_calls, added_definition, refused_definition, plain_definition, named_definition};
+ghost use Rattle.ap_events.specs.Ends.{admitted, step_in, Follows};
+ghost use Rattle.ap_events.specs.Texts.{event_text};
+ghost use Rattle.ap_events.specs.Definitions.{formal_in, formal_names, component_forms_by, component_forms, guard_forms, translated_all, translated_definition, seen_in, first_named, any_calls, function_with, added_definition, refused_definition, untranslated_definition, plain_definition, named_definition};
 
 use crate::end::{EventEnd, not_supported};
 use crate::forms::{is_symbol, items, symbol};
 use crate::shapes::Definition;
 use crate::texts;
-use ap_list::{NoMemory, Seq};
+use ap_list::{Bytes, NoMemory, Seq};
 use ap_reader::{Body, Form};
 use ap_term::Term;
 use ap_translate::{TransError, TransKind, can_be_bound, translate};
 use ap_types::kept_mask;
 use ap_value::{Symbol, copy_symbol, same_symbol};
-use ap_world::{AddError, Function, World};
+use ap_world::{AddError, Function, Mask, World};
 use std::alloc::{AllocError, Global};
 use std::slice::from_ref;
 
@@ -189,8 +195,67 @@ fn refused(alloc: Global, w: World, name: &Symbol, reason: &[u8]) -> Result<Even
     Ok(EventEnd::Refused(w, text))
 }
 
-/// Adds a function whose name is free.
-fn add(alloc: Global, w: World, name: &Symbol, translated: Translated) -> Result<EventEnd, NoMemory>
+/// What is made for a function before it is added: its name, the mask that its body gives back, and what
+/// its event prints.
+#[derive(Drop)]
+struct Made {
+    name: Symbol,
+    mask: Mask,
+    text: Bytes,
+}
+
+/// Prepares a function.
+fn prepared(alloc: Global, w: &World, name: &Symbol, body: &Term) -> Result<Made, NoMemory>
+    requires functions { HasFunctions (function_of w.now.entries) }
+    requires free { has_name w.now.entries name.now ≡ false }
+    requires known { IsTrue (known (function_of w.now.entries) body.now) }
+    ensures name { IfOk result (λ p. p.name ≡ name.now) }
+    ensures mask { IfOk result (λ p. p.mask ≡ record { 0 = kept_types w.now name.now body.now }) }
+    ensures holds { IfOk result (λ p. (e : Env) (v : V) → HasValue (function_of w.now.entries) body.now e v → Has p.mask v) }
+    ensures text { IfOk result (λ p. p.text ≡ event_text (codes "DEFUN") name.now [] (codes " admitted")) }
+{
+    let mask = kept_mask(alloc, w, name, body)?;
+    let text = texts::event_text(alloc, b"DEFUN", name, b"", b" admitted")?;
+    let name = copy_symbol(alloc, name)?;
+    Ok(Made { name, mask, text })
+}
+
+/// The function that a translated definition makes.
+fn function(alloc: Global, name: Symbol, mask: Mask, translated: Translated) -> Function
+    ensures { result ≡ function_with name mask translated }
+{
+    Function {
+        name,
+        formals: translated.formals,
+        body: translated.body,
+        measure: None,
+        cases: Seq::new(alloc),
+        mask,
+    }
+}
+
+/// Adds a function whose name is free, and with which the world is sound.
+fn add(alloc: Global, w: World, function: Function, text: Bytes) -> Result<EventEnd, NoMemory>
+    requires free { has_name w.entries function.name ≡ false }
+    requires sound { Sound (w.entries ++ entry.Function function ∷ []) }
+    ensures step { IfOk result (λ e. step_in e ≡ admitted w (entry.Function function) text) }
+    ensures follows { IfOk result (λ e. Follows w e) }
+{
+    let mut world = w;
+    match world.add_function(alloc, function) {
+        Ok(()) => Ok(EventEnd::Admitted(world, text)),
+        Err(AddError::NoMemory) => Err(AllocError),
+        Err(AddError::NameTaken) => unreachable!(),
+    }
+}
+
+/// Adds the function of a translated definition, whose name is free.
+fn admit(
+    alloc: Global,
+    w: World,
+    name: &Symbol,
+    translated: Translated,
+) -> Result<EventEnd, NoMemory>
     requires functions { HasFunctions (function_of w.entries) }
     requires free { has_name w.entries name.now ≡ false }
     requires distinct { IsTrue (is_distinct symbol_eq translated.formals) }
@@ -199,23 +264,28 @@ fn add(alloc: Global, w: World, name: &Symbol, translated: Translated) -> Result
     ensures step { IfOk result (λ e. step_in e ≡ added_definition w name.now translated) }
     ensures follows { IfOk result (λ e. Follows w e) }
 {
-    let text = texts::event_text(alloc, b"DEFUN", name, b"", b" admitted")?;
-    let mask = kept_mask(alloc, &w, name, &translated.body)?;
-    let function = Function {
-        name: copy_symbol(alloc, name)?,
-        formals: translated.formals,
-        body: translated.body,
-        measure: None,
-        cases: Seq::new(alloc),
-        mask,
-    };
-    let mut world = w;
-    world.is_sound();
-    match world.add_function(alloc, function) {
-        Ok(()) => Ok(EventEnd::Admitted(world, text)),
-        Err(AddError::NoMemory) => Err(AllocError),
-        Err(AddError::NameTaken) => unreachable!(),
+    w.is_sound();
+    let made = prepared(alloc, &w, name, &translated.body)?;
+    let function = function(alloc, made.name, made.mask, translated);
+    add(alloc, w, function, made.text)
+}
+
+/// A definition of which a part isn't of the language: one that calls itself isn't built.
+fn untranslated(
+    alloc: Global,
+    w: World,
+    head: &Symbol,
+    definition: &Definition<'_>,
+    kind: TransKind,
+) -> Result<EventEnd, NoMemory>
+    ensures step { IfOk result (λ e. step_in e ≡ untranslated_definition head.now (as_defined definition.now) kind) }
+    ensures follows { IfOk result (λ e. Follows w e) }
+{
+    if calls(definition.name, definition.body) {
+        return not_supported(alloc, w, head);
     }
+    let reason = texts::translation(alloc, kind)?;
+    refused(alloc, w, definition.name, reason.as_slice())
 }
 
 /// Does a definition's event that asks for no guards and gives no hints.
@@ -234,15 +304,9 @@ fn unguarded(
         return refused(alloc, w, definition.name, b"3 NameTaken");
     }
     match translate_all(alloc, &w, definition) {
-        Ok(found) => add(alloc, w, definition.name, found),
+        Ok(found) => admit(alloc, w, definition.name, found),
         Err(TransError::NoMemory) => Err(AllocError),
-        Err(TransError::Fault { kind, .. }) => {
-            if calls(definition.name, definition.body) {
-                return not_supported(alloc, w, head);
-            }
-            let reason = texts::translation(alloc, kind)?;
-            refused(alloc, w, definition.name, reason.as_slice())
-        }
+        Err(TransError::Fault { kind, .. }) => untranslated(alloc, w, head, definition, kind),
     }
 }
 

@@ -1,22 +1,22 @@
-ghost use Rattle.std.specs.Prelude.{◌≡◌, ◌++◌, [], ◌∷◌, IfOk, IsTrue, false};
+ghost use Rattle.std.specs.Prelude.{◌≡◌, ◌++◌, [], ◌∷◌, None, IfOk, IsTrue, false};
 ghost use Rattle.ap_world.specs.Meaning.{Valid};
 ghost use Rattle.ap_world.specs.Sound.{known, HasFunctions};
 ghost use Rattle.ap_world.specs.World.{function_of, has_name};
 ghost use Rattle.ap_events.specs.Shapes.{as_stated};
-ghost use Rattle.ap_events.specs.Ends.{step_in, Follows};
+ghost use Rattle.ap_events.specs.Ends.{admitted, step_in, Follows};
 ghost use Rattle.ap_events.specs.Attempts.{tried, plan_for};
-ghost use Rattle.ap_events.specs.Texts.{failure_text};
-ghost use Rattle.ap_events.specs.Theorems.{added_theorem, refused_theorem, tried_theorem, named_theorem, stated_theorem};
+ghost use Rattle.ap_events.specs.Texts.{failure_text, translation_text};
+ghost use Rattle.ap_events.specs.Theorems.{theorem_entry, added_theorem, refused_theorem, tried_theorem, named_theorem, stated_theorem};
 
 use crate::attempting::{Tried, attempt};
 use crate::end::{EventEnd, not_supported};
 use crate::limits::Limits;
 use crate::shapes::Statement;
 use crate::texts;
-use ap_list::{NoMemory, Seq};
+use ap_list::{Bytes, NoMemory, Seq};
 use ap_strategy::Plan;
 use ap_term::Term;
-use ap_translate::{TransError, translate};
+use ap_translate::{TransError, TransKind, translate};
 use ap_value::{Symbol, copy_symbol};
 use ap_walk::Reason;
 use ap_world::{AddError, World};
@@ -56,8 +56,24 @@ fn failed(
     refused(alloc, w, name, lines.as_slice(), said.as_slice())
 }
 
-/// Adds a theorem whose name is free.
-fn add(
+/// Adds a theorem whose name is free, and that is valid.
+fn add(alloc: Global, w: World, name: Symbol, term: Term, text: Bytes) -> Result<EventEnd, NoMemory>
+    requires free { has_name w.entries name ≡ false }
+    requires known { IsTrue (known (function_of w.entries) term) }
+    requires valid { Valid (function_of w.entries) (term ∷ []) }
+    ensures step { IfOk result (λ e. step_in e ≡ admitted w (theorem_entry name term) text) }
+    ensures follows { IfOk result (λ e. Follows w e) }
+{
+    let mut world = w;
+    match world.add_theorem(alloc, name, term, Seq::new(alloc)) {
+        Ok(()) => Ok(EventEnd::Admitted(world, text)),
+        Err(AddError::NoMemory) => Err(AllocError),
+        Err(AddError::NameTaken) => unreachable!(),
+    }
+}
+
+/// Adds a theorem that its attempt proved.
+fn proved(
     alloc: Global,
     w: World,
     name: &Symbol,
@@ -72,16 +88,31 @@ fn add(
 {
     let text = texts::event_text(alloc, b"DEFTHM", name, lines, b" proved")?;
     let name = copy_symbol(alloc, name)?;
-    let mut world = w;
-    match world.add_theorem(alloc, name, term, Seq::new(alloc)) {
-        Ok(()) => Ok(EventEnd::Admitted(world, text)),
-        Err(AddError::NoMemory) => Err(AllocError),
-        Err(AddError::NameTaken) => unreachable!(),
+    add(alloc, w, name, term, text)
+}
+
+/// Ends a theorem's event by its attempt: adds the theorem where it is proved.
+#[tactic(auto, unfolding(crate::specs::Theorems::ended_theorem))]
+fn ended(
+    alloc: Global,
+    w: World,
+    name: &Symbol,
+    term: Term,
+    tried: &Tried,
+) -> Result<EventEnd, NoMemory>
+    requires free { has_name w.entries name.now ≡ false }
+    requires known { IsTrue (known (function_of w.entries) term) }
+    requires valid { tried.now.failed ≡ None → Valid (function_of w.entries) (term ∷ []) }
+    ensures step { IfOk result (λ e. step_in e ≡ tried_theorem w name.now term tried.now) }
+    ensures follows { IfOk result (λ e. Follows w e) }
+{
+    match tried.failed {
+        Some(reason) => failed(alloc, w, name, tried, reason),
+        None => proved(alloc, w, name, term, tried.lines.as_slice()),
     }
 }
 
 /// Tries to prove a theorem whose name is free, and adds it where it is proved.
-#[tactic(auto, unfolding(crate::specs::Theorems::ended_theorem))]
 fn tried(
     alloc: Global,
     w: World,
@@ -100,11 +131,21 @@ fn tried(
         step_limit: limits.steps,
     };
     let tried = attempt(alloc, &plan, limits, &term)?;
-    let Plan { world, .. } = plan;
-    match tried.failed {
-        Some(reason) => failed(alloc, world, name, &tried, reason),
-        None => add(alloc, world, name, term, tried.lines.as_slice()),
-    }
+    ended(alloc, plan.world, name, term, &tried)
+}
+
+/// A theorem whose term isn't of the language.
+fn untranslated(
+    alloc: Global,
+    w: World,
+    name: &Symbol,
+    kind: TransKind,
+) -> Result<EventEnd, NoMemory>
+    ensures step { IfOk result (λ e. step_in e ≡ refused_theorem name.now [] (translation_text kind)) }
+    ensures follows { IfOk result (λ e. Follows w e) }
+{
+    let reason = texts::translation(alloc, kind)?;
+    refused(alloc, w, name, b"", reason.as_slice())
 }
 
 /// Does the event of a theorem without rules and hints.
@@ -125,10 +166,7 @@ fn named(
     match translate(alloc, &w, statement.term, None) {
         Ok(term) => tried(alloc, w, statement.name, term, limits),
         Err(TransError::NoMemory) => Err(AllocError),
-        Err(TransError::Fault { kind, .. }) => {
-            let reason = texts::translation(alloc, kind)?;
-            refused(alloc, w, statement.name, b"", reason.as_slice())
-        }
+        Err(TransError::Fault { kind, .. }) => untranslated(alloc, w, statement.name, kind),
     }
 }
 

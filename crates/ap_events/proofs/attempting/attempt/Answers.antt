@@ -1,4 +1,4 @@
-use Rattle.std.proofs.Common.{refl, sym, subst, ◌∙◌}
+use Rattle.std.proofs.Common.{sym, subst, ◌∙◌}
 use Rattle.ap_strategy.specs.Steps.{IsGood}
 use Rattle.ap_events.proofs.Attempted.{root_valid, qed}
 use Rattle.ap_events.proofs.attempting.attempt.Goals as goal
