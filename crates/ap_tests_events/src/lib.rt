@@ -1,0 +1,5 @@
+//! The tests of events: what a text's events print, and what is in the world behind them.
+#![tactic(auto)]
+
+#[cfg(test)]
+mod events;
