@@ -513,6 +513,54 @@ fn a_term_of_more_than_4096_nodes_is_too_large(rt: HostRuntime) -> Result<(), Fa
     prints(&rt, alloc, list.as_slice(), refused)
 }
 
+/// A theorem of so many hypotheses, each an equation of two variables of its own.
+fn equations(alloc: Global, count: u32) -> Result<Vec<u8>, Fail> {
+    let first = b"(in-package \"ACL2\")\n(defthm d (implies (and";
+    let mut book = Vec::from_slice(alloc, first)?;
+    for k in 0..count {
+        book.extend_from_slice(format!(in alloc; " (equal x{k} y{k})")?.as_bytes())?;
+    }
+    book.extend_from_slice(b") z) :rule-classes nil)")?;
+    Ok(book)
+}
+
+/// The name of the goal so many steps below the first.
+fn primed(alloc: Global, steps: u32) -> Result<String, Fail> {
+    let name = match steps {
+        0 => "Goal",
+        1 => "Goal'",
+        2 => "Goal''",
+        3 => "Goal'''",
+        _ => return Ok(format!(in alloc; "Goal'{steps}'")?),
+    };
+    Ok(String::from_str(alloc, name)?)
+}
+
+/// The lines of so many goals, each of which has one child, and what follows them.
+fn steps(alloc: Global, count: u32, end: &[u8]) -> Result<Vec<u8>, Fail> {
+    let mut text = Vec::from_slice(alloc, b"Book b\nDEFTHM D\n")?;
+    for k in 0..count {
+        text.extend_from_slice(primed(alloc, k)?.as_bytes())?;
+        text.extend_from_slice(b" simplify 1\n")?;
+    }
+    text.extend_from_slice(end)?;
+    Ok(text)
+}
+
+#[test]
+fn an_attempt_stops_250_goals_below_the_first(rt: HostRuntime) -> Result<(), Fail> {
+    let alloc = rt.alloc();
+    let end =
+        b"Goal'249' push *1\n*1 noscheme\nCheckpoints before induction\nGoal'249': Z\nDEFTHM D refused 8.1 NoScheme\nBook b not certified\n";
+    let text = steps(alloc, 249, end)?;
+    let book = equations(alloc, 249)?;
+    prints(&rt, alloc, book.as_slice(), text.as_slice())?;
+    let end = b"Goal'250' deep\nDEFTHM D refused 8.4 PathDepth\nBook b not certified\n";
+    let text = steps(alloc, 250, end)?;
+    let book = equations(alloc, 250)?;
+    prints(&rt, alloc, book.as_slice(), text.as_slice())
+}
+
 /// So many blanks.
 fn blanks(alloc: Global, count: usize) -> Result<Vec<u8>, Fail> {
     let mut out = Vec::new(alloc);

@@ -1,0 +1,19 @@
+//! The tests of the kernel, of clauses and of the waterfall's step, a module each.
+#![tactic(auto)]
+
+#[cfg(test)]
+mod clauses;
+#[cfg(test)]
+mod kernel;
+#[cfg(test)]
+mod known;
+#[cfg(test)]
+mod splitting;
+#[cfg(test)]
+mod tables;
+#[cfg(test)]
+mod types;
+#[cfg(test)]
+mod waterfall;
+#[cfg(test)]
+mod written;

@@ -1,0 +1,318 @@
+//! Walks by the waterfall's step, by a table.
+ghost use Rattle.std.specs.Prelude.{◌≤◌, IfOk};
+ghost use Rattle.ap_world.specs.Sound.{HasFunctions};
+ghost use Rattle.ap_strategy.specs.Goals.{defs_of};
+
+use crate::clauses::is_written;
+use crate::tables::expect_count;
+use crate::written::{number, term};
+use ap_eval::is_known;
+use ap_ground::ground_world;
+use ap_ground::laws::ground_has_its_functions;
+use ap_list::{Boxed, Bytes, NoMemory, Seq};
+use ap_strategy::{Acl2Step, Plan, Task, induct_task};
+use ap_term::Term;
+use ap_value::is_named;
+use ap_walk::{Act, Mark, Out, Process, Reason, Rule, Step, Stepped, Walked, serial};
+use std::alloc::{AllocError, Global};
+use std::process::Abort;
+
+/// Each row: the steps that a clause may spend; a conjecture, and what is visited in its walk, a kind of step
+/// with the number of children or of the reason, and with the clause; and the names of the goals.
+const ROWS: &str =
+    "(WALK 9 (IMPLIES (EQUAL X Y) (EQUAL Y X)) (SIMPLIFY 1 (OR (NOT (EQUAL X Y)) (EQUAL Y X))) (SIMPLIFY 0 (OR (EQUAL Y Y)))) => Goal, Goal'
+(WALK 9 (IF (EQUAL (EQUAL X Y) (EQUAL Z W)) (EQUAL U V) 'NIL) (SIMPLIFY 2 (OR (IF (EQUAL (EQUAL X Y) (EQUAL Z W)) (EQUAL U V) 'NIL))) (PUSH 0 (OR (NOT (EQUAL (EQUAL X Y) (EQUAL Z W))) (EQUAL U V))) (PUSH 0 (OR (EQUAL (EQUAL X Y) (EQUAL Z W))))) => Goal, Subgoal 2, Subgoal 1
+(WALK 9 'NIL (SIMPLIFY 1 (OR 'NIL)) (EMPTY 2 (OR))) => Goal, Goal'
+(WALK 9 (EQUAL X Y) (PUSH 0 (OR (EQUAL X Y)))) => Goal
+(WALK 4 (IF X (IF Y Z W) U) (SIMPLIFY 3 (OR (IF X (IF Y Z W) U))) (PUSH 0 (OR (NOT X) (NOT Y) Z)) (PUSH 0 (OR (NOT X) Y W)) (PUSH 0 (OR X U))) => Goal, Subgoal 3, Subgoal 2, Subgoal 1
+(WALK 3 (IF X (IF Y Z W) U) (LIMITED 0 (OR (IF X (IF Y Z W) U)))) => Goal
+(WALK 9 (IF X (EQUAL Y Y) (IF X Z X)) (SIMPLIFY 1 (OR (IF X (EQUAL Y Y) (IF X Z X)))) (PUSH 0 (OR X))) => Goal, Goal'
+(WALK 9 (IMPLIES (NOT (NOT (EQUAL X (CONS Y Z)))) (IMPLIES (EQUAL W X) (CONSP W))) (SIMPLIFY 1 (OR (NOT (EQUAL X (CONS Y Z))) (NOT (EQUAL W X)) (CONSP W))) (SIMPLIFY 1 (OR (NOT (EQUAL W (CONS Y Z))) (CONSP W))) (PUSH 0 (OR (CONSP (CONS Y Z))))) => Goal, Goal', Goal''
+(WALK 0 (IMPLIES (CONSP X) (IMPLIES (NOT (CONSP X)) Y)) (SIMPLIFY 0 (OR (NOT (CONSP X)) (CONSP X) Y))) => Goal";
+
+/// A plan of the ground world.
+fn first_plan(alloc: Global, step_limit: u32) -> Result<Plan, NoMemory>
+    ensures { IfOk result (λ p. HasFunctions (defs_of p)) }
+{
+    ground_has_its_functions();
+    let world = ground_world(alloc)?;
+    Ok(Plan { world, step_limit })
+}
+
+/// The task of a term, which is one of the plan's world.
+fn root<'a>(alloc: Global, plan: &'a Plan, t: &Term) -> Result<Task<'a>, NoMemory>
+    requires { HasFunctions (defs_of plan.now) }
+{
+    if is_known(&plan.world, t) {
+        Acl2Step::new(plan).root(alloc, t)
+    } else {
+        Err(AllocError)
+    }
+}
+
+/// The word for what a step did.
+fn kind(act: Act) -> &'static [u8] {
+    match (act.process, act.missed, act.limited) {
+        (Process::Simplify, false, false) => b"SIMPLIFY",
+        (Process::Push, true, false) => b"PUSH",
+        (Process::Push, true, true) => b"LIMITED",
+        (Process::Stop, true, false) => b"EMPTY",
+        _ => b"OTHER",
+    }
+}
+
+/// Whether a mark is the one that is written.
+fn is_mark(mark: &Mark<Task<'_>>, visit: &Term) -> bool {
+    let Term::Call(name, parts) = visit else {
+        return false;
+    };
+    let [children, clause] = parts.as_slice() else {
+        return false;
+    };
+    let task = &mark.task;
+    is_named(name, kind(mark.act))
+        && number(children) == Some(mark.children)
+        && is_written(&task.clause, clause)
+}
+
+/// Whether marks are those that are written.
+fn are_marks(marks: &[Mark<Task<'_>>], visits: &[Term]) -> bool {
+    for (mark, visit) in marks.iter().zip(visits) {
+        if !is_mark(mark, visit) {
+            return false;
+        }
+    }
+    marks.len() == visits.len()
+}
+
+/// The names of the tasks of marks, with a comma between two.
+fn names(alloc: Global, marks: &[Mark<Task<'_>>]) -> Result<Bytes, NoMemory> {
+    let mut text = Seq::new(alloc);
+    for mark in marks {
+        if !text.is_empty() {
+            text.extend(b", ")?;
+        }
+        let task = &mark.task;
+        text.append(task.name.print(alloc)?)?;
+    }
+    Ok(text)
+}
+
+/// The walk of a conjecture.
+fn walk<'a>(alloc: Global, plan: &'a Plan, conjecture: &Term) -> Result<Walked<Task<'a>>, NoMemory>
+    requires { HasFunctions (defs_of plan.now) }
+{
+    let task = Boxed::new(alloc, root(alloc, plan, conjecture)?)?;
+    let rule = Rule {
+        initial: true,
+        otf: true,
+        goal_limit: 100,
+    };
+    serial(alloc, &Acl2Step::new(plan), task.get(), rule)
+}
+
+/// The names of the tasks of marks, or none where the marks aren't those that are written.
+fn visited_names(
+    alloc: Global,
+    marks: &[Mark<Task<'_>>],
+    visits: &[Term],
+) -> Result<Bytes, NoMemory> {
+    if are_marks(marks, visits) {
+        names(alloc, marks)
+    } else {
+        Ok(Bytes::new(alloc))
+    }
+}
+
+/// The same of a conjecture's walk.
+fn walked_names(
+    alloc: Global,
+    plan: &Plan,
+    conjecture: &Term,
+    visits: &[Term],
+) -> Result<Bytes, NoMemory>
+    requires { HasFunctions (defs_of plan.now) }
+{
+    let walked = walk(alloc, plan, conjecture)?;
+    visited_names(alloc, walked.marks.as_slice(), visits)
+}
+
+/// The same where a clause may spend so many steps.
+fn planned_names(
+    alloc: Global,
+    steps: u32,
+    conjecture: &Term,
+    visits: &[Term],
+) -> Result<Bytes, NoMemory> {
+    let plan = first_plan(alloc, steps)?;
+    walked_names(alloc, &plan, conjecture, visits)
+}
+
+/// The same of a row.
+fn row_names(alloc: Global, row: &Term) -> Result<Bytes, NoMemory> {
+    match row {
+        Term::Call(_, parts) => parts_names(alloc, parts.as_slice()),
+        _ => Ok(Bytes::new(alloc)),
+    }
+}
+
+/// The same of the parts of a row.
+fn parts_names(alloc: Global, parts: &[Term]) -> Result<Bytes, NoMemory> {
+    match parts {
+        [steps, conjecture, visits @ ..] => {
+            planned_names(alloc, number(steps).unwrap_or(0), conjecture, visits)
+        }
+        _ => Ok(Bytes::new(alloc)),
+    }
+}
+
+/// The same of a row as it is written.
+fn text_names(alloc: Global, text: &str) -> Result<Bytes, NoMemory> {
+    let row = term(alloc, text)?;
+    row_names(alloc, &row)
+}
+
+/// Compares the names of goals with those that a line has.
+fn expect(rt: &impl Abort, line: &str, found: &[u8], wanted: &str) {
+    let found = str::from_utf8(found).unwrap_or("no text");
+    assert_eq!(rt; found, wanted, "{line}");
+}
+
+#[test]
+fn goals_are_walked_as_the_rows_say(rt: HostRuntime) -> Result<(), NoMemory> {
+    expect_count(&rt, ROWS, 9);
+    for line in ROWS.lines() {
+        let (row, wanted) = line.split_once(" => ").unwrap_or((line, ""));
+        let names = text_names(rt.alloc(), row)?;
+        expect(&rt, line, names.as_slice(), wanted);
+    }
+    Ok(())
+}
+
+/// The task of the term that is written.
+fn written_task<'a>(alloc: Global, plan: &'a Plan, text: &str) -> Result<Task<'a>, NoMemory>
+    requires { HasFunctions (defs_of plan.now) }
+{
+    let t = term(alloc, text)?;
+    root(alloc, plan, &t)
+}
+
+/// The induction of the last of some tasks.
+fn last_induction<'a>(alloc: Global, tasks: &[Task<'a>], count: u32) -> Result<Task<'a>, NoMemory>
+    requires { 1 ≤ count }
+{
+    match tasks.last() {
+        Some(task) => induct_task(alloc, task, count),
+        None => Err(AllocError),
+    }
+}
+
+/// The task of `(EQUAL X Y)`, and eleven inductions, each of the task before it.
+fn inductions<'a>(alloc: Global, plan: &'a Plan) -> Result<Seq<Task<'a>>, NoMemory>
+    requires { HasFunctions (defs_of plan.now) }
+{
+    let mut tasks = Seq::new(alloc);
+    tasks.push(written_task(alloc, plan, "(EQUAL X Y)")?)?;
+    for count in 1..12 {
+        let next = last_induction(alloc, tasks.as_slice(), count)?;
+        tasks.push(next)?;
+    }
+    Ok(tasks)
+}
+
+/// What a step stops with.
+fn stop(stepped: &Stepped<Task<'_>>) -> Option<Reason> {
+    match &stepped.out {
+        Out::Stop(reason) if !stepped.act.missed && !stepped.act.limited => Some(*reason),
+        _ => None,
+    }
+}
+
+/// What the step of a task stops with.
+fn reason(alloc: Global, plan: &Plan, task: &Task<'_>) -> Result<Option<Reason>, NoMemory> {
+    let stepped = Acl2Step::new(plan).step(alloc, task)?;
+    Ok(stop(&stepped))
+}
+
+fn expect_reasons(
+    rt: &impl Abort,
+    alloc: Global,
+    plan: &Plan,
+    tasks: &[Task<'_>],
+) -> Result<(), NoMemory> {
+    for (count, task) in tasks.iter().enumerate().skip(1) {
+        let wanted = if count < 10 {
+            Reason::NoScheme
+        } else {
+            Reason::InductionDepth
+        };
+        let found = reason(alloc, plan, task)?;
+        assert!(rt; found == Some(wanted), "{count}");
+    }
+    Ok(())
+}
+
+fn expect_inductions(rt: &impl Abort, alloc: Global, plan: &Plan) -> Result<(), NoMemory>
+    requires { HasFunctions (defs_of plan.now) }
+{
+    let tasks = inductions(alloc, plan)?;
+    assert!(rt; tasks.len() == 12);
+    expect_reasons(rt, alloc, plan, tasks.as_slice())
+}
+
+#[test]
+fn an_induction_stops(rt: HostRuntime) -> Result<(), NoMemory> {
+    let plan = first_plan(rt.alloc(), 9)?;
+    expect_inductions(&rt, rt.alloc(), &plan)
+}
+
+/// Whether a copy is the same task.
+fn is_copied(alloc: Global, plan: &Plan, task: &Task<'_>) -> Result<bool, NoMemory> {
+    let step = Acl2Step::new(plan);
+    let copy = Boxed::new(alloc, step.copy_task(alloc, task)?)?;
+    Ok(step.same_task(task, copy.get()))
+}
+
+/// Whether the induction of a task is another task.
+fn is_other(alloc: Global, plan: &Plan, task: &Task<'_>) -> Result<bool, NoMemory> {
+    let induction = Boxed::new(alloc, induct_task(alloc, task, 1)?)?;
+    Ok(!Acl2Step::new(plan).same_task(task, induction.get()))
+}
+
+/// The name of a task, as the step gives it.
+fn task_name(alloc: Global, plan: &Plan, task: &Task<'_>) -> Result<Bytes, NoMemory> {
+    let name = Acl2Step::new(plan).name_of(alloc, task)?;
+    name.print(alloc)
+}
+
+/// The name of the induction of a task.
+fn induction_name(alloc: Global, plan: &Plan, task: &Task<'_>) -> Result<Bytes, NoMemory> {
+    let induction = Boxed::new(alloc, induct_task(alloc, task, 1)?)?;
+    task_name(alloc, plan, induction.get())
+}
+
+fn expect_tasks(
+    rt: &impl Abort,
+    alloc: Global,
+    plan: &Plan,
+    task: &Task<'_>,
+) -> Result<(), NoMemory> {
+    assert!(rt; is_copied(alloc, plan, task)?, "a copy");
+    assert!(rt; is_other(alloc, plan, task)?, "an induction");
+    let name = induction_name(alloc, plan, task)?;
+    expect(rt, "its name", name.as_slice(), "*1");
+    Ok(())
+}
+
+fn expect_copy(rt: &impl Abort, alloc: Global, plan: &Plan) -> Result<(), NoMemory>
+    requires { HasFunctions (defs_of plan.now) }
+{
+    let task = Boxed::new(alloc, written_task(alloc, plan, "(EQUAL X (CONS Y '1))")?)?;
+    expect_tasks(rt, alloc, plan, task.get())
+}
+
+#[test]
+fn a_copy_is_the_same_and_an_induction_is_not(rt: HostRuntime) -> Result<(), NoMemory> {
+    let plan = first_plan(rt.alloc(), 9)?;
+    expect_copy(&rt, rt.alloc(), &plan)
+}
