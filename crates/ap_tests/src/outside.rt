@@ -154,6 +154,8 @@ const KEPT: &[Call] = &[
     (true, "ap_outside-stored", BOOK, "absent"),
     (false, "ap_outside-stored", BOOK, "stored"),
     (true, "ap_outside-stored", BOOK, "found"),
+    (false, "ap_outside-stored", b"x", "stored"),
+    (true, "ap_outside-stored", b"x", "found"),
 ];
 
 #[test]
