@@ -1,9 +1,8 @@
 //! Laws of attempts. Each is the contract of a function that does nothing.
 ghost use Rattle.std.specs.Prelude.{◌≡◌, Bool, List, map};
-ghost use Rattle.ap_attempt.specs.Attempts.{inductions, one_turn, turns_from};
+ghost use Rattle.ap_attempt.specs.Attempts.{Course, inductions, one_turn, turns_from};
 ghost use Rattle.ap_attempt.specs.Laws.{push_names};
 ghost use Rattle.ap_attempt.specs.declared.turn.Turn.{Turn};
-ghost use Rattle.ap_attempt.specs.declared.verdict.Attempt.{Attempt};
 
 use crate::prover::Prover;
 
@@ -14,7 +13,7 @@ pub fn attempt_goes_turn_by_turn<P: Prover>()
     ensures turns { (original : P.Task) (refuses : Bool) (turn : Turn P.Task) →
         turns_from P.step_of P.depth P.inducted original refuses turn
         ≡ one_turn P.step_of P.depth P.inducted original refuses (turns_from P.step_of P.depth P.inducted original refuses) turn }
-    ensures only { (original : P.Task) (refuses : Bool) (follows : Turn P.Task → Attempt P.Task) →
+    ensures only { (original : P.Task) (refuses : Bool) (follows : Turn P.Task → Course P.Task) →
         ((turn : Turn P.Task) → follows turn ≡ one_turn P.step_of P.depth P.inducted original refuses follows turn) →
         (turn : Turn P.Task) → follows turn ≡ turns_from P.step_of P.depth P.inducted original refuses turn }
 {}
