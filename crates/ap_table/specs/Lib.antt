@@ -1,0 +1,6 @@
+pub mod Stops
+pub mod Core
+pub mod Sound
+pub mod Laws
+pub mod Order
+pub mod Pieces
