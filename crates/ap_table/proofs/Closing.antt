@@ -13,7 +13,9 @@ use Rattle.ap_walk.specs.Walks.{continued, and_then, one_mark, cut, full, full_m
 use Rattle.ap_walk.proofs.Ends.{at_most_same, at_most_at, earlier_mark}
 use Rattle.ap_walk.proofs.Cuts.{and_then_same, cut_append, cut_again}
 use Rattle.ap_walk.proofs.Trees.{full_is_cut_of_family}
-use Rattle.ap_table.specs.Stops.{Counted, Numbers, nothing_counted, reaches, stops, add}
+use Rattle.ap_word.specs.declared.family.Counted.{Counted}
+use Rattle.ap_word.specs.declared.family.Numbers.{Numbers}
+use Rattle.ap_word.specs.Stops.{nothing_counted, reaches, stops, add}
 use Rattle.ap_table.specs.Core.{numbers_of, is_stopped, counted_of, with_kept, kept, marks_of, joined_walk}
 
 abbrev pub plus : Tally → Tally → Tally

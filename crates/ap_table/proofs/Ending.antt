@@ -7,7 +7,9 @@ use Rattle.ap_walk.specs.declared.act.Stepped.{Stepped}
 use Rattle.ap_walk.specs.declared.rule.Rule.{Rule}
 use Rattle.ap_walk.specs.declared.mark.Walked.{Walked}
 use Rattle.ap_walk.specs.Walks.{full}
-use Rattle.ap_table.specs.Stops.{Counted, Numbers, nothing_counted, stops, add, sum_to, stops_by}
+use Rattle.ap_word.specs.declared.family.Counted.{Counted}
+use Rattle.ap_word.specs.declared.family.Numbers.{Numbers}
+use Rattle.ap_word.specs.Stops.{nothing_counted, stops, add, sum_to, stops_by}
 use Rattle.ap_table.specs.Core.{Phase, Node, free, claimed, expanded, put, closed, dropped, numbers_of, counted_of, with_kept, kept, phase_walk, node_walk, walks_of, above, children, tallies, Stops, kept_of}
 use Rattle.ap_table.specs.declared.link.Link.{Link}
 use Rattle.ap_table.specs.declared.link.License.{License}

@@ -5,7 +5,8 @@ use Rattle.std.specs.List.{slice_get}
 use Rattle.ap_walk.specs.declared.act.Stepped.{Stepped}
 use Rattle.ap_walk.specs.declared.rule.Rule.{Rule}
 use Rattle.ap_walk.specs.declared.mark.Walked.{Walked}
-use Rattle.ap_table.specs.Stops.{Numbers, NONE, nothing_counted}
+use Rattle.ap_word.specs.declared.family.Numbers.{Numbers}
+use Rattle.ap_word.specs.Stops.{NONE, nothing_counted}
 use Rattle.ap_table.specs.Core.{Phase, Node, free, claimed, expanded, numbers_of, kept, phase_walk, node_walk, walks_of, change, above, new_nodes, child, children, Stops, kept_of, expand_node}
 use Rattle.ap_table.specs.declared.link.Link.{Link}
 use Rattle.ap_table.specs.Sound.{Family, Up, PhaseSound, NodeSound, SoundBut, Sound}

@@ -12,7 +12,8 @@ use Rattle.ap_walk.specs.Tallies.{zero_tally, AtMost, end_at, is_stop}
 use Rattle.ap_walk.specs.Walks.{and_then, one_mark, cut, full, full_marks}
 use Rattle.ap_walk.proofs.Cuts.{and_then_same, cut_append, cut_again}
 use Rattle.ap_walk.proofs.Trees.{full_is_cut_of_family}
-use Rattle.ap_table.specs.Stops.{Counted, nothing_counted, stops, add}
+use Rattle.ap_word.specs.declared.family.Counted.{Counted}
+use Rattle.ap_word.specs.Stops.{nothing_counted, stops, add}
 use Rattle.ap_table.specs.Core.{Phase, Node, free, claimed, expanded, put, closed, dropped, numbers_of, is_stopped, counted_of, kept, phase_walk, node_walk, walks_of, above, children}
 use Rattle.ap_table.specs.declared.link.Link.{Link}
 use Rattle.ap_table.specs.Sound.{Family, PhaseSound, NodeSound, Sound}

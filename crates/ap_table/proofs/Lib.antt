@@ -1,4 +1,3 @@
-pub mod Stopping
 pub mod Closing
 pub mod Keeping
 pub mod Rising

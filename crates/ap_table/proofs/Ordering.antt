@@ -8,7 +8,7 @@ use Rattle.ap_walk.specs.declared.act.Stepped.{Stepped}
 use Rattle.ap_walk.specs.declared.rule.Rule.{Rule}
 use Rattle.ap_walk.specs.declared.mark.Walked.{Walked}
 use Rattle.ap_walk.specs.Walks.{full}
-use Rattle.ap_table.specs.Stops.{NONE}
+use Rattle.ap_word.specs.Stops.{NONE}
 use Rattle.ap_table.specs.Core.{Phase, Node, free, claimed, expanded, put, closed, dropped, Turn, claim, expand, finish, drop, mark, look, change, set_phase, above, parent_of, on_closed, child, new_nodes, root, children, joined_walk, kept_of, close_with, close_phase, close_node, close_up, put_node, expand_node, apply}
 use Rattle.ap_table.specs.declared.link.Link.{Link}
 use Rattle.ap_table.specs.declared.link.License.{License}

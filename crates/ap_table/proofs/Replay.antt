@@ -8,7 +8,9 @@ use Rattle.ap_walk.specs.declared.rule.Rule.{Rule}
 use Rattle.ap_walk.specs.declared.mark.Walked.{Walked}
 use Rattle.ap_walk.specs.Visits.{Tells, out_children}
 use Rattle.ap_walk.specs.Walks.{full}
-use Rattle.ap_table.specs.Stops.{Counted, Numbers, NONE, nothing_counted, stops, add, sum_to, stops_by}
+use Rattle.ap_word.specs.declared.family.Counted.{Counted}
+use Rattle.ap_word.specs.declared.family.Numbers.{Numbers}
+use Rattle.ap_word.specs.Stops.{NONE, nothing_counted, stops, add, sum_to, stops_by}
 use Rattle.ap_table.specs.Core.{Phase, Node, free, claimed, expanded, put, closed, dropped, Turn, claim, expand, finish, drop, mark, look, numbers_of, counted_of, with_kept, kept, phase_walk, node_walk, walks_of, change, set_phase, above, parent_of, on_closed, root, children, tallies, Stops, joined_walk, kept_of, close_with, close_phase, close_node, close_up, put_node, new_nodes, expand_node, apply, replay_from}
 use Rattle.ap_table.specs.declared.link.Link.{Link}
 use Rattle.ap_table.specs.declared.link.License.{License}

@@ -7,7 +7,7 @@ use Rattle.ap_walk.specs.declared.rule.Rule.{Rule}
 use Rattle.ap_walk.specs.declared.mark.Walked.{Walked}
 use Rattle.ap_walk.specs.Visits.{Tells, out_children}
 use Rattle.ap_walk.specs.Walks.{full}
-use Rattle.ap_table.specs.Stops.{nothing_counted}
+use Rattle.ap_word.specs.Stops.{nothing_counted}
 use Rattle.ap_table.specs.Core.{Phase, Node, free, claimed, expanded, put, closed, dropped, numbers_of, kept, phase_walk, walks_of, set_phase, above, parent_of, on_closed, children, joined_walk, kept_of, close_with, close_phase, close_node, close_up, put_node}
 use Rattle.ap_table.specs.declared.link.Link.{Link}
 use Rattle.ap_table.specs.Sound.{Family, IsClaimed, PhaseSound, NodeSound, SoundBut, Sound}

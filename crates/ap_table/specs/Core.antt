@@ -12,7 +12,9 @@ use Rattle.ap_walk.specs.Tallies.{zero_tally, can_revert, revert_count}
 use Rattle.ap_walk.specs.Walks.{cut, full}
 use Rattle.ap_table.specs.declared.link.Link.{Link}
 use Rattle.ap_table.specs.declared.link.License.{License}
-use Rattle.ap_table.specs.Stops.{Counted, Numbers, NONE, nothing_counted, stops, add, stops_by, known_stop}
+use Rattle.ap_word.specs.declared.family.Counted.{Counted}
+use Rattle.ap_word.specs.declared.family.Numbers.{Numbers}
+use Rattle.ap_word.specs.Stops.{NONE, nothing_counted, stops, add, stops_by, known_stop}
 
 -- how far a node is: it can be claimed, is being worked, has its children in the table, has its walk put, has
 -- the walk that its children's make, or was dropped

@@ -1,4 +1,3 @@
-pub mod Stops
 pub mod Core
 pub mod Sound
 pub mod Laws

@@ -11,7 +11,7 @@ mod laws;
 mod link;
 
 pub use laws::{
-    closing_is_by_the_known_stop, core_is_sound, families_stop, known_stops_are_true,
-    live_nodes_stay_in_order, pieces_make_the_walk, stopped_walks_end,
+    closing_is_by_the_known_stop, core_is_sound, known_stops_are_true, live_nodes_stay_in_order,
+    pieces_make_the_walk, stopped_walks_end,
 };
 pub use link::{License, Link};

@@ -1,7 +1,9 @@
 -- The laws of where a family stops.
 use Rattle.std.proofs.Common.{◌≡◌, ℕ, zero, suc, ◌+◌, ◌≤◌, ◌<◌, Bool, true, false, ◌||◌, nat_le, cond, List, [], ◌∷◌, Option, Some, None, refl, sym, ap, subst, ◌∙◌, arith, ◌⊎◌, inl, inr}
 use Rattle.std.proofs.lemmas.Bool.Decides.{nat_tests}
-use Rattle.ap_table.specs.Stops.{Counted, Numbers, nothing_counted, reaches, stops, add, sum_to, stops_by, FewerThan, EachFewer, known, all_known, known_from, known_stop, AreTrue}
+use Rattle.ap_word.specs.declared.family.Counted.{Counted}
+use Rattle.ap_word.specs.declared.family.Numbers.{Numbers}
+use Rattle.ap_word.specs.Stops.{nothing_counted, reaches, stops, add, sum_to, stops_by, FewerThan, EachFewer, known, all_known, known_from, known_stop, AreTrue}
 
 or_more : (a b c d : Bool) → (a ≡ true → b ≡ true) → (c ≡ true → d ≡ true) → (a || c) ≡ true → (b || d) ≡ true
 or_more true b c d f g h = rw (f refl) refl
