@@ -13,17 +13,18 @@ use Rattle.ap_world.specs.Primitives.{nil, t}
 use Rattle.ap_world.specs.Meaning.{Env, Defs, Total, FactHolds}
 use Rattle.ap_world.specs.Types.{is_true_list, type_of, Has}
 use Rattle.ap_world.specs.Sound.{known}
+use Rattle.ap_world.specs.Facts.{KnownFacts, FactsHold}
 use Rattle.ap_world.proofs.Knowing.{known_quote}
 use Rattle.ap_world.proofs.TotalMeaning.{Apply, Models, models, val, val_is, val_quote}
 use Rattle.ap_world.proofs.Equations.{val_of_nil, val_of_t, eq-not_nil, t_isnt_nil, names_open}
 use Rattle.ap_world.proofs.Starting.{has_all}
+use Rattle.ap_world.proofs.Assumed.{fact_says}
 use Rattle.ap_kernel.specs.declared.objects.Ctx.{Ctx}
 use Rattle.ap_kernel.specs.declared.objects.Mode.TheVariants.{Equal, Iff}
-use Rattle.ap_kernel.specs.Standing.{KnownFacts, FactsHold, Same, Stands}
+use Rattle.ap_kernel.specs.Standing.{Same, Stands}
 use Rattle.ap_kernel.specs.Masks.{MaskHolds, others, has_only, lacks_nil, leads_to, typed_mode, typed_made}
 use Rattle.ap_kernel.specs.Answers.{fact_made}
 use Rattle.ap_kernel.proofs.Standing.{stand}
-use Rattle.ap_kernel.proofs.Assumed.{fact_says}
 
 -- two masks that share no type
 pub apart : (m o i : ℕ) → bit_and m o ≡ 0 → bit_at m i ≡ 1 → bit_at o i ≡ 1 → ⊥

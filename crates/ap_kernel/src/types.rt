@@ -2,7 +2,8 @@ ghost use Rattle.std.specs.Prelude.{◌≡◌, IsTrue, IfOk, pos};
 ghost use Rattle.ap_value.specs.Values.{val_of, value_eq, int};
 ghost use Rattle.ap_world.specs.Sound.{known};
 ghost use Rattle.ap_world.specs.World.{function_of};
-ghost use Rattle.ap_kernel.specs.Standing.{HasGround, KnownFacts, Stands};
+ghost use Rattle.ap_world.specs.Facts.{KnownFacts};
+ghost use Rattle.ap_kernel.specs.Standing.{HasGround, Stands};
 ghost use Rattle.ap_kernel.specs.Masks.{MaskHolds, others, has_only, leads_to, typed_mode, typed_made};
 
 use crate::constants::{is_nil, is_t};

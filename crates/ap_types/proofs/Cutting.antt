@@ -18,12 +18,13 @@ use Rattle.ap_world.specs.Primitives.{nil, truth, int_of, prim_of}
 use Rattle.ap_world.specs.Meaning.{Env, Defs}
 use Rattle.ap_world.specs.Types.{type_of, positive_bit, negative_bit, nil_bit}
 use Rattle.ap_world.specs.Sound.{known}
+use Rattle.ap_world.specs.Facts.{Facts, KnownFacts, FactsHold}
+use Rattle.ap_world.specs.Shapes.{Shape, constant, shape_of}
 use Rattle.ap_world.proofs.TotalMeaning.{Apply, Models, val, val_quote}
 use Rattle.ap_world.proofs.Equations.{val_prim, not_nil-eq, t_isnt_nil}
-use Rattle.ap_kernel.specs.Standing.{Facts, HasGround, KnownFacts, FactsHold}
-use Rattle.ap_kernel.specs.Shapes.{Shape, constant, shape_of}
-use Rattle.ap_kernel.proofs.Shaped.{Says, shape_says}
-use Rattle.ap_kernel.proofs.Assumed.{Signed, fact_says}
+use Rattle.ap_world.proofs.Shaped.{Says, shape_says}
+use Rattle.ap_world.proofs.Assumed.{Signed, fact_says}
+use Rattle.ap_kernel.specs.Standing.{HasGround}
 use Rattle.ap_kernel.proofs.SameTerms.{tests_same}
 use Rattle.ap_types.specs.Kinds.{bit, kind_of, all, without}
 use Rattle.ap_types.specs.Rows.{recognised, is_single}

@@ -14,15 +14,16 @@ use Rattle.ap_world.specs.Primitives.{nil, truth, prim, prim_of, coerce_of}
 use Rattle.ap_world.specs.Meaning.{Env, Defs, Calls, if_of, applied, head_call, meaning}
 use Rattle.ap_world.specs.Types.{type_of, nil_bit}
 use Rattle.ap_world.specs.Sound.{known}
+use Rattle.ap_world.specs.Facts.{Facts, KnownFacts, FactsHold}
+use Rattle.ap_world.specs.Assume.{assume}
+use Rattle.ap_world.specs.Shapes.{Shape, constant, shape_of}
 use Rattle.ap_world.proofs.Fuel.{meaning_call}
 use Rattle.ap_world.proofs.Knowing.{known_args, each_true}
 use Rattle.ap_world.proofs.TotalMeaning.{Apply, Models, val, val_quote}
 use Rattle.ap_world.proofs.Equations.{nil-eq, eq-not_nil}
-use Rattle.ap_kernel.specs.Standing.{Facts, HasGround, KnownFacts, FactsHold}
-use Rattle.ap_kernel.specs.Assume.{assume}
-use Rattle.ap_kernel.specs.Shapes.{Shape, constant, shape_of}
-use Rattle.ap_kernel.proofs.Shaped.{Says, shape_says}
-use Rattle.ap_kernel.proofs.Assumed.{assume_known, assume_holds}
+use Rattle.ap_world.proofs.Shaped.{Says, shape_says}
+use Rattle.ap_world.proofs.Assumed.{assume_known, assume_holds}
+use Rattle.ap_kernel.specs.Standing.{HasGround}
 use Rattle.ap_types.specs.Kinds.{bit, kind_of, all, without, meets, if_so}
 use Rattle.ap_types.specs.Rows.{tested, test_types, row_one, row_two, coerce_by}
 use Rattle.ap_types.specs.Narrowing.{cut}

@@ -9,8 +9,8 @@ use Rattle.ap_world.specs.declared.primitive.Primitive.{Primitive as Prim}
 use Rattle.ap_world.specs.declared.primitive.Primitive.TheVariants.{Equal, Less}
 use Rattle.ap_world.specs.Primitives.{prim_of}
 use Rattle.ap_world.specs.Types.{nil_bit, positive_bit, negative_bit}
-use Rattle.ap_kernel.specs.Standing.{Facts}
-use Rattle.ap_kernel.specs.Shapes.{Shape, constant, shape_of}
+use Rattle.ap_world.specs.Facts.{Facts}
+use Rattle.ap_world.specs.Shapes.{Shape, constant, shape_of}
 use Rattle.ap_types.specs.Kinds.{Kind, bit, kind_of, all, without}
 use Rattle.ap_types.specs.Rows.{recognised, is_single}
 

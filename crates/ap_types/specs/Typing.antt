@@ -21,8 +21,8 @@ use Rattle.ap_world.specs.declared.primitive.Primitive.TheVariants.{If, Coerce}
 use Rattle.ap_world.specs.Primitives.{prim_of}
 use Rattle.ap_world.specs.Types.{nil_bit}
 use Rattle.ap_world.specs.World.{Shown, function_of}
-use Rattle.ap_kernel.specs.Standing.{Facts}
-use Rattle.ap_kernel.specs.Assume.{whole, assume}
+use Rattle.ap_world.specs.Facts.{Facts}
+use Rattle.ap_world.specs.Assume.{whole, assume}
 use Rattle.ap_types.specs.declared.calls.Own.{Own}
 use Rattle.ap_types.specs.declared.rules.TypeRule.{TypeRule as Owned}
 use Rattle.ap_types.specs.declared.rules.FoundRule.{FoundRule as Found}

@@ -1,8 +1,8 @@
 ghost use Rattle.std.specs.Prelude.{◌≡◌};
 ghost use Rattle.ap_term.specs.declared.term.Term.{out-Term};
-ghost use Rattle.ap_kernel.specs.Shapes.{shape_of};
 ghost use Rattle.ap_types.specs.Narrowing.{signed, by_itself, by_recogniser, by_kind, by_constant, by_equation, is_zero, by_bound, by_pair, by_parts, leaves, cut};
 ghost use Rattle.ap_world.specs.Primitives.{prim_of};
+ghost use Rattle.ap_world.specs.Shapes.{shape_of};
 
 use crate::constants::{is_same, is_zero_value, kind_of};
 use crate::kinds::{ALL, Kind, NIL, bit, without};

@@ -1,7 +1,7 @@
 ghost use Rattle.std.specs.Prelude.{◌≡◌, map};
 ghost use Rattle.ap_list.specs.Lists.{lookup_by};
 ghost use Rattle.ap_value.specs.Values.{symbol_eq, acl2};
-ghost use Rattle.ap_kernel.specs.Shapes.{shape_of};
+ghost use Rattle.ap_world.specs.Shapes.{shape_of};
 ghost use Rattle.ap_types.specs.Kinds.{bit, union_from, union};
 ghost use Rattle.ap_types.specs.Rows.{recognised, tested, test_types, plus_row, times_row, minus_row, less_row, is_single, equal_row, cons_row, car_row, cdr_row, char_code_row, row_one, row_two, over_one, over_two, coerce_by, coerce_types};
 

@@ -1,7 +1,7 @@
 ghost use Rattle.std.specs.Prelude.{◌≡◌, true, false, map, IfOk, OnOk};
 ghost use Rattle.std.specs.Option.{option_map};
 ghost use Rattle.ap_world.specs.Primitives.{prim_of};
-ghost use Rattle.ap_kernel.specs.Assume.{assume};
+ghost use Rattle.ap_world.specs.Assume.{assume};
 ghost use Rattle.ap_types.specs.Kinds.{if_so};
 ghost use Rattle.ap_types.specs.Narrowing.{cut};
 ghost use Rattle.ap_types.specs.Scopes.{in_scope};

@@ -7,6 +7,9 @@ pub mod Clauses
 pub mod Recursion
 pub mod Ground
 pub mod Sound
+pub mod Facts
+pub mod Shapes
+pub mod Assume
 pub mod World
 pub mod Laws
 pub mod Units

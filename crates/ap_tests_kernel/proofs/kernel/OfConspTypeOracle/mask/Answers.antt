@@ -7,10 +7,10 @@ use Rattle.ap_world.specs.Names.{consp_name}
 use Rattle.ap_world.specs.Primitives.{is_cons}
 use Rattle.ap_world.specs.Types.{Has}
 use Rattle.ap_world.specs.World.{function_of}
+use Rattle.ap_world.specs.Facts.{Facts}
 use Rattle.ap_world.proofs.TotalMeaning.{models, value_is, val}
 use Rattle.ap_world.proofs.Equations.{val_consp, names_open}
 use Rattle.ap_world.proofs.Starting.{has_all}
-use Rattle.ap_kernel.specs.Standing.{Facts}
 use Rattle.ap_kernel.specs.Masks.{MaskHolds, IsCallOf}
 use Rattle.ap_tests_kernel.proofs.kernel.OfConspTypeOracle.mask.Goals as goal
 

@@ -1,5 +1,5 @@
 -- What is assumed holds where the term has the sign, and is known.
-use Rattle.std.proofs.Common.{◌≡◌, ◌≢◌, Bool, true, false, cond, not, IsTrue, List, [], ◌∷◌, ◌++◌, refl, ap, sym, ◌∙◌, subst}
+use Rattle.std.proofs.Common.{◌≡◌, ◌≢◌, Bool, true, false, cond, not, IsTrue, List, [], ◌∷◌, ◌++◌, Some, refl, ap, sym, ◌∙◌, subst}
 use Rattle.ap_list.specs.Lists.{Each}
 use Rattle.ap_value.specs.declared.value.Value.{Value}
 use Rattle.ap_value.specs.Values.{V, val_of, value_eq}
@@ -7,16 +7,16 @@ use Rattle.ap_term.specs.declared.term.Term.{Term}
 use Rattle.ap_world.specs.Names.{if_name, not_name}
 use Rattle.ap_world.specs.Primitives.{nil, truth}
 use Rattle.ap_world.specs.Meaning.{Env, Defs, HasValue, FactHolds}
-use Rattle.ap_world.specs.Sound.{known}
+use Rattle.ap_world.specs.Sound.{known, not_function}
+use Rattle.ap_world.specs.Facts.{Facts, KnownFacts, FactsHold}
+use Rattle.ap_world.specs.Shapes.{Shape, constant, choice, negation, constant_says, shape_of, is_constant}
+use Rattle.ap_world.specs.Assume.{parts, assumed, assume}
 use Rattle.ap_world.proofs.Knowing.{known_args, each_true, each_same}
 use Rattle.ap_world.proofs.TotalMeaning.{Apply, Models, val, val_is, value_is, val_quote}
 use Rattle.ap_world.proofs.Equations.{val_if, nil-eq, eq-not_nil, t_isnt_nil}
 use Rattle.ap_world.proofs.Starting.{val_not}
-use Rattle.ap_kernel.specs.Standing.{Facts, HasGround, KnownFacts, FactsHold}
-use Rattle.ap_kernel.specs.Shapes.{Shape, constant, choice, negation, constant_says, shape_of, is_constant}
-use Rattle.ap_kernel.specs.Assume.{parts, assumed, assume}
-use Rattle.ap_kernel.proofs.Shaped.{Says, shape_says}
-use Rattle.ap_kernel.proofs.Parts.{parts_each, assumed_each}
+use Rattle.ap_world.proofs.Shaped.{Says, shape_says}
+use Rattle.ap_world.proofs.Parts.{parts_each, assumed_each}
 
 -- a value other than nil, or nil
 abbrev pub Signed : Bool → V → Type 0
@@ -82,7 +82,7 @@ pub fact_says : (D : Defs) (A : Apply) → Models D A → (e : Env) (u : Term) (
 fact_says D A m e u true h = λ isnil. h.2 (value_is D A m u e h.0 h.1 ∙ isnil)
 fact_says D A m e u false h = sym (value_is D A m u e nil h)
 
-module _ (D : Defs) (A : Apply) (m : Models D A) (ground : HasGround D) (e : Env) where
+module _ (D : Defs) (A : Apply) (m : Models D A) (ground : D not_name ≡ Some not_function) (e : Env) where
   -- a constant that says so has the sign
   pub constant_signed : (s : Bool) (u : Term) → is_constant s u ≡ true → Signed s (val A u e)
   constant_signed s u h = go s (shape_of u) (shape_says u) h

@@ -10,9 +10,7 @@ use Rattle.ap_term.specs.declared.term.Term.TheVariants.{outs-Var, outs-Quote, o
 use Rattle.ap_term.proofs.Induction.{term_ind}
 use Rattle.ap_world.specs.Names.{if_name, not_name, equal_name, cons_name}
 use Rattle.ap_world.specs.Clauses.{not_of}
-use Rattle.ap_kernel.specs.declared.shapes.Head.{Head}
-use Rattle.ap_kernel.specs.declared.shapes.Head.TheVariants as head
-use Rattle.ap_kernel.specs.Shapes.{Shape, constant, choice, negation, equation, pair, other, head_by, head_of, call_shape, shape_of}
+use Rattle.ap_world.specs.Shapes.{Shape, constant, choice, negation, equation, pair, other, head_by, head_of, call_shape, shape_of, Head, if_head, not_head, equal_head, cons_head, other_head}
 
 -- the term that has the shape
 abbrev pub Says : Term → Shape Term → Type 0
@@ -25,11 +23,11 @@ Says u other = Unit {0}
 
 -- the symbol that has the head
 abbrev pub HeadSays : Symbol → Head → Type 0
-HeadSays f head.If = f ≡ if_name
-HeadSays f head.Not = f ≡ not_name
-HeadSays f head.Equal = f ≡ equal_name
-HeadSays f head.Cons = f ≡ cons_name
-HeadSays f head.Other = Unit {0}
+HeadSays f if_head = f ≡ if_name
+HeadSays f not_head = f ≡ not_name
+HeadSays f equal_head = f ≡ equal_name
+HeadSays f cons_head = f ≡ cons_name
+HeadSays f other_head = Unit {0}
 
 pub head_says : (f : Symbol) → HeadSays f (head_of f)
 unfolding head_of
@@ -43,10 +41,10 @@ head_says f = go (symbol_eq f if_name) (symbol_eq f not_name) (symbol_eq f equal
     go false false false false p q r s = tt
 
 call_says : (f : Symbol) (h : Head) (ts : List Term) → HeadSays f h → Says (Call f ts) (call_shape h ts)
-call_says f head.If (a ∷ b ∷ c ∷ []) k = ap (λ g. Call g (a ∷ b ∷ c ∷ [])) k
-call_says f head.Not (a ∷ []) k = ap (λ g. Call g (a ∷ [])) k
-call_says f head.Equal (a ∷ b ∷ []) k = ap (λ g. Call g (a ∷ b ∷ [])) k
-call_says f head.Cons (a ∷ b ∷ []) k = ap (λ g. Call g (a ∷ b ∷ [])) k
+call_says f if_head (a ∷ b ∷ c ∷ []) k = ap (λ g. Call g (a ∷ b ∷ c ∷ [])) k
+call_says f not_head (a ∷ []) k = ap (λ g. Call g (a ∷ [])) k
+call_says f equal_head (a ∷ b ∷ []) k = ap (λ g. Call g (a ∷ b ∷ [])) k
+call_says f cons_head (a ∷ b ∷ []) k = ap (λ g. Call g (a ∷ b ∷ [])) k
 call_says f h ts k = tt
 
 pub shape_says : (u : Term) → Says u (shape_of u)

@@ -8,12 +8,10 @@ use Rattle.ap_term.specs.declared.term.Term.TheVariants.{outs-Var, outs-Quote, o
 use Rattle.ap_term.specs.Terms.{size_step, term_size}
 use Rattle.ap_term.proofs.Induction.{term_ind, fold_call, para_var, para_quote, para_call}
 use Rattle.ap_world.specs.Names.{if_name, not_name}
-use Rattle.ap_kernel.specs.declared.shapes.Head.{Head}
-use Rattle.ap_kernel.specs.declared.shapes.Head.TheVariants as head
-use Rattle.ap_kernel.specs.Standing.{Facts}
-use Rattle.ap_kernel.specs.Shapes.{Shape, choice, negation, head_of, call_shape, shape_of, is_constant}
-use Rattle.ap_kernel.specs.Assume.{parts, gathered, assumed_step, assumed}
-use Rattle.ap_kernel.proofs.Shaped.{Says, shape_says}
+use Rattle.ap_world.specs.Facts.{Facts}
+use Rattle.ap_world.specs.Shapes.{Shape, choice, negation, head_of, call_shape, shape_of, is_constant, Head, if_head, not_head, equal_head, cons_head}
+use Rattle.ap_world.specs.Assume.{parts, gathered, assumed_step, assumed}
+use Rattle.ap_world.proofs.Shaped.{Says, shape_says}
 
 -- what holds of the test, and of both branches, holds of the parts
 pub parts_each : (Q : Term × Bool → Type 0) (a b c : Term) (s : Bool) → ((r : Bool) → Q (a, r)) → Q (b, s) → Q (c, s) → Each Q (parts (λ u. u) (choice a b c) s)
@@ -56,16 +54,16 @@ firsts (t ∷ ts) = ap (λ us. t ∷ us) (firsts ts)
 
 same_parts : (h : Head) (ts : List Term) (s : Bool)
     → map of_pair (parts (λ p. p.0) (call_shape h (map paired ts)) s) ≡ map of_part (parts (λ u. u) (call_shape h ts) s)
-same_parts head.If (a ∷ b ∷ c ∷ []) s = go (is_constant (not s) c) (is_constant (not s) b)
+same_parts if_head (a ∷ b ∷ c ∷ []) s = go (is_constant (not s) c) (is_constant (not s) b)
   where
     go : (x y : Bool) → map of_pair (cond x ((paired a, true) ∷ (paired b, s) ∷ []) (cond y ((paired a, false) ∷ (paired c, s) ∷ []) []))
         ≡ map of_part (cond x ((a, true) ∷ (b, s) ∷ []) (cond y ((a, false) ∷ (c, s) ∷ []) []))
     go true y = refl
     go false true = refl
     go false false = refl
-same_parts head.Not (a ∷ []) s = refl
-same_parts head.Equal (a ∷ b ∷ []) s = refl
-same_parts head.Cons (a ∷ b ∷ []) s = refl
+same_parts not_head (a ∷ []) s = refl
+same_parts equal_head (a ∷ b ∷ []) s = refl
+same_parts cons_head (a ∷ b ∷ []) s = refl
 same_parts h ts s = refl
 
 -- what is assumed is what is assumed of the parts, or the term's own fact
@@ -131,10 +129,10 @@ assumed_each Q down u s h = term_ind Goal variable quoted call u s h
     quoted v s q = rw (para_quote assumed_step v) (q, tt)
 
     from : (h : Head) (ts : List Term) (s : Bool) → Each Goal ts → Each (λ (p : Term × Bool). Goal p.0) (parts (λ u. u) (call_shape h ts) s)
-    from head.If (a ∷ b ∷ c ∷ []) s es = parts_each (λ (p : Term × Bool). Goal p.0) a b c s (λ r. es.0) es.1.0 es.1.1.0
-    from head.Not (a ∷ []) s es = (es.0, tt)
-    from head.Equal (a ∷ b ∷ []) s es = tt
-    from head.Cons (a ∷ b ∷ []) s es = tt
+    from if_head (a ∷ b ∷ c ∷ []) s es = parts_each (λ (p : Term × Bool). Goal p.0) a b c s (λ r. es.0) es.1.0 es.1.1.0
+    from not_head (a ∷ []) s es = (es.0, tt)
+    from equal_head (a ∷ b ∷ []) s es = tt
+    from cons_head (a ∷ b ∷ []) s es = tt
     from h ts s es = tt
 
     call : (f : Symbol) (ts : List Term) → Each Goal ts → Goal (Call f ts)
