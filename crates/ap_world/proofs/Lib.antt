@@ -11,5 +11,6 @@ pub mod Parts
 pub mod Places
 pub mod Shaped
 pub mod Starting
+pub mod Theories
 pub mod TotalMeaning
 pub mod Written

@@ -11,5 +11,7 @@ pub mod Facts
 pub mod Shapes
 pub mod Assume
 pub mod World
+pub mod Prescribing
+pub mod Theories
 pub mod Laws
 pub mod Units
