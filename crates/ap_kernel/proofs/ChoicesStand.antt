@@ -28,6 +28,7 @@ use Rattle.ap_world.proofs.TotalMeaning.{Apply, Models, models, val, val_is, val
 use Rattle.ap_world.proofs.Equations.{val_if, nil-eq, eq-not_nil, t-not_nil, t_isnt_nil, prim_of_not}
 use Rattle.ap_world.proofs.Starting.{val_not}
 use Rattle.ap_world.proofs.Shaped.{Says, shape_says}
+use Rattle.ap_world.proofs.Sets.{apart}
 use Rattle.ap_world.proofs.Parts.{parts_smaller}
 use Rattle.ap_kernel.specs.declared.shapes.ShapeRef.{ShapeRef}
 use Rattle.ap_kernel.specs.declared.shapes.ShapeRef.TheVariants as lent
@@ -40,7 +41,6 @@ use Rattle.ap_kernel.specs.Masks.{MaskHolds}
 use Rattle.ap_kernel.specs.Answers.{if_of}
 use Rattle.ap_kernel.specs.Choices.{bare_by, bare_step, bare, test_by, bare_test, means_t, is_t_constant, is_truth, by_branches, if_shape, by_constant, choice_leads, is_choice, choice_made}
 use Rattle.ap_kernel.proofs.Standing.{same_of, stand}
-use Rattle.ap_kernel.proofs.Typed.{apart}
 use Rattle.ap_kernel.proofs.CallsStand.{known_if}
 
 -- one call of `not` is taken off

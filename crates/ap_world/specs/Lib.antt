@@ -13,5 +13,10 @@ pub mod Assume
 pub mod World
 pub mod Prescribing
 pub mod Theories
+pub mod Kinds
+pub mod Rows
+pub mod Narrowing
+pub mod Typing
+pub mod KeptTypes
 pub mod Laws
 pub mod Units

@@ -3,6 +3,7 @@
 #![tactic(auto)]
 
 mod entry;
+mod kinds;
 pub mod laws;
 mod names;
 mod prescribing;
@@ -17,6 +18,7 @@ pub use entry::{
     Case, Entry, EntryRef, Function, Mask, Measure, RuleClass, Theorem, copy_cases, copy_entry,
     copy_function, copy_measure, copy_theorem,
 };
+pub use kinds::{Kind, Sign};
 pub use primitive::{Primitive, primitive_of};
 pub use theory::{Rune, RuneKind, Theory, copy_rune, copy_theory, same_rune};
 pub use world::{AddError, World};

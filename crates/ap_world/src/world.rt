@@ -160,6 +160,13 @@ impl World {
         }
     }
 
+    /// The number of entries. Takes no memory, and a time that doesn't grow with it.
+    pub fn entry_count(&self) -> usize
+        ensures { result ≡ length self.now.entries }
+    {
+        self.entries.len()
+    }
+
     /// The theorem with this number, from 0, of those of the class of type prescriptions that are about a
     /// function, in the order in which they were added; `None` past the last. Takes no memory. See the
     /// manual's topic `type-prescription`.

@@ -1,18 +1,17 @@
 -- Masks as sets: which types are in a union, a cut, a complement, and which the rows of a mask give.
-use Rattle.std.proofs.Common.{◌≡◌, ◌⊎◌, inl, inr, ℕ, zero, suc, Bool, true, false, cond, not, nat_eq, true≢false, List, [], ◌∷◌, ℤ, pos, negsuc, refl, sym, ap, ◌∙◌, eqb-true, eq-eqb, arith}
+use Rattle.std.proofs.Common.{◌≡◌, ◌⊎◌, inl, inr, ℕ, zero, suc, Bool, true, false, cond, not, nat_eq, true≢false, List, [], ◌∷◌, ℤ, pos, negsuc, refl, sym, ap, ◌∙◌, eqb-true, eq-eqb, arith, min}
 use Rattle.std.specs.Int.{bit_at}
 use Rattle.std.specs.Int.Bits.{bit_and, bit_or}
-use Rattle.std.proofs.lemmas.Nat.Bits.{bit_at_and, bit_at_or, bit_at_xor, bit_at-lt}
+use Rattle.std.proofs.lemmas.Nat.Bits.{bit_at_and, bit_at_or, bit_at_xor, bit_at-lt, bit_at-zero}
 use Rattle.ap_list.specs.Lists.{AnyOf}
 use Rattle.ap_value.specs.Values.{V, int, chr, str, sym as symbol, cons, value_eq}
 use Rattle.ap_world.specs.Primitives.{nil, t, truth}
 use Rattle.ap_world.specs.Types.{is_true_list, type_of, nil_bit, t_bit}
+use Rattle.ap_world.specs.Kinds.{Kind, Zero, Positive, Negative, Nil, True, OtherSymbol, Proper, Improper, Text, Character, kinds, bit, int_kind, symbol_kind, cons_kind, kind_of, all, without, meets, if_so, union_from, union}
+use Rattle.ap_world.specs.Rows.{test_types}
+use Rattle.ap_world.specs.Narrowing.{signed}
 use Rattle.ap_world.proofs.Equations.{names_open}
 use Rattle.ap_world.proofs.Starting.{has_all}
-use Rattle.ap_kernel.proofs.Typed.{apart}
-use Rattle.ap_types.specs.Kinds.{Kind, Zero, Positive, Negative, Nil, True, OtherSymbol, Proper, Improper, Text, Character, kinds, bit, int_kind, symbol_kind, cons_kind, kind_of, all, without, meets, if_so, union_from, union}
-use Rattle.ap_types.specs.Rows.{test_types}
-use Rattle.ap_types.specs.Narrowing.{signed}
 
 -- a value's type is in a mask
 abbrev pub In : ℕ → V → Type 0
@@ -95,6 +94,12 @@ one_or_none m i = go (bit_at m i) refl
     go : (b : ℕ) → bit_at m i ≡ b → (bit_at m i ≡ 1) ⊎ (bit_at m i ≡ 0)
     go zero e = inr e
     go (suc b) e = let l = bit_at-lt m i in inl (omega arith)
+
+-- two masks that share no type
+pub apart : (m o i : ℕ) → bit_and m o ≡ 0 → bit_at m i ≡ 1 → bit_at o i ≡ 1 → ⊥
+apart m o i h k l =
+    let e : min (bit_at m i) (bit_at o i) ≡ 0 = sym (bit_at_and m o i) ∙ ap (λ n. bit_at n i) h ∙ bit_at-zero i in
+    absurd (omega arith)
 
 pub in_both : (m n i : ℕ) → bit_at m i ≡ 1 → bit_at n i ≡ 1 → bit_at (bit_and m n) i ≡ 1
 in_both m n i h k = bit_at_and m n i ∙ (rw (h, k) refl)

@@ -11,15 +11,14 @@ use Rattle.ap_world.specs.Names.{not_name, consp_name, integerp_name, symbolp_na
 use Rattle.ap_world.specs.Primitives.{nil, t, truth, is_cons, is_integer, is_symbol, is_string, is_character, int_of, prim_of}
 use Rattle.ap_world.specs.Meaning.{Env, Defs}
 use Rattle.ap_world.specs.Types.{is_true_list, zero_bit, positive_bit, negative_bit, nil_bit, t_bit, symbol_bit, proper_bit, improper_bit, string_bit, character_bit}
-use Rattle.ap_world.specs.Sound.{DefinedAlike, known, is_head, takes}
+use Rattle.ap_world.specs.Sound.{DefinedAlike, known, not_function, is_head, takes}
 use Rattle.ap_world.specs.Ground.{true_listp_function}
+use Rattle.ap_world.specs.Rows.{recognisers, recognised, tested}
 use Rattle.ap_world.proofs.Knowing.{known_head}
 use Rattle.ap_world.proofs.TotalMeaning.{Apply, Models, val, apply_is}
 use Rattle.ap_world.proofs.Equations.{names_open, vals, t-not_nil, val_defined, val_consp, val_integerp, val_symbolp, val_stringp, val_characterp}
 use Rattle.ap_world.proofs.Starting.{val_not}
-use Rattle.ap_kernel.specs.Standing.{HasGround}
-use Rattle.ap_types.specs.Rows.{recognisers, recognised, tested}
-use Rattle.ap_types.proofs.Sets.{recognises, nil_recognised}
+use Rattle.ap_world.proofs.Sets.{recognises, nil_recognised}
 
 conses_recognised : (x : V) → is_cons x ≡ recognises (proper_bit + improper_bit) x
 conses_recognised (int (pos zero)) = refl
@@ -217,7 +216,7 @@ module _ (D : Defs) (A : Apply) (m : Models D A) where
       defined_here (D true_listp_name) 1 (subst (λ o. is_head D true_listp_name o 1 ≡ true) prim_of_true_listp h)
 
   -- what a call of a name that tests types gives
-  pub tests : HasGround D → TrueLists D → (f : Symbol) (r : ℕ) → tested f ≡ Some r → (a : Term) (e : Env) → known D (Call f (a ∷ [])) ≡ true
+  pub tests : D not_name ≡ Some not_function → TrueLists D → (f : Symbol) (r : ℕ) → tested f ≡ Some r → (a : Term) (e : Env) → known D (Call f (a ∷ [])) ≡ true
       → val A (Call f (a ∷ [])) e ≡ truth (recognises r (val A a e))
   unfolding recognised recognisers
   tests ground lists f r h a e k = go (symbol_eq f not_name) refl (symbol_eq f consp_name) refl (symbol_eq f integerp_name) refl (symbol_eq f symbolp_name) refl (symbol_eq f stringp_name) refl (symbol_eq f characterp_name) refl (symbol_eq f true_listp_name) refl h

@@ -1,10 +1,15 @@
 -- The mask that a function keeps: the least that its body gives back.
 use Rattle.std.specs.Prelude.{ℕ, zero, suc, cond, nat_eq, []}
 use Rattle.ap_value.specs.declared.symbol.Symbol.{Symbol}
+use Rattle.ap_value.specs.Values.{symbol_eq}
 use Rattle.ap_term.specs.declared.term.Term.{Term}
 use Rattle.ap_world.specs.World.{Shown}
-use Rattle.ap_types.specs.Kinds.{all}
-use Rattle.ap_types.specs.Typing.{types_with, types_by}
+use Rattle.ap_world.specs.Kinds.{all}
+use Rattle.ap_world.specs.Typing.{function_types, types_by}
+
+-- the types of a function's calls, where those of one function have a mask of their own
+abbrev pub types_with : Shown → Symbol → ℕ → Symbol → ℕ
+types_with w name m f = cond (symbol_eq f name) m (function_types w f)
 
 -- what the body gives back where the calls of the function have this mask; nothing is known of its formals
 abbrev pub body_types : Shown → Symbol → Term → ℕ → ℕ

@@ -12,9 +12,9 @@ use Rattle.ap_world.specs.declared.primitive.Primitive.TheVariants.{Equal, Cons,
 use Rattle.ap_world.specs.Primitives.{symbol_value}
 use Rattle.ap_world.specs.Types.{zero_bit, positive_bit, negative_bit, nil_bit, t_bit, symbol_bit, proper_bit, improper_bit, string_bit, character_bit}
 use Rattle.ap_world.specs.Shapes.{Shape, constant, shape_of}
-use Rattle.ap_types.specs.Kinds.{Kind, Positive, Negative, Nil, Proper, Improper, Character, bit, all, without, meets, if_so, union}
-use Rattle.ap_types.specs.declared.kinds.Sign.{Sign}
-use Rattle.ap_types.specs.declared.kinds.Sign.TheVariants as sign
+use Rattle.ap_world.specs.Kinds.{Kind, Positive, Negative, Nil, Proper, Improper, Character, bit, all, without, meets, if_so, union}
+use Rattle.ap_world.specs.declared.kinds.Sign.{Sign}
+use Rattle.ap_world.specs.declared.kinds.Sign.TheVariants as sign
 
 -- the recognisers, each with the types that it is true of
 unfoldable pub recognisers : List (Symbol × ℕ)

@@ -4,8 +4,8 @@ use Rattle.std.specs.Int.Bits.{bit_and, bit_or, bit_xor}
 use Rattle.ap_value.specs.Values.{V, int, chr, str, sym, cons, value_eq}
 use Rattle.ap_world.specs.Primitives.{nil, t}
 use Rattle.ap_world.specs.Types.{is_true_list, zero_bit, positive_bit, negative_bit, nil_bit, t_bit, symbol_bit, proper_bit, improper_bit, string_bit, character_bit, all_types}
-pub use Rattle.ap_types.specs.declared.kinds.Kind.{Kind}
-pub use Rattle.ap_types.specs.declared.kinds.Kind.TheVariants.{Zero, Positive, Negative, Nil, True, OtherSymbol, Proper, Improper, Text, Character}
+pub use Rattle.ap_world.specs.declared.kinds.Kind.{Kind}
+pub use Rattle.ap_world.specs.declared.kinds.Kind.TheVariants.{Zero, Positive, Negative, Nil, True, OtherSymbol, Proper, Improper, Text, Character}
 
 abbrev pub kinds : List Kind
 kinds = Zero ∷ Positive ∷ Negative ∷ Nil ∷ True ∷ OtherSymbol ∷ Proper ∷ Improper ∷ Text ∷ Character ∷ []

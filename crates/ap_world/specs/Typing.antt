@@ -1,19 +1,14 @@
 -- The types that a term's value can have under facts. See the manual's topic `type-set`.
-use Rattle.std.specs.Prelude.{ℕ, Bool, true, false, cond, not, ◌&&◌, ◌||◌, nat_eq, List, [], ◌∷◌, map, Option, Some, None}
+use Rattle.std.specs.Prelude.{ℕ, Bool, true, false, cond, ◌&&◌, ◌||◌, nat_eq, List, [], ◌∷◌, map, Option, Some, None}
 use Rattle.std.specs.Int.Bits.{bit_and, bit_or}
 use Rattle.ap_list.specs.Lists.{all_true, is_distinct}
 use Rattle.ap_value.specs.declared.symbol.Symbol.{Symbol}
-use Rattle.ap_value.specs.Values.{val_of, symbol_eq}
+use Rattle.ap_value.specs.Values.{val_of}
 use Rattle.ap_term.specs.declared.term.Term.{Term, out-Term, para-Term}
 use Rattle.ap_term.specs.declared.term.Term.TheOpen.{Term-F}
 use Rattle.ap_term.specs.Equal.{term_eq}
 use Rattle.ap_world.specs.declared.entry.Function.{Function}
 use Rattle.ap_world.specs.declared.entry.Theorem.{Theorem}
-use Rattle.ap_world.specs.declared.entry.RuleClass.{RuleClass}
-use Rattle.ap_world.specs.declared.entry.RuleClass.TheVariants as class
-use Rattle.ap_world.specs.declared.entry.Entry.{Entry}
-use Rattle.ap_world.specs.declared.entry.Entry.TheVariants as entry
-use Rattle.ap_world.specs.declared.theory.Rune.{Rune}
 use Rattle.ap_world.specs.declared.theory.Rune.TheVariants as rune
 use Rattle.ap_world.specs.declared.theory.Theory.{Theory}
 use Rattle.ap_world.specs.declared.primitive.Primitive.{Primitive as Prim}
@@ -21,38 +16,15 @@ use Rattle.ap_world.specs.declared.primitive.Primitive.TheVariants.{If, Coerce}
 use Rattle.ap_world.specs.Primitives.{prim_of}
 use Rattle.ap_world.specs.Types.{nil_bit}
 use Rattle.ap_world.specs.World.{Shown, function_of}
+use Rattle.ap_world.specs.Prescribing.{theorems_about}
+use Rattle.ap_world.specs.Theories.{is_enabled}
 use Rattle.ap_world.specs.Facts.{Facts}
 use Rattle.ap_world.specs.Assume.{whole, assume}
-use Rattle.ap_types.specs.declared.calls.Own.{Own}
-use Rattle.ap_types.specs.declared.rules.TypeRule.{TypeRule as Owned}
-use Rattle.ap_types.specs.declared.rules.FoundRule.{FoundRule as Found}
-use Rattle.ap_types.specs.Kinds.{bit, kind_of, all, without, meets, if_so}
-use Rattle.ap_types.specs.Rows.{recognised, tested, test_types, over_one, over_two, coerce_types}
-use Rattle.ap_types.specs.Narrowing.{cut}
+use Rattle.ap_world.specs.Kinds.{bit, kind_of, all, without, meets, if_so}
+use Rattle.ap_world.specs.Rows.{recognised, tested, test_types, over_one, over_two, coerce_types}
+use Rattle.ap_world.specs.Narrowing.{cut}
 
--- the theory disables the type-prescription rune of this name
-abbrev pub silences : Symbol → Rune → Bool
-silences f (rune.TypePrescription g) = symbol_eq f g
-silences f r = false
-
-abbrev pub any_silences : Symbol → List Rune → Bool
-any_silences f [] = false
-any_silences f (r ∷ rs) = silences f r || any_silences f rs
-
-abbrev pub is_silent : Theory → Symbol → Bool
-is_silent h f = any_silences f h.disabled
-
--- a type-prescription rule: the function that it is about, and the types that it leaves to its calls
-abbrev pub TypeRule : Type 0
-TypeRule = Symbol × ℕ
-
-abbrev pub seen_rule : Owned → TypeRule
-seen_rule r = (r.about, r.types)
-
-abbrev pub found_rule : Found → TypeRule
-found_rule r = (r.about.now, r.types)
-
--- a term's rule, where it is a recogniser on a call of distinct variables
+-- a term that is a variable
 abbrev pub is_variable : Term-F Term → Bool
 is_variable (Term-F.Var x) = true
 is_variable y = false
@@ -60,50 +32,34 @@ is_variable y = false
 abbrev pub are_distinct_variables : List Term → Bool
 are_distinct_variables ts = all_true (map (λ u. is_variable (out-Term u)) ts) && is_distinct term_eq ts
 
-abbrev pub rule_on : Option ℕ → Term-F Term → Option TypeRule
-rule_on (Some r) (Term-F.Call f ts) = cond (are_distinct_variables ts) (Some (f, r)) None
-rule_on o y = None
+-- the types that a recogniser leaves to a call of distinct variables; all to another term
+abbrev pub types_on : Option ℕ → Term-F Term → ℕ
+types_on (Some r) (Term-F.Call f ts) = cond (are_distinct_variables ts) r all
+types_on o y = all
 
-abbrev pub rule_of : Term-F Term → Option TypeRule
-rule_of (Term-F.Call r (a ∷ [])) = rule_on (recognised r) (out-Term a)
-rule_of y = None
+-- the types that a term leaves to the call that it is a recogniser on
+abbrev pub prescribed_types : Term-F Term → ℕ
+prescribed_types (Term-F.Call r (a ∷ [])) = types_on (recognised r) (out-Term a)
+prescribed_types y = all
 
--- a theorem of the class of type prescriptions that is enabled
-abbrev pub prescribes : List RuleClass → Bool
-prescribes [] = false
-prescribes (class.TypePrescription ∷ cs) = true
-prescribes (c ∷ cs) = prescribes cs
+-- the types that a theorem leaves to the calls of the function that it is about, where it is enabled
+abbrev pub left_by : Theory → Theorem → ℕ
+left_by h u = cond (is_enabled h (rune.TypePrescription u.name)) (prescribed_types (out-Term u.term)) all
 
-abbrev pub speaks : Theory → Theorem → Bool
-speaks h u = prescribes u.classes && not (is_silent h u.name)
-
-abbrev pub rule_in : Theory → Entry → Option TypeRule
-rule_in h (entry.Theorem u) = cond (speaks h u) (rule_of (out-Term u.term)) None
-rule_in h y = None
-
-abbrev pub with_rule : Option TypeRule → List TypeRule → List TypeRule
-with_rule None rs = rs
-with_rule (Some r) rs = r ∷ rs
-
--- the rules of the entries
-abbrev pub rules_in : Theory → List Entry → List TypeRule
-rules_in h [] = []
-rules_in h (y ∷ ys) = with_rule (rule_in h y) (rules_in h ys)
-
--- a mask cut by the rules about a function
-abbrev pub narrowed : Symbol → List TypeRule → ℕ → ℕ
-narrowed f [] m = m
-narrowed f (r ∷ rs) m = narrowed f rs (cond (symbol_eq f r.0) (bit_and m r.1) m)
+-- a mask cut by theorems
+abbrev pub narrowed : Theory → List Theorem → ℕ → ℕ
+narrowed h [] m = m
+narrowed h (u ∷ us) m = narrowed h us (bit_and m (left_by h u))
 
 -- a function's kept mask
 abbrev pub kept_of : Option Function → ℕ
 kept_of None = all
 kept_of (Some g) = g.mask.0
 
--- the types of a function's calls, whatever the arguments: its kept mask cut by the rules about it, where
+-- the types of a function's calls, whatever the arguments: its kept mask cut by the theorems about it, where
 -- its type-prescription rune is enabled
 abbrev pub function_types : Shown → Symbol → ℕ
-function_types w f = cond (is_silent w.theory f) all (narrowed f (rules_in w.theory w.entries) (kept_of (function_of w.entries f)))
+function_types w f = cond (is_enabled w.theory (rune.TypePrescription f)) (narrowed w.theory (theorems_about f w.entries) (kept_of (function_of w.entries f))) all
 
 -- an argument has no type
 abbrev pub any_empty : List ℕ → Bool
@@ -118,14 +74,6 @@ if_parts o ps = None
 -- what an `if` can be, by the types of its test and of its branches
 abbrev pub chosen_types : ℕ → ℕ → ℕ → ℕ
 chosen_types m b c = bit_or (if_so (meets m (without nil_bit)) b) (if_so (meets m nil_bit) c)
-
--- the types of a function's calls, where those of one function may have a mask of their own
-abbrev pub types_with : Shown → Symbol → ℕ → Symbol → ℕ
-types_with w name m f = cond (symbol_eq f name) m (function_types w f)
-
-abbrev pub types_in : Shown → Option Own → Symbol → ℕ
-types_in w None = function_types w
-types_in w (Some o) = types_with w o.name.now o.mask
 
 -- what follows is told the types of the calls of each function
 module _ (K : Symbol → ℕ) where

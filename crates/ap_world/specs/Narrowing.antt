@@ -11,8 +11,8 @@ use Rattle.ap_world.specs.Primitives.{prim_of}
 use Rattle.ap_world.specs.Types.{nil_bit, positive_bit, negative_bit}
 use Rattle.ap_world.specs.Facts.{Facts}
 use Rattle.ap_world.specs.Shapes.{Shape, constant, shape_of}
-use Rattle.ap_types.specs.Kinds.{Kind, bit, kind_of, all, without}
-use Rattle.ap_types.specs.Rows.{recognised, is_single}
+use Rattle.ap_world.specs.Kinds.{Kind, bit, kind_of, all, without}
+use Rattle.ap_world.specs.Rows.{recognised, is_single}
 
 -- the types where the sign is true, the others where it is false
 abbrev pub signed : Bool → ℕ → ℕ
