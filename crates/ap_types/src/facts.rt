@@ -117,7 +117,13 @@ fn by_parts(t: &Term, sign: bool, fact: &Term) -> u16
                     ALL
                 }
             }
-            [a, b] => by_pair(t, sign, primitive_of(f), a, b),
+            [a, b] => {
+                if is_same(a, t) || is_same(b, t) {
+                    by_pair(t, sign, primitive_of(f), a, b)
+                } else {
+                    ALL
+                }
+            }
             _ => ALL,
         },
         _ => ALL,
