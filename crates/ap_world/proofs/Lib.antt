@@ -9,6 +9,8 @@ pub mod Knowing
 pub mod Looking
 pub mod Parts
 pub mod Places
+pub mod Placing
+pub mod Prescribed
 pub mod Recognising
 pub mod Sets
 pub mod Shaped

@@ -1,6 +1,5 @@
 pub mod Names
 pub mod Primitives
-pub mod Kept
 pub mod Meaning
 pub mod Types
 pub mod Clauses
@@ -12,6 +11,7 @@ pub mod Shapes
 pub mod Assume
 pub mod World
 pub mod Prescribing
+pub mod Kept
 pub mod Theories
 pub mod Kinds
 pub mod Rows

@@ -2,12 +2,14 @@
 //! theory. Its type keeps that the world is sound.
 #![tactic(auto)]
 
+mod entries;
 mod entry;
 mod kinds;
 pub mod laws;
 mod names;
 mod prescribing;
 mod primitive;
+mod tables;
 mod theory;
 mod world;
 
