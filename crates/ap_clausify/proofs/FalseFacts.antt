@@ -5,10 +5,10 @@ use Rattle.ap_term.specs.declared.term.Term.{Term}
 use Rattle.ap_term.specs.declared.term.Clause.{Clause}
 use Rattle.ap_world.specs.Meaning.{Defs}
 use Rattle.ap_world.specs.Sound.{known}
-use Rattle.ap_kernel.specs.Standing.{Facts, KnownFacts}
-use Rattle.ap_kernel.specs.Assume.{assumed}
+use Rattle.ap_world.specs.Facts.{Facts, KnownFacts}
+use Rattle.ap_world.specs.Assume.{assumed}
+use Rattle.ap_world.proofs.Assumed.{assumed_known}
 use Rattle.ap_kernel.specs.Reductions.{KnownClause, all_false}
-use Rattle.ap_kernel.proofs.Assumed.{assumed_known}
 use Rattle.ap_kernel.proofs.Reduced.{each_append}
 
 -- what is assumed of known terms is known

@@ -1,6 +1,7 @@
 ghost use Rattle.std.specs.Prelude.{◌≡◌, ◌∷◌, [], ◌++◌, IfOk, OnOk};
 ghost use Rattle.ap_world.specs.World.{function_of};
-ghost use Rattle.ap_kernel.specs.Standing.{Facts, HasGround};
+ghost use Rattle.ap_world.specs.Facts.{Facts};
+ghost use Rattle.ap_kernel.specs.Standing.{HasGround};
 ghost use Rattle.ap_kernel.specs.Reductions.{KnownClause, Reduces, all_false};
 
 use ap_kernel::{Ctx, Mode, Reduction, assume, refl, rewrite_literal, tidy};

@@ -11,19 +11,20 @@ use Rattle.ap_world.specs.Primitives.{nil, truth, prim_of}
 use Rattle.ap_world.specs.Meaning.{Env, Defs, Total}
 use Rattle.ap_world.specs.Clauses.{not_of}
 use Rattle.ap_world.specs.Sound.{known, is_head, takes, not_function}
+use Rattle.ap_world.specs.Facts.{KnownFacts, FactsHold}
+use Rattle.ap_world.specs.Assume.{assume}
 use Rattle.ap_world.proofs.Knowing.{known_by, true_each}
 use Rattle.ap_world.proofs.TotalMeaning.{Apply, Models, models, val, values_of, val_call, head_val}
 use Rattle.ap_world.proofs.Equations.{val_if, nil-eq, eq-not_nil, prim_of_if, prim_of_not}
 use Rattle.ap_world.proofs.Starting.{val_not}
+use Rattle.ap_world.proofs.Assumed.{assume_holds}
 use Rattle.ap_kernel.specs.declared.objects.Ctx.{Ctx}
 use Rattle.ap_kernel.specs.declared.objects.Mode.{Mode}
 use Rattle.ap_kernel.specs.declared.objects.Mode.TheVariants.{Equal, Iff}
 use Rattle.ap_kernel.specs.declared.objects.Equiv.{Equiv}
-use Rattle.ap_kernel.specs.Standing.{HasGround, KnownFacts, FactsHold, Same, Stands}
-use Rattle.ap_kernel.specs.Assume.{assume}
+use Rattle.ap_kernel.specs.Standing.{HasGround, Same, Stands}
 use Rattle.ap_kernel.specs.Answers.{if_of, branch_made, ModeFits, IsArgument, lefts, rights, cong_made, turned}
 use Rattle.ap_kernel.proofs.Standing.{agree, stand}
-use Rattle.ap_kernel.proofs.Assumed.{assume_holds}
 
 -- lists, last first
 pub turned_end : {A : Type 0} (xs : List A) (x : A) → turned (xs ++ x ∷ []) ≡ x ∷ turned xs

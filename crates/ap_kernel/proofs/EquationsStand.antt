@@ -13,16 +13,17 @@ use Rattle.ap_world.specs.Primitives.{nil, t, truth}
 use Rattle.ap_world.specs.Meaning.{Env, Defs, Total, FactHolds}
 use Rattle.ap_world.specs.Sound.{known}
 use Rattle.ap_world.specs.Recursion.{nil_constant, t_constant}
+use Rattle.ap_world.specs.Facts.{Facts, KnownFacts, FactsHold}
+use Rattle.ap_world.specs.Shapes.{Shape, constant, equation, pair, shape_of}
 use Rattle.ap_world.proofs.Knowing.{known_by, known_quote, known_args, each_true, true_each}
 use Rattle.ap_world.proofs.TotalMeaning.{Apply, Models, models, val, val_quote}
 use Rattle.ap_world.proofs.Equations.{val_if, val_equal, val_cons, val_of_nil, val_of_t, t-not_nil, t_isnt_nil, prim_of_equal}
+use Rattle.ap_world.proofs.Shaped.{Says, shape_says}
+use Rattle.ap_world.proofs.Assumed.{Signed, fact_says}
 use Rattle.ap_kernel.specs.declared.objects.Ctx.{Ctx}
-use Rattle.ap_kernel.specs.Standing.{Facts, KnownFacts, FactsHold, Stands}
-use Rattle.ap_kernel.specs.Shapes.{Shape, constant, equation, pair, shape_of}
+use Rattle.ap_kernel.specs.Standing.{Stands}
 use Rattle.ap_kernel.specs.Equations.{equal_of, truth_constant, constant_parts, parts_by, cons_parts, apart, both_apart, by_sign, sides_lead, shape_leads, equation_leads, equation_made}
 use Rattle.ap_kernel.proofs.Standing.{stand}
-use Rattle.ap_kernel.proofs.Shaped.{Says, shape_says}
-use Rattle.ap_kernel.proofs.Assumed.{Signed, fact_says}
 use Rattle.ap_kernel.proofs.CallsStand.{known_if}
 
 pub value_eq-turned : (v w : V) → value_eq v w ≡ value_eq w v

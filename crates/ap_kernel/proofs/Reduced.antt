@@ -7,17 +7,18 @@ use Rattle.ap_term.specs.declared.term.Clause.{Clause}
 use Rattle.ap_world.specs.Primitives.{nil}
 use Rattle.ap_world.specs.Meaning.{Env, Defs, Total, FactHolds, Valid}
 use Rattle.ap_world.specs.Sound.{known}
+use Rattle.ap_world.specs.Facts.{FactsHold}
+use Rattle.ap_world.specs.Assume.{assumed}
 use Rattle.ap_world.proofs.Knowing.{true_each}
 use Rattle.ap_world.proofs.TotalMeaning.{Apply, Models, models, val, AnyTrue, valid_is, valid_of}
 use Rattle.ap_world.proofs.Equations.{nil-eq, eq-not_nil}
+use Rattle.ap_world.proofs.Assumed.{both_each, assumed_holds}
 use Rattle.ap_kernel.specs.declared.objects.Equiv.{Equiv}
 use Rattle.ap_kernel.specs.declared.reductions.Reduction.{Reduction}
-use Rattle.ap_kernel.specs.Standing.{HasGround, FactsHold, Stands}
-use Rattle.ap_kernel.specs.Assume.{assumed}
+use Rattle.ap_kernel.specs.Standing.{HasGround, Stands}
 use Rattle.ap_kernel.specs.Answers.{turned}
 use Rattle.ap_kernel.specs.Reductions.{KnownClause, Reduces, put_at, others, all_false, to_one, dropped, rewritten, chained}
 use Rattle.ap_kernel.proofs.Standing.{agree}
-use Rattle.ap_kernel.proofs.Assumed.{both_each, assumed_holds}
 use Rattle.ap_kernel.proofs.CallsStand.{both_nil, turned_end}
 
 -- lists in parts: what holds of some element, and of each

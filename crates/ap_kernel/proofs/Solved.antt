@@ -17,18 +17,18 @@ use Rattle.ap_world.specs.Primitives.{nil, truth, prim_of}
 use Rattle.ap_world.specs.Meaning.{Env, value_at, Defs, Total}
 use Rattle.ap_world.specs.Clauses.{not_of}
 use Rattle.ap_world.specs.Sound.{known}
+use Rattle.ap_world.specs.Shapes.{Shape, negation, equation, shape_of}
 use Rattle.ap_world.proofs.Knowing.{known_var, known_quote, known_by, known_args, known_head, each_true, true_each}
 use Rattle.ap_world.proofs.TotalMeaning.{Apply, Models, val, values_of, val_var, val_quote, val_call, head_val, replaced, val_subst, AnyTrue}
 use Rattle.ap_world.proofs.Equations.{val_equal, eq-not_nil, t_isnt_nil}
 use Rattle.ap_world.proofs.Starting.{val_not}
+use Rattle.ap_world.proofs.Shaped.{Says, shape_says}
 use Rattle.ap_kernel.specs.declared.reductions.Reduction.{Reduction}
 use Rattle.ap_kernel.specs.Standing.{HasGround}
-use Rattle.ap_kernel.specs.Shapes.{Shape, negation, equation, shape_of}
 use Rattle.ap_kernel.specs.Equations.{equal_of}
 use Rattle.ap_kernel.specs.Reductions.{KnownClause, Reduces, others}
 use Rattle.ap_kernel.specs.Splits.{and_then}
 use Rattle.ap_kernel.specs.Solving.{occurs, side_solved, left_first, sides_solved, equation_solved, negated_solved, solved_by, replaced_in, solved_made}
-use Rattle.ap_kernel.proofs.Shaped.{Says, shape_says}
 use Rattle.ap_kernel.proofs.Typed.{each_at}
 use Rattle.ap_kernel.proofs.Reduced.{each_put, any_others, any_at, to_one_reduces}
 use Rattle.ap_kernel.proofs.Splitting.{then_some}

@@ -4,12 +4,13 @@ use Rattle.ap_value.specs.Values.{V}
 use Rattle.ap_term.specs.declared.term.Term.{Term}
 use Rattle.ap_world.specs.Meaning.{Env, Defs, Total}
 use Rattle.ap_world.specs.Sound.{known}
+use Rattle.ap_world.specs.Facts.{KnownFacts, FactsHold}
 use Rattle.ap_world.proofs.TotalMeaning.{Apply, Models, val, val_is, value_is, models}
 use Rattle.ap_kernel.specs.declared.objects.Ctx.{Ctx}
 use Rattle.ap_kernel.specs.declared.objects.Mode.{Mode}
 use Rattle.ap_kernel.specs.declared.objects.Mode.TheVariants.{Equal, Iff}
 use Rattle.ap_kernel.specs.declared.objects.Equiv.{Equiv}
-use Rattle.ap_kernel.specs.Standing.{KnownFacts, FactsHold, Same, Stands}
+use Rattle.ap_kernel.specs.Standing.{Same, Stands}
 
 pub same_refl : (m : Mode) (v : V) → Same m v v
 same_refl Equal v = refl

@@ -10,18 +10,18 @@ use Rattle.ap_term.proofs.Equals.{term_eq-true}
 use Rattle.ap_world.specs.Primitives.{nil}
 use Rattle.ap_world.specs.Meaning.{Env, Defs, Total}
 use Rattle.ap_world.specs.Sound.{known}
+use Rattle.ap_world.specs.Shapes.{Shape, constant, negation, shape_of, is_constant}
 use Rattle.ap_world.proofs.Knowing.{known_quote, true_each}
 use Rattle.ap_world.proofs.TotalMeaning.{Apply, Models, models, val, val_quote, AnyTrue, valid_is, valid_of}
 use Rattle.ap_world.proofs.Equations.{nil-eq, eq-not_nil}
 use Rattle.ap_world.proofs.Starting.{val_not}
+use Rattle.ap_world.proofs.Shaped.{Says, shape_says}
+use Rattle.ap_world.proofs.Assumed.{constant_signed}
 use Rattle.ap_kernel.specs.Standing.{HasGround}
-use Rattle.ap_kernel.specs.Shapes.{Shape, constant, negation, shape_of, is_constant}
 use Rattle.ap_kernel.specs.Equations.{truth_constant}
 use Rattle.ap_kernel.specs.Choices.{bare}
 use Rattle.ap_kernel.specs.Reductions.{KnownClause, Reduces}
 use Rattle.ap_kernel.specs.Tidying.{negated_bare, plain, kept, tidied, is_opposed, decides, any_decides, holds_by_itself, tidy_made}
-use Rattle.ap_kernel.proofs.Shaped.{Says, shape_says}
-use Rattle.ap_kernel.proofs.Assumed.{constant_signed}
 use Rattle.ap_kernel.proofs.EquationsStand.{val_truth_constant}
 use Rattle.ap_kernel.proofs.ChoicesStand.{bare_known, turned_by, bare_turns, not_nil, known_not}
 

@@ -1,8 +1,7 @@
 -- A mask that leaves one value, or excludes nil, and a fact: what they lead to.
-use Rattle.std.proofs.Common.{◌≡◌, ◌≢◌, ◌↔◌, ℕ, zero, suc, Bool, true, false, cond, not, ◌&&◌, ◌||◌, IsTrue, List, [], ◌∷◌, Some, None, slice_get, pos, negsuc, refl, ap, sym, ◌∙◌, subst, eqb-true, arith, min}
+use Rattle.std.proofs.Common.{◌≡◌, ◌≢◌, ◌↔◌, ℕ, zero, suc, Bool, true, false, cond, not, ◌&&◌, ◌||◌, IsTrue, List, [], ◌∷◌, Some, None, slice_get, pos, negsuc, refl, ap, sym, ◌∙◌, subst, eqb-true}
 use Rattle.std.specs.Int.{bit_at}
 use Rattle.std.specs.Int.Bits.{bit_and}
-use Rattle.std.proofs.lemmas.Nat.Bits.{bit_at_and, bit_at-zero}
 use Rattle.ap_list.specs.Lists.{Each}
 use Rattle.ap_value.specs.declared.value.Value.{Value}
 use Rattle.ap_value.specs.Values.{V, int, chr, str, sym as symbol, cons, val_of, value_eq}
@@ -13,23 +12,19 @@ use Rattle.ap_world.specs.Primitives.{nil, t}
 use Rattle.ap_world.specs.Meaning.{Env, Defs, Total, FactHolds}
 use Rattle.ap_world.specs.Types.{is_true_list, type_of, Has}
 use Rattle.ap_world.specs.Sound.{known}
+use Rattle.ap_world.specs.Facts.{KnownFacts, FactsHold}
 use Rattle.ap_world.proofs.Knowing.{known_quote}
 use Rattle.ap_world.proofs.TotalMeaning.{Apply, Models, models, val, val_is, val_quote}
 use Rattle.ap_world.proofs.Equations.{val_of_nil, val_of_t, eq-not_nil, t_isnt_nil, names_open}
 use Rattle.ap_world.proofs.Starting.{has_all}
+use Rattle.ap_world.proofs.Assumed.{fact_says}
+use Rattle.ap_world.proofs.Sets.{apart}
 use Rattle.ap_kernel.specs.declared.objects.Ctx.{Ctx}
 use Rattle.ap_kernel.specs.declared.objects.Mode.TheVariants.{Equal, Iff}
-use Rattle.ap_kernel.specs.Standing.{KnownFacts, FactsHold, Same, Stands}
+use Rattle.ap_kernel.specs.Standing.{Same, Stands}
 use Rattle.ap_kernel.specs.Masks.{MaskHolds, others, has_only, lacks_nil, leads_to, typed_mode, typed_made}
 use Rattle.ap_kernel.specs.Answers.{fact_made}
 use Rattle.ap_kernel.proofs.Standing.{stand}
-use Rattle.ap_kernel.proofs.Assumed.{fact_says}
-
--- two masks that share no type
-pub apart : (m o i : ℕ) → bit_and m o ≡ 0 → bit_at m i ≡ 1 → bit_at o i ≡ 1 → ⊥
-apart m o i h k l =
-    let e : min (bit_at m i) (bit_at o i) ≡ 0 = sym (bit_at_and m o i) ∙ ap (λ n. bit_at n i) h ∙ bit_at-zero i in
-    absurd (omega arith)
 
 nil_type : type_of nil ≡ 3
 unfolding nil value_eq names_open

@@ -7,14 +7,14 @@ use Rattle.ap_term.specs.Equal.{term_eq}
 use Rattle.ap_world.specs.declared.entry.Mask.{Mask}
 use Rattle.ap_world.specs.Primitives.{nil, t}
 use Rattle.ap_world.specs.Clauses.{not_of}
+use Rattle.ap_world.specs.Shapes.{Shape, constant, choice, negation, layer_shape, shape_of, is_constant}
+use Rattle.ap_world.specs.Assume.{whole}
 use Rattle.ap_kernel.specs.declared.objects.Ctx.{Ctx}
 use Rattle.ap_kernel.specs.declared.objects.Mode.{Mode}
 use Rattle.ap_kernel.specs.declared.objects.Mode.TheVariants.{Equal, Iff}
 use Rattle.ap_kernel.specs.declared.objects.Equiv.{Equiv}
 use Rattle.ap_kernel.specs.declared.choices.Chosen.{Chosen}
 use Rattle.ap_kernel.specs.declared.choices.Chosen.TheVariants as lent
-use Rattle.ap_kernel.specs.Shapes.{Shape, constant, choice, negation, layer_shape, shape_of, is_constant}
-use Rattle.ap_kernel.specs.Assume.{whole}
 use Rattle.ap_kernel.specs.Answers.{if_of}
 
 -- a term without the calls of `not` around it, and whether their number is odd

@@ -8,11 +8,11 @@ use Rattle.ap_world.specs.declared.entry.Mask.{Mask}
 use Rattle.ap_world.specs.Primitives.{nil, t}
 use Rattle.ap_world.specs.Meaning.{Env, Defs, HasValue}
 use Rattle.ap_world.specs.Types.{Has}
+use Rattle.ap_world.specs.Facts.{Facts, FactsHold}
 use Rattle.ap_kernel.specs.declared.objects.Ctx.{Ctx}
 use Rattle.ap_kernel.specs.declared.objects.Mode.{Mode}
 use Rattle.ap_kernel.specs.declared.objects.Mode.TheVariants.{Equal, Iff}
 use Rattle.ap_kernel.specs.declared.objects.Equiv.{Equiv}
-use Rattle.ap_kernel.specs.Standing.{Facts, FactsHold}
 
 -- wherever the facts hold, the type of the term's value is in the mask
 abbrev pub MaskHolds : Defs → Facts → Term → Mask → Type 0

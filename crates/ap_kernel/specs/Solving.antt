@@ -7,7 +7,7 @@ use Rattle.ap_term.specs.declared.term.Term.TheOpen.{Term-F}
 use Rattle.ap_term.specs.declared.term.Clause.{Clause}
 use Rattle.ap_term.specs.Terms.{subst_of}
 use Rattle.ap_kernel.specs.declared.reductions.Reduction.{Reduction}
-use Rattle.ap_kernel.specs.Shapes.{Shape, negation, equation, shape_of}
+use Rattle.ap_world.specs.Shapes.{Shape, negation, equation, shape_of}
 use Rattle.ap_kernel.specs.Reductions.{others, to_one}
 use Rattle.ap_kernel.specs.Splits.{and_then}
 

@@ -4,8 +4,8 @@ use Rattle.ap_term.specs.declared.term.Term.{Term, out-Term, Call}
 use Rattle.ap_term.specs.declared.term.Term.TheOpen.{Term-F}
 use Rattle.ap_term.specs.declared.term.Clause.{Clause}
 use Rattle.ap_world.specs.Clauses.{negate}
+use Rattle.ap_world.specs.Shapes.{Shape, choice, shape_of}
 use Rattle.ap_kernel.specs.declared.reductions.Reduction.{Reduction}
-use Rattle.ap_kernel.specs.Shapes.{Shape, choice, shape_of}
 use Rattle.ap_kernel.specs.Reductions.{put_at}
 
 -- what there is, handed on

@@ -1,32 +1,20 @@
 -- When an equivalence stands in a world: wherever its facts hold, its two sides have values that agree.
-use Rattle.std.specs.Prelude.{◌≡◌, ◌↔◌, Bool, IsTrue, List}
-use Rattle.ap_list.specs.Lists.{Each}
+use Rattle.std.specs.Prelude.{◌≡◌, ◌↔◌, IsTrue}
 use Rattle.ap_value.specs.Values.{V}
 use Rattle.ap_term.specs.declared.term.Term.{Term}
 use Rattle.ap_world.specs.Names.{not_name}
 use Rattle.ap_world.specs.Primitives.{nil}
-use Rattle.ap_world.specs.Meaning.{Env, Defs, HasValue, FactHolds}
+use Rattle.ap_world.specs.Meaning.{Env, Defs, HasValue}
 use Rattle.ap_world.specs.Sound.{known, not_function}
+use Rattle.ap_world.specs.Facts.{KnownFacts, FactsHold}
 use Rattle.ap_kernel.specs.declared.objects.Mode.{Mode}
 use Rattle.ap_kernel.specs.declared.objects.Mode.TheVariants.{Equal, Iff}
 use Rattle.ap_kernel.specs.declared.objects.Equiv.{Equiv}
 use Rattle.std.specs.Prelude.{Some}
 
--- terms, each assumed other than nil or to be nil
-abbrev pub Facts : Type 0
-Facts = List (Term × Bool)
-
 -- the world has the functions of the ground world: for now `not`, as it is given
 abbrev pub HasGround : Defs → Type 0
 HasGround D = D not_name ≡ Some not_function
-
--- each fact's term is a term of the world
-abbrev pub KnownFacts : Defs → Facts → Type 0
-KnownFacts D fs = Each (λ f. IsTrue (known D f.0)) fs
-
--- under an assignment every fact holds
-abbrev pub FactsHold : Defs → Env → Facts → Type 0
-FactsHold D e fs = Each (FactHolds D e) fs
 
 -- two values are equal, or both nil or both not
 abbrev pub Same : Mode → V → V → Type 0

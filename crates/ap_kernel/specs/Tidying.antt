@@ -7,8 +7,8 @@ use Rattle.ap_term.specs.declared.term.Clause.{Clause}
 use Rattle.ap_term.specs.Equal.{term_eq}
 use Rattle.ap_world.specs.Primitives.{nil}
 use Rattle.ap_world.specs.Clauses.{not_of}
+use Rattle.ap_world.specs.Shapes.{Shape, constant, negation, shape_of, is_constant}
 use Rattle.ap_kernel.specs.declared.reductions.Reduction.{Reduction}
-use Rattle.ap_kernel.specs.Shapes.{Shape, constant, negation, shape_of, is_constant}
 use Rattle.ap_kernel.specs.Equations.{truth_constant}
 use Rattle.ap_kernel.specs.Choices.{bare}
 

@@ -1,9 +1,10 @@
 ghost use Rattle.std.specs.Prelude.{◌≡◌, ◌++◌, ◌<◌, IfOk, OnOk, not};
 ghost use Rattle.ap_list.specs.Lists.{Each};
 ghost use Rattle.ap_term.specs.Terms.{term_size};
-ghost use Rattle.ap_kernel.specs.Shapes.{shape_of, choice, is_constant};
+ghost use Rattle.ap_world.specs.Shapes.{shape_of, choice, is_constant};
 ghost use Rattle.ap_kernel.specs.Laws.{AssumedIsKnown, AssumedHolds};
-ghost use Rattle.ap_kernel.specs.Assume.{parts, assumed, assume, seen_halves};
+ghost use Rattle.ap_world.specs.Assume.{parts, assumed, assume};
+ghost use Rattle.ap_kernel.specs.Assume.{seen_halves};
 
 use crate::constants::is_nil;
 use crate::objects::Ctx;

@@ -3,8 +3,9 @@ ghost use Rattle.ap_list.specs.Lists.{Each};
 ghost use Rattle.ap_world.specs.Primitives.{prim_of};
 ghost use Rattle.ap_world.specs.Sound.{known, is_head};
 ghost use Rattle.ap_world.specs.World.{function_of};
-ghost use Rattle.ap_kernel.specs.Standing.{HasGround, KnownFacts, Stands};
-ghost use Rattle.ap_kernel.specs.Assume.{assume};
+ghost use Rattle.ap_world.specs.Facts.{KnownFacts};
+ghost use Rattle.ap_world.specs.Assume.{assume};
+ghost use Rattle.ap_kernel.specs.Standing.{HasGround, Stands};
 ghost use Rattle.ap_kernel.specs.Answers.{if_of, branch_made, IsArgument, lefts, rights, cong_made, turned};
 
 use crate::constants::if_symbol;

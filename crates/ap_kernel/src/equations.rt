@@ -4,7 +4,8 @@ ghost use Rattle.ap_list.specs.Lists.{lookup_by};
 ghost use Rattle.ap_term.specs.Equal.{term_eq};
 ghost use Rattle.ap_world.specs.Sound.{known};
 ghost use Rattle.ap_world.specs.World.{function_of};
-ghost use Rattle.ap_kernel.specs.Standing.{KnownFacts, Stands};
+ghost use Rattle.ap_world.specs.Facts.{KnownFacts};
+ghost use Rattle.ap_kernel.specs.Standing.{Stands};
 ghost use Rattle.ap_kernel.specs.Equations.{equal_of, truth_constant, cons_parts, apart, sides_lead, equation_leads, equation_made, seen_parts, seen_leads};
 
 use crate::calls::if_term;

@@ -1,7 +1,8 @@
 ghost use Rattle.std.specs.Prelude.{◌≡◌, IsTrue, IfOk, IsOkAnd};
 ghost use Rattle.ap_world.specs.Sound.{known};
 ghost use Rattle.ap_world.specs.World.{function_of};
-ghost use Rattle.ap_kernel.specs.Standing.{KnownFacts, Stands};
+ghost use Rattle.ap_world.specs.Facts.{KnownFacts};
+ghost use Rattle.ap_kernel.specs.Standing.{Stands};
 ghost use Rattle.ap_kernel.specs.declared.objects.Mode.TheVariants.{Equal, Iff};
 
 use crate::objects::{Ctx, Equiv, Mode};

@@ -1,7 +1,8 @@
 ghost use Rattle.std.specs.Prelude.{◌≡◌, IfOk, [], ◌∷◌};
 ghost use Rattle.ap_value.specs.Values.{acl2, symbol_eq, val_of, value_eq};
 ghost use Rattle.ap_world.specs.Primitives.{symbol_value, nil, t};
-ghost use Rattle.ap_kernel.specs.Shapes.{head_of, shape_of, seen, constant_says};
+ghost use Rattle.ap_world.specs.Shapes.{head_of, shape_of, constant_says};
+ghost use Rattle.ap_kernel.specs.Shapes.{seen, seen_head};
 
 use ap_term::Term;
 use ap_value::{Symbol, Value, is_named};
@@ -28,9 +29,9 @@ pub(crate) enum ShapeRef<'a> {
 }
 
 /// What a head is.
-#[tactic(auto, unfolding(crate::specs::Shapes::head_of, ap_world::specs::Names::if_name, ap_world::specs::Names::not_name, ap_world::specs::Names::equal_name, ap_world::specs::Names::cons_name))]
+#[tactic(auto, unfolding(ap_world::specs::Shapes::head_of, ap_world::specs::Names::if_name, ap_world::specs::Names::not_name, ap_world::specs::Names::equal_name, ap_world::specs::Names::cons_name))]
 pub(crate) fn head_of(symbol: &Symbol) -> Head
-    ensures { result ≡ head_of symbol.now }
+    ensures { seen_head result ≡ head_of symbol.now }
 {
     if is_named(symbol, b"IF") {
         return Head::If;

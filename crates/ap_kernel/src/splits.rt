@@ -2,8 +2,8 @@ ghost use Rattle.std.specs.Prelude.{◌≡◌, ◌∷◌, [], ◌<◌, IfOk, IsT
 ghost use Rattle.std.specs.Option.{option_map, option_copied};
 ghost use Rattle.ap_world.specs.Clauses.{negate};
 ghost use Rattle.ap_world.specs.World.{function_of};
+ghost use Rattle.ap_world.specs.Shapes.{shape_of};
 ghost use Rattle.ap_kernel.specs.Standing.{HasGround};
-ghost use Rattle.ap_kernel.specs.Shapes.{shape_of};
 ghost use Rattle.ap_kernel.specs.Reductions.{KnownClause, Reduces, put_at};
 ghost use Rattle.ap_kernel.specs.Splits.{part_at, with_part, choice_at, choice_in, split_made};
 

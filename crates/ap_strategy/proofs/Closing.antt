@@ -15,13 +15,13 @@ use Rattle.ap_world.specs.Primitives.{nil}
 use Rattle.ap_world.specs.Meaning.{Defs}
 use Rattle.ap_world.specs.Recursion.{t_constant}
 use Rattle.ap_world.specs.Sound.{known}
+use Rattle.ap_world.specs.Facts.{Facts, KnownFacts}
+use Rattle.ap_world.specs.Assume.{assumed}
+use Rattle.ap_world.specs.Shapes.{Shape, constant, equation, shape_of, constant_says, is_constant}
 use Rattle.ap_world.proofs.Equations.{val_of_t, t-not_nil}
 use Rattle.ap_kernel.specs.declared.reductions.Reduction.{Reduction}
 use Rattle.ap_kernel.specs.declared.objects.Ctx.{Ctx}
 use Rattle.ap_kernel.specs.declared.objects.Equiv.{Equiv}
-use Rattle.ap_kernel.specs.Standing.{Facts, KnownFacts}
-use Rattle.ap_kernel.specs.Assume.{assumed}
-use Rattle.ap_kernel.specs.Shapes.{Shape, constant, equation, shape_of, constant_says, is_constant}
 use Rattle.ap_kernel.specs.Equations.{equation_leads, equation_made}
 use Rattle.ap_kernel.specs.Reductions.{KnownClause, put_at, others, all_false, rewritten, chained}
 use Rattle.ap_kernel.specs.Tidying.{plain_by, plain, kept, tidied, decides, any_decides, holds_by_itself, tidy_goals, tidy_made}

@@ -8,8 +8,8 @@ use Rattle.ap_term.specs.declared.term.Term.TheOpen.{Term-F}
 use Rattle.ap_term.specs.declared.term.Term.TheVariants.{outs-Call}
 use Rattle.ap_term.specs.Equal.{term_eq}
 use Rattle.ap_world.specs.Names.{equal_name}
-use Rattle.ap_kernel.specs.Shapes.{Shape, equation, shape_of}
-use Rattle.ap_kernel.proofs.Shaped.{Says, shape_says}
+use Rattle.ap_world.specs.Shapes.{Shape, equation, shape_of}
+use Rattle.ap_world.proofs.Shaped.{Says, shape_says}
 use Rattle.ap_kernel.proofs.SameTerms.{shape_equal}
 use Rattle.ap_strategy.specs.Steps.{is_reflexive}
 

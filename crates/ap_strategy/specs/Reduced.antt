@@ -9,17 +9,17 @@ use Rattle.ap_term.proofs.Equals.{term_eq-true}
 use Rattle.ap_world.specs.Primitives.{nil, truth}
 use Rattle.ap_world.specs.Meaning.{Env, Defs, Total, Valid}
 use Rattle.ap_world.specs.Sound.{known}
+use Rattle.ap_world.specs.Shapes.{Shape, equation, shape_of}
 use Rattle.ap_world.proofs.Knowing.{true_each}
 use Rattle.ap_world.proofs.TotalMeaning.{Apply, models, val, AnyTrue, valid_of}
 use Rattle.ap_world.proofs.Equations.{val_equal, t_isnt_nil}
+use Rattle.ap_world.proofs.Shaped.{Says, shape_says}
 use Rattle.ap_kernel.specs.declared.reductions.Reduction.{Reduction}
 use Rattle.ap_kernel.specs.Standing.{HasGround}
-use Rattle.ap_kernel.specs.Shapes.{Shape, equation, shape_of}
 use Rattle.ap_kernel.specs.Reductions.{KnownClause, Reduces, chained}
 use Rattle.ap_kernel.specs.Splits.{and_then}
 use Rattle.ap_kernel.specs.Solving.{solved_by, replaced_in, solved_made}
 use Rattle.ap_kernel.specs.Tidying.{tidied, holds_by_itself}
-use Rattle.ap_kernel.proofs.Shaped.{Says, shape_says}
 use Rattle.ap_kernel.proofs.Splitting.{then_some}
 use Rattle.ap_kernel.proofs.Tidied.{tidy_reduces}
 use Rattle.ap_kernel.proofs.Solved.{solved_reduces}

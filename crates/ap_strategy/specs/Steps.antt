@@ -8,13 +8,13 @@ use Rattle.ap_term.specs.Equal.{term_eq}
 use Rattle.ap_world.specs.Meaning.{Total, Valid}
 use Rattle.ap_world.specs.Recursion.{args_eq}
 use Rattle.ap_world.specs.Sound.{HasFunctions}
+use Rattle.ap_world.specs.Shapes.{Shape, equation, shape_of}
 use Rattle.ap_names.specs.Names.{Name, child_of, primed_of}
 use Rattle.ap_walk.specs.declared.act.Reason.{Reason}
 use Rattle.ap_walk.specs.declared.act.Process.{Process}
 use Rattle.ap_walk.specs.declared.act.Out.{Out}
 use Rattle.ap_walk.specs.declared.act.Stepped.{Stepped}
 use Rattle.ap_kernel.specs.declared.reductions.Reduction.{Reduction}
-use Rattle.ap_kernel.specs.Shapes.{Shape, equation, shape_of}
 use Rattle.ap_kernel.specs.Reductions.{KnownClause}
 use Rattle.ap_kernel.specs.Tidying.{tidied, holds_by_itself}
 use Rattle.ap_kernel.specs.Solving.{solved_made}

@@ -18,19 +18,20 @@ use Rattle.ap_world.specs.Primitives.{nil, truth, int_of, prim_of}
 use Rattle.ap_world.specs.Meaning.{Env, Defs}
 use Rattle.ap_world.specs.Types.{type_of, positive_bit, negative_bit, nil_bit}
 use Rattle.ap_world.specs.Sound.{known}
+use Rattle.ap_world.specs.Facts.{Facts, KnownFacts, FactsHold}
+use Rattle.ap_world.specs.Shapes.{Shape, constant, shape_of}
+use Rattle.ap_world.specs.Kinds.{bit, kind_of, all, without}
+use Rattle.ap_world.specs.Rows.{recognised, is_single}
+use Rattle.ap_world.specs.Narrowing.{signed, by_itself, by_recogniser, by_kind, by_constant, by_equation, is_zero, by_bound, by_pair, by_parts, leaves, cut}
 use Rattle.ap_world.proofs.TotalMeaning.{Apply, Models, val, val_quote}
 use Rattle.ap_world.proofs.Equations.{val_prim, not_nil-eq, t_isnt_nil}
-use Rattle.ap_kernel.specs.Standing.{Facts, HasGround, KnownFacts, FactsHold}
-use Rattle.ap_kernel.specs.Shapes.{Shape, constant, shape_of}
-use Rattle.ap_kernel.proofs.Shaped.{Says, shape_says}
-use Rattle.ap_kernel.proofs.Assumed.{Signed, fact_says}
+use Rattle.ap_world.proofs.Shaped.{Says, shape_says}
+use Rattle.ap_world.proofs.Assumed.{Signed, fact_says}
+use Rattle.ap_world.proofs.Sets.{In, in_own, all_in, in_both, in_without, one_or_none, meets_own, recognises, nil_recognised, without_recognised, signed_in}
+use Rattle.ap_world.proofs.Recognising.{TrueLists, tests, recognised_tested, negatives_recognised, positives_recognised}
+use Rattle.ap_kernel.specs.Standing.{HasGround}
 use Rattle.ap_kernel.proofs.SameTerms.{tests_same}
-use Rattle.ap_types.specs.Kinds.{bit, kind_of, all, without}
-use Rattle.ap_types.specs.Rows.{recognised, is_single}
-use Rattle.ap_types.specs.Narrowing.{signed, by_itself, by_recogniser, by_kind, by_constant, by_equation, is_zero, by_bound, by_pair, by_parts, leaves, cut}
-use Rattle.ap_types.proofs.Sets.{In, in_own, all_in, in_both, in_without, one_or_none, meets_own, recognises, nil_recognised, without_recognised, signed_in}
 use Rattle.ap_types.proofs.RowsHold.{same_kind, kinds_apart}
-use Rattle.ap_types.proofs.Recognising.{TrueLists, tests, recognised_tested, negatives_recognised, positives_recognised}
 
 -- the sign of a test's value
 truth_sign : (s b : Bool) → Signed s (truth b) → b ≡ s
@@ -65,6 +66,12 @@ value_eq-turned x y = tests_same (value_eq x y) (value_eq y x) (turn x y) (turn 
   where
     turn : (a b : V) → value_eq a b ≡ true → value_eq b a ≡ true
     turn a b h = subst (λ z. value_eq z a ≡ true) (value_eq-true a b h) (value_eq-same a)
+
+-- an equation or an inequality leaves all types of a term that is neither side
+pub pair_apart : (u : Term) (s : Bool) (o : Option Prim) (a b : Term) → term_eq a u ≡ false → term_eq b u ≡ false → by_pair u s o a b ≡ all
+pair_apart u s (Some Equal) a b h k = rw (h, k) refl
+pair_apart u s (Some Less) a b h k = rw (h, k) refl
+pair_apart u s o a b h k = refl
 
 module _ (D : Defs) (A : Apply) (m : Models D A) (ground : HasGround D) (lists : TrueLists D) (e : Env) where
   constant_in : (s : Bool) (x : V) (b : Term) (y : Shape Term) → Says b y → value_eq x (val A b e) ≡ s → In (by_constant s y) x

@@ -1,4 +1,5 @@
 pub mod Adding
+pub mod Assumed
 pub mod Agreeing
 pub mod Coinciding
 pub mod Equations
@@ -6,7 +7,14 @@ pub mod Extending
 pub mod Fuel
 pub mod Knowing
 pub mod Looking
+pub mod Parts
 pub mod Places
+pub mod Placing
+pub mod Prescribed
+pub mod Recognising
+pub mod Sets
+pub mod Shaped
 pub mod Starting
+pub mod Theories
 pub mod TotalMeaning
 pub mod Written

@@ -2,10 +2,14 @@
 //! theory. Its type keeps that the world is sound.
 #![tactic(auto)]
 
+mod entries;
 mod entry;
+mod kinds;
 pub mod laws;
 mod names;
+mod prescribing;
 mod primitive;
+mod tables;
 mod theory;
 mod world;
 
@@ -16,6 +20,7 @@ pub use entry::{
     Case, Entry, EntryRef, Function, Mask, Measure, RuleClass, Theorem, copy_cases, copy_entry,
     copy_function, copy_measure, copy_theorem,
 };
+pub use kinds::{Kind, Sign};
 pub use primitive::{Primitive, primitive_of};
-pub use theory::{Rune, Theory, copy_rune, copy_theory, same_rune};
+pub use theory::{Rune, RuneKind, Theory, copy_rune, copy_theory, same_rune};
 pub use world::{AddError, World};

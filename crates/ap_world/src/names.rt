@@ -1,9 +1,9 @@
-ghost use Rattle.std.specs.Prelude.{◌≡◌, [], ◌∷◌, ◌++◌, ◌<◌, false, length, IfSome, OnOk, OnErr};
+ghost use Rattle.std.specs.Prelude.{◌≡◌, ◌-◌, [], ◌∷◌, ◌++◌, ◌<◌, false, length, take, IfSome, OnOk, OnErr};
 ghost use Rattle.std.specs.List.{position, list_any};
 ghost use Rattle.ap_value.specs.Values.{symbol_eq};
 
 use ap_list::NoMemory;
-use ap_value::Symbol;
+use ap_value::{Symbol, same_symbol};
 use indexmap::IndexSet;
 use std::alloc::Global;
 use std::marker::Model;
@@ -54,4 +54,26 @@ impl NameTable {
         self.names.insert(name)?;
         Ok(())
     }
+
+    /// The number of names.
+    pub(crate) fn len(&self) -> usize
+        ensures { result ≡ length self.now }
+    {
+        self.names.len()
+    }
+
+    /// Takes the last name away. Takes no memory.
+    pub(crate) fn remove_last(&mut self)
+        ensures { self.new ≡ take (length self.old - 1) self.old }
+    {
+        let kept = self.names.len().saturating_sub(1);
+        self.names.truncate(kept);
+    }
+}
+
+/// Whether two names are one, as the definitions test it.
+pub(crate) fn is_same_name(a: &Symbol, b: &Symbol) -> bool
+    ensures { result ≡ symbol_eq a.now b.now }
+{
+    same_symbol(a, b)
 }

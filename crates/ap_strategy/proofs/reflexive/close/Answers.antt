@@ -4,8 +4,8 @@ use Rattle.ap_term.specs.declared.term.Term.{Term}
 use Rattle.ap_term.specs.declared.term.Clause.{Clause}
 use Rattle.ap_world.specs.Sound.{known}
 use Rattle.ap_world.specs.World.{function_of}
+use Rattle.ap_world.specs.Shapes.{shape_of}
 use Rattle.ap_kernel.specs.declared.objects.Equiv.{Equiv}
-use Rattle.ap_kernel.specs.Shapes.{shape_of}
 use Rattle.ap_kernel.specs.Reductions.{others, all_false, rewritten}
 use Rattle.ap_kernel.proofs.Typed.{each_at}
 use Rattle.ap_strategy.specs.Steps.{is_reflexive}

@@ -1,6 +1,6 @@
 use Rattle.std.proofs.Common.{◌≡◌, ◌∙◌, List, true, length, ap, subst, arith}
 use Rattle.ap_term.specs.declared.term.Term.{Term}
-use Rattle.ap_kernel.specs.Shapes.{shape_of}
+use Rattle.ap_world.specs.Shapes.{shape_of}
 use Rattle.ap_kernel.specs.declared.reductions.Reduction.{Reduction}
 use Rattle.std.specs.Prelude.{slice_get, IsSomeAnd}
 use Rattle.ap_strategy.specs.Steps.{is_reflexive}
