@@ -8,5 +8,6 @@ pub mod Knowing
 pub mod Looking
 pub mod Places
 pub mod Starting
+pub mod Theories
 pub mod TotalMeaning
 pub mod Written

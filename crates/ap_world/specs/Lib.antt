@@ -8,5 +8,7 @@ pub mod Recursion
 pub mod Ground
 pub mod Sound
 pub mod World
+pub mod Prescribing
+pub mod Theories
 pub mod Laws
 pub mod Units

@@ -5,6 +5,7 @@
 mod entry;
 pub mod laws;
 mod names;
+mod prescribing;
 mod primitive;
 mod theory;
 mod world;
@@ -17,5 +18,5 @@ pub use entry::{
     copy_function, copy_measure, copy_theorem,
 };
 pub use primitive::{Primitive, primitive_of};
-pub use theory::{Rune, Theory, copy_rune, copy_theory, same_rune};
+pub use theory::{Rune, RuneKind, Theory, copy_rune, copy_theory, same_rune};
 pub use world::{AddError, World};

@@ -3,7 +3,7 @@ ghost use Rattle.std.specs.List.{position, list_any};
 ghost use Rattle.ap_value.specs.Values.{symbol_eq};
 
 use ap_list::NoMemory;
-use ap_value::Symbol;
+use ap_value::{Symbol, same_symbol};
 use indexmap::IndexSet;
 use std::alloc::Global;
 use std::marker::Model;
@@ -54,4 +54,11 @@ impl NameTable {
         self.names.insert(name)?;
         Ok(())
     }
+}
+
+/// Whether two names are one, as the definitions test it.
+pub(crate) fn is_same_name(a: &Symbol, b: &Symbol) -> bool
+    ensures { result ≡ symbol_eq a.now b.now }
+{
+    same_symbol(a, b)
 }

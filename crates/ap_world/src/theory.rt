@@ -1,5 +1,9 @@
 ghost use Rattle.std.specs.Prelude.{◌≡◌, ◌↔◌, IsTrue, IfOk, false, Contains};
+ghost use Rattle.ap_list.specs.Lists.{is_among};
+ghost use Rattle.ap_value.specs.Values.{symbol_eq};
+ghost use Rattle.ap_world.specs.Theories.{rune_of, kind_in, symbol_in, kind_eq, rune_eq, is_enabled};
 
+use crate::names::is_same_name;
 use ap_list::{NoMemory, Seq};
 use ap_value::{Symbol, copy_symbol, same_symbol};
 use std::alloc::Global;
@@ -14,6 +18,68 @@ pub enum Rune {
     Rewrite(Symbol),
     Linear(Symbol),
     Elim(Symbol),
+}
+
+/// The kinds of runes.
+#[derive(Clone, Copy, Debug)]
+pub enum RuneKind {
+    Definition,
+    Executable,
+    TypePrescription,
+    Induction,
+    Rewrite,
+    Linear,
+    Elim,
+}
+
+impl RuneKind {
+    /// Whether two kinds are one.
+    pub fn is(self, other: RuneKind) -> bool
+        ensures { result ≡ kind_eq self other }
+    {
+        match (self, other) {
+            (RuneKind::Definition, RuneKind::Definition) => true,
+            (RuneKind::Executable, RuneKind::Executable) => true,
+            (RuneKind::TypePrescription, RuneKind::TypePrescription) => true,
+            (RuneKind::Induction, RuneKind::Induction) => true,
+            (RuneKind::Rewrite, RuneKind::Rewrite) => true,
+            (RuneKind::Linear, RuneKind::Linear) => true,
+            (RuneKind::Elim, RuneKind::Elim) => true,
+            _ => false,
+        }
+    }
+}
+
+impl Rune {
+    /// The kind.
+    pub fn kind(&self) -> RuneKind
+        ensures { result ≡ kind_in self.now }
+    {
+        match self {
+            Rune::Definition(_) => RuneKind::Definition,
+            Rune::Executable(_) => RuneKind::Executable,
+            Rune::TypePrescription(_) => RuneKind::TypePrescription,
+            Rune::Induction(_) => RuneKind::Induction,
+            Rune::Rewrite(_) => RuneKind::Rewrite,
+            Rune::Linear(_) => RuneKind::Linear,
+            Rune::Elim(_) => RuneKind::Elim,
+        }
+    }
+
+    /// The name of the function or theorem that it comes from.
+    pub fn symbol(&self) -> &Symbol
+        ensures { result.now ≡ symbol_in self.now }
+    {
+        match self {
+            Rune::Definition(f) => f,
+            Rune::Executable(f) => f,
+            Rune::TypePrescription(f) => f,
+            Rune::Induction(f) => f,
+            Rune::Rewrite(f) => f,
+            Rune::Linear(f) => f,
+            Rune::Elim(f) => f,
+        }
+    }
 }
 
 /// A theory, by the runes that it disables: every other rune is enabled.
@@ -64,14 +130,40 @@ pub fn copy_theory(alloc: Global, theory: &Theory) -> Result<Theory, NoMemory>
     Ok(Theory { disabled })
 }
 
-/// Whether a theory disables a rune. Takes no memory.
-pub(crate) fn is_disabled(runes: &[Rune], rune: &Rune) -> bool
-    ensures { IsTrue result ↔ Contains runes.now rune.now }
+/// Whether a rune is the one of this kind and name.
+fn is_rune(rune: &Rune, kind: RuneKind, name: &Symbol) -> bool
+    ensures { result ≡ rune_eq (rune_of kind name.now) rune.now }
 {
-    for other in runes {
-        if same_rune(rune, other) {
+    kind.is(rune.kind()) && is_same_name(name, rune.symbol())
+}
+
+/// Whether the rune of this kind and name is in a list.
+fn is_listed(runes: &[Rune], kind: RuneKind, name: &Symbol) -> bool
+    ensures { result ≡ is_among rune_eq (rune_of kind name.now) runes.now }
+{
+    let mut left = runes;
+    while let [first, rest @ ..] = left {
+        if is_rune(first, kind, name) {
             return true;
         }
+        left = rest;
     }
     false
+}
+
+impl Theory {
+    /// Whether the rune of this kind and name is enabled. Takes no memory.
+    pub fn is_enabled(&self, kind: RuneKind, name: &Symbol) -> bool
+        ensures { result ≡ is_enabled self.now (rune_of kind name.now) }
+    {
+        !is_listed(self.disabled.as_slice(), kind, name)
+    }
+
+    /// Whether a rune is enabled: the theory doesn't disable it. Takes no memory.
+    pub fn enables(&self, rune: &Rune) -> bool
+        ensures enabled { result ≡ is_enabled self.now rune.now }
+        ensures listed { (result ≡ false) ↔ Contains self.now.disabled rune.now }
+    {
+        self.is_enabled(rune.kind(), rune.symbol())
+    }
 }

@@ -5,12 +5,13 @@ ghost use Rattle.ap_world.specs.World.{are_distinct, name_in};
 ghost use Rattle.std.specs.Option.{option_copied};
 
 use crate::entry::{Entry, EntryRef, Function, RuleClass, Theorem, copy_entries};
-use crate::names::NameTable;
+use crate::names::{NameTable, is_same_name};
+use crate::prescribing::prescription_in;
 use crate::primitive::primitive_of;
-use crate::theory::{Rune, Theory, copy_theory, is_disabled};
+use crate::theory::{Rune, RuneKind, Theory, copy_theory};
 use ap_list::{NoMemory, Seq};
 use ap_term::Term;
-use ap_value::{Symbol, Value, copy_symbol, same_symbol};
+use ap_value::{Symbol, Value, copy_symbol};
 use std::alloc::{AllocError, Global};
 use std::marker::Model;
 
@@ -64,6 +65,8 @@ impl World {
     ghost use Rattle.std.specs.Option.{option_map};
     ghost use Rattle.ap_world.specs.Meaning.{Valid};
     ghost use Rattle.ap_world.specs.Sound.{Sound, known};
+    ghost use Rattle.ap_world.specs.Prescribing.{theorems_about};
+    ghost use Rattle.ap_world.specs.Theories.{rune_of, is_enabled};
     ghost use Rattle.ap_world.specs.World.{entry_of, function_of, theorem_of, constant_of, has_name, name_in, added, added_all, are_taken, lent_entry};
 
     /// The world of no entries, which disables nothing. Takes no memory.
@@ -157,6 +160,15 @@ impl World {
         }
     }
 
+    /// The theorem with this number, from 0, of those of the class of type prescriptions that are about a
+    /// function, in the order in which they were added; `None` past the last. Takes no memory. See the
+    /// manual's topic `type-prescription`.
+    pub fn prescription(&self, function: &Symbol, number: usize) -> Option<&Theorem>
+        ensures { option_copied result ≡ slice_get (theorems_about function.now self.now.entries) number }
+    {
+        prescription_in(self.entries.as_slice(), function, number)
+    }
+
     /// The current theory. Takes no memory.
     pub fn theory(&self) -> &Theory
         ensures { result.now ≡ self.now.theory }
@@ -173,9 +185,17 @@ impl World {
 
     /// Whether a rune is enabled: the current theory doesn't disable it. Takes no memory.
     pub fn enabled(&self, rune: &Rune) -> bool
-        ensures { (result ≡ false) ↔ Contains self.now.theory.disabled rune.now }
+        ensures enabled { result ≡ is_enabled self.now.theory rune.now }
+        ensures listed { (result ≡ false) ↔ Contains self.now.theory.disabled rune.now }
     {
-        !is_disabled(self.theory.disabled.as_slice(), rune)
+        self.theory.enables(rune)
+    }
+
+    /// Whether the current theory enables the rune of this kind and name. Takes no memory.
+    pub fn enabled_for(&self, kind: RuneKind, name: &Symbol) -> bool
+        ensures { result ≡ is_enabled self.now.theory (rune_of kind name.now) }
+    {
+        self.theory.is_enabled(kind, name)
     }
 
     /// Adds a function at the end. `NameTaken` exactly where the name is in the world, which then stays as
@@ -348,11 +368,4 @@ fn is_named(name: &Symbol, list: &[Function]) -> bool
         left = rest;
     }
     false
-}
-
-/// Whether two names are one, as the definitions test it.
-fn is_same_name(a: &Symbol, b: &Symbol) -> bool
-    ensures { result ≡ symbol_eq a.now b.now }
-{
-    same_symbol(a, b)
 }

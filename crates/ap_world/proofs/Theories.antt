@@ -1,0 +1,103 @@
+-- The test of runes is equality, and a theory disables the runes of its list.
+use Rattle.std.proofs.Common.{◌≡◌, zero, suc, Bool, true, false, not, ◌&&◌, ◌||◌, ◌↔◌, List, [], ◌∷◌, refl, sym, ap, ◌∙◌, subst, arith}
+use Rattle.std.proofs.lemmas.List.Elements.{Contains-get_or, Contains-append_right}
+use Rattle.std.specs.Prelude.{Contains}
+use Rattle.ap_list.specs.Lists.{is_among}
+use Rattle.ap_value.specs.declared.symbol.Symbol.{Symbol}
+use Rattle.ap_value.specs.Values.{symbol_eq}
+use Rattle.ap_value.proofs.Equals.{symbol_eq-true, symbol_eq-same}
+use Rattle.ap_world.specs.declared.theory.Rune.{Rune}
+use Rattle.ap_world.specs.declared.theory.Rune.TheVariants as rune
+use Rattle.ap_world.specs.declared.theory.RuneKind.{RuneKind}
+use Rattle.ap_world.specs.declared.theory.RuneKind.TheVariants as kind
+use Rattle.ap_world.specs.declared.theory.Theory.{Theory}
+use Rattle.ap_world.specs.Theories.{rune_of, kind_in, symbol_in, kind_eq, rune_eq, is_enabled}
+
+pub kind_of_rune : (k : RuneKind) (f : Symbol) → kind_in (rune_of k f) ≡ k
+kind_of_rune kind.Definition f = refl
+kind_of_rune kind.Executable f = refl
+kind_of_rune kind.TypePrescription f = refl
+kind_of_rune kind.Induction f = refl
+kind_of_rune kind.Rewrite f = refl
+kind_of_rune kind.Linear f = refl
+kind_of_rune kind.Elim f = refl
+
+pub symbol_of_rune : (k : RuneKind) (f : Symbol) → symbol_in (rune_of k f) ≡ f
+symbol_of_rune kind.Definition f = refl
+symbol_of_rune kind.Executable f = refl
+symbol_of_rune kind.TypePrescription f = refl
+symbol_of_rune kind.Induction f = refl
+symbol_of_rune kind.Rewrite f = refl
+symbol_of_rune kind.Linear f = refl
+symbol_of_rune kind.Elim f = refl
+
+-- a rune is that of its kind and name
+pub rune_of_parts : (r : Rune) → rune_of (kind_in r) (symbol_in r) ≡ r
+rune_of_parts (rune.Definition f) = refl
+rune_of_parts (rune.Executable f) = refl
+rune_of_parts (rune.TypePrescription f) = refl
+rune_of_parts (rune.Induction f) = refl
+rune_of_parts (rune.Rewrite f) = refl
+rune_of_parts (rune.Linear f) = refl
+rune_of_parts (rune.Elim f) = refl
+
+pub kind_eq-true : (k l : RuneKind) → kind_eq k l ≡ true → k ≡ l
+kind_eq-true kind.Definition kind.Definition h = refl
+kind_eq-true kind.Executable kind.Executable h = refl
+kind_eq-true kind.TypePrescription kind.TypePrescription h = refl
+kind_eq-true kind.Induction kind.Induction h = refl
+kind_eq-true kind.Rewrite kind.Rewrite h = refl
+kind_eq-true kind.Linear kind.Linear h = refl
+kind_eq-true kind.Elim kind.Elim h = refl
+kind_eq-true k l h = absurd (cc h)
+
+pub kind_eq-same : (k : RuneKind) → kind_eq k k ≡ true
+kind_eq-same kind.Definition = refl
+kind_eq-same kind.Executable = refl
+kind_eq-same kind.TypePrescription = refl
+kind_eq-same kind.Induction = refl
+kind_eq-same kind.Rewrite = refl
+kind_eq-same kind.Linear = refl
+kind_eq-same kind.Elim = refl
+
+pub rune_eq-same : (r : Rune) → rune_eq r r ≡ true
+rune_eq-same r = ap (λ b. b && symbol_eq (symbol_in r) (symbol_in r)) (kind_eq-same (kind_in r)) ∙ symbol_eq-same (symbol_in r)
+
+pub rune_eq-true : (r s : Rune) → rune_eq r s ≡ true → r ≡ s
+rune_eq-true r s h = go (kind_eq (kind_in r) (kind_in s)) refl h
+  where
+    go : (b : Bool) → kind_eq (kind_in r) (kind_in s) ≡ b → (b && symbol_eq (symbol_in r) (symbol_in s)) ≡ true → r ≡ s
+    go true e k =
+        sym (rune_of_parts r) ∙ ap (λ x. rune_of x (symbol_in r)) (kind_eq-true (kind_in r) (kind_in s) e)
+        ∙ ap (rune_of (kind_in s)) (symbol_eq-true (symbol_in r) (symbol_in s) k) ∙ rune_of_parts s
+    go false e k = absurd (cc k)
+
+-- a rune is among those of a list exactly where the list contains it
+pub contains_among : (rs : List Rune) (r : Rune) → Contains rs r → is_among rune_eq r rs ≡ true
+contains_among [] r (k, lt, e) = absurd (omega (arith, lt))
+contains_among (s ∷ ss) r (zero, lt, e) = ap (λ b. b || is_among rune_eq r ss) (ap (rune_eq r) e ∙ rune_eq-same r)
+contains_among (s ∷ ss) r (suc k, lt, e) = go (rune_eq r s) (contains_among ss r (k, omega (arith, lt), e))
+  where
+    go : (b : Bool) → is_among rune_eq r ss ≡ true → (b || is_among rune_eq r ss) ≡ true
+    go true h = refl
+    go false h = h
+
+pub among_contains : (rs : List Rune) (r : Rune) → is_among rune_eq r rs ≡ true → Contains rs r
+among_contains [] r h = absurd (cc h)
+among_contains (s ∷ ss) r h = go (rune_eq r s) refl (among_contains ss r) h
+  where
+    go : (b : Bool) → rune_eq r s ≡ b → (is_among rune_eq r ss ≡ true → Contains ss r) → (b || is_among rune_eq r ss) ≡ true → Contains (s ∷ ss) r
+    go true e rest k = subst (Contains (s ∷ ss)) (sym (rune_eq-true r s e)) (Contains-get_or (s ∷ ss) 0 s (omega arith))
+    go false e rest k = Contains-append_right (s ∷ []) ss r (rest k)
+
+-- so it isn't enabled exactly there
+pub disabled_listed : (rs : List Rune) (r : Rune) → (not (is_among rune_eq r rs) ≡ false) ↔ Contains rs r
+disabled_listed rs r = (λ h. among_contains rs r (turned (is_among rune_eq r rs) h), λ h. ap not (contains_among rs r h))
+  where
+    turned : (b : Bool) → not b ≡ false → b ≡ true
+    turned true h = refl
+    turned false h = absurd (cc h)
+
+-- what is told of a rune's kind and name is told of the rune
+pub enabled_is : (h : Theory) (r : Rune) (k : RuneKind) (f : Symbol) → k ≡ kind_in r → f ≡ symbol_in r → is_enabled h (rune_of k f) ≡ is_enabled h r
+enabled_is h r k f kind_is name_is = ap (is_enabled h) (ap (λ x. rune_of x f) kind_is ∙ ap (rune_of (kind_in r)) name_is ∙ rune_of_parts r)
