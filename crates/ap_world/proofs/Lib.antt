@@ -7,6 +7,8 @@ pub mod Fuel
 pub mod Knowing
 pub mod Looking
 pub mod Places
+pub mod Placing
+pub mod Prescribed
 pub mod Starting
 pub mod Theories
 pub mod TotalMeaning

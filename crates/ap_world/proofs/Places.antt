@@ -6,7 +6,7 @@ use Rattle.std.proofs.Math.ListN.{length-map}
 use Rattle.std.specs.Prelude.{slice_get, IsTrue, ◌↔◌}
 use Rattle.ap_list.specs.Lists.{is_among}
 use Rattle.std.specs.List.{position, position_or_len, list_any}
-use Rattle.std.proofs.lemmas.List.{append-nil, append_assoc}
+use Rattle.std.proofs.lemmas.List.{append_assoc}
 use Rattle.std.proofs.lemmas.Option.{slice_get_past}
 use Rattle.ap_value.specs.declared.symbol.Symbol.{Symbol}
 use Rattle.ap_value.specs.Values.{symbol_eq}
@@ -71,6 +71,13 @@ symbol_eq-false x y h = go (symbol_eq y x) refl
     go : (b : Bool) → symbol_eq y x ≡ b → b ≡ false
     go true e = let same : y ≡ x = symbol_eq-true y x e in absurd (cc (symbol_eq-same x, ap (λ z. symbol_eq x z) same))
     go false e = refl
+
+pub symbol_eq-turned : (x y : Symbol) → symbol_eq x y ≡ symbol_eq y x
+symbol_eq-turned x y = go (symbol_eq x y) refl
+  where
+    go : (b : Bool) → symbol_eq x y ≡ b → b ≡ symbol_eq y x
+    go true e = sym (symbol_eq-same x) ∙ ap (λ z. symbol_eq z x) (symbol_eq-true x y e)
+    go false e = sym (symbol_eq-false x y e)
 
 pub neither : (a b : Bool) → (a || b) ≡ false → (a ≡ false) × (b ≡ false)
 neither true b h = cc
@@ -160,10 +167,24 @@ distinct_before (z ∷ zs) (suc i) y d h =
             cc (there, free_entry zs (name_in z) free)
         go false e = refl
 
--- so their names can be added to a table one after another
-pub absent_before : (W : List Entry) (i : ℕ) (y : Entry) → are_distinct W ≡ true → slice_get W i ≡ Some y
-    → list_any (symbol_eq (name_in y)) (map name_in (take i W)) ≡ false
-absent_before W i y d h = named_is (take i W) (name_in y) ∙ distinct_before W i y d h
+-- nor has it a primitive's name
+first_free : (z : Entry) (zs : List Entry) → are_distinct (z ∷ zs) ≡ true → (has_name zs (name_in z) ≡ false) × (are_distinct zs ≡ true)
+first_free z zs = parts (has_name zs (name_in z)) (are_distinct zs)
+  where
+    parts : (b c : Bool) → cond b false c ≡ true → (b ≡ false) × (c ≡ true)
+    parts true c e = cc
+    parts false c e = (refl, e)
+
+pub no_primitive : (W : List Entry) (i : ℕ) (y : Entry) → are_distinct W ≡ true → slice_get W i ≡ Some y → is_some (prim_of (name_in y)) ≡ false
+no_primitive [] i y d h = cc
+no_primitive (z ∷ zs) zero y d h =
+    let same : z ≡ y = cc in
+    ap (λ u. is_some (prim_of (name_in u))) (sym same) ∙ free_prim zs (name_in z) (first_free z zs d).0
+no_primitive (z ∷ zs) (suc i) y d h = no_primitive zs i y (first_free z zs d).1 h
+
+-- so each entry can be added to those before it
+pub free_before : (W : List Entry) (i : ℕ) (y : Entry) → are_distinct W ≡ true → slice_get W i ≡ Some y → has_name (take i W) (name_in y) ≡ false
+free_before W i y d h = not_either (is_some (prim_of (name_in y))) (is_some (entry_of (take i W) (name_in y))) (no_primitive W i y d h) (distinct_before W i y d h)
 
 -- a test that is true exactly where two names are one is the definitions' test
 pub test_is : (a b : Symbol) (r : Bool) → (IsTrue r ↔ (a ≡ b)) → r ≡ symbol_eq a b
@@ -185,11 +206,26 @@ free_after W f (g ∷ gs) h free =
     not_either _ _ (not_either _ _ (has_name-last W (entry.Function f) g.name ∙ not_either _ _ here.0 (symbol_eq-false f.name g.name other.0)) here.1)
     (free_after W f gs other.1 first.1)
 
--- with functions of free names the names stay distinct
-pub distinct_all : (W : List Entry) (fs : List Function) → are_distinct W ≡ true → are_taken W fs ≡ false → are_distinct (W ++ map entry.Function fs) ≡ true
-distinct_all W [] h free = rw (append-nil W) h
-distinct_all W (f ∷ fs) h free =
+-- the first of functions whose names are free can be added, and then the others
+pub first_taken : (W : List Entry) (f : Function) (fs : List Function) → are_taken W (f ∷ fs) ≡ false
+    → (has_name W f.name ≡ false) × (are_taken (W ++ entry.Function f ∷ []) fs ≡ false)
+first_taken W f fs free =
     let first = neither (has_name W f.name || is_among symbol_eq f.name (map (λ g. g.name) fs)) (are_taken W fs) free in
     let here = neither (has_name W f.name) (is_among symbol_eq f.name (map (λ g. g.name) fs)) first.0 in
-    ap are_distinct (sym (append_assoc W (entry.Function f ∷ []) (map entry.Function fs)))
-    ∙ distinct_all (W ++ entry.Function f ∷ []) fs (distinct_more W (entry.Function f) h here.0) (free_after W f fs here.1 first.1)
+    (here.0, free_after W f fs here.1 first.1)
+
+-- the first of a list with more at its end
+front_is : {A : Type 0} (xs ys : List A) → take (length xs) (xs ++ ys) ≡ xs
+front_is [] [] = refl
+front_is [] (y ∷ ys) = refl
+front_is (x ∷ xs) ys = ap (λ us. x ∷ us) (front_is xs ys)
+
+pub take_front : {A : Type 0} (xs ys : List A) (n : ℕ) → n ≡ length xs → take n (xs ++ ys) ≡ xs
+take_front xs ys n e = ap (λ k. take k (xs ++ ys)) e ∙ front_is xs ys
+
+-- functions that are to come, and those that came
+pub came : (W V : List Entry) (f : Function) (fs all rest : List Function) (old : List Entry) → all ≡ f ∷ rest → V ≡ W ++ entry.Function f ∷ []
+    → W ++ map entry.Function all ≡ old → V ++ map entry.Function rest ≡ old
+came W V f fs all rest old is more h =
+    ap (λ X. X ++ map entry.Function rest) more ∙ append_assoc W (entry.Function f ∷ []) (map entry.Function rest)
+    ∙ ap (λ gs. W ++ map entry.Function gs) (sym is) ∙ h

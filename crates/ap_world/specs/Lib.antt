@@ -1,6 +1,5 @@
 pub mod Names
 pub mod Primitives
-pub mod Kept
 pub mod Meaning
 pub mod Types
 pub mod Clauses
@@ -9,6 +8,7 @@ pub mod Ground
 pub mod Sound
 pub mod World
 pub mod Prescribing
+pub mod Kept
 pub mod Theories
 pub mod Laws
 pub mod Units

@@ -164,14 +164,3 @@ pub fn copy_entry(alloc: Global, entry: &Entry) -> Result<Entry, NoMemory>
         )),
     }
 }
-
-/// A copy of a list of entries.
-pub(crate) fn copy_entries(alloc: Global, entries: &[Entry]) -> Result<Seq<Entry>, NoMemory>
-    ensures { IfOk result (λ r. r ≡ entries.now) }
-{
-    let mut out = Seq::new(alloc);
-    for entry in entries {
-        out.push(copy_entry(alloc, entry)?)?;
-    }
-    Ok(out)
-}

@@ -2,11 +2,13 @@
 //! theory. Its type keeps that the world is sound.
 #![tactic(auto)]
 
+mod entries;
 mod entry;
 pub mod laws;
 mod names;
 mod prescribing;
 mod primitive;
+mod tables;
 mod theory;
 mod world;
 

@@ -1,4 +1,4 @@
-ghost use Rattle.std.specs.Prelude.{◌≡◌, [], ◌∷◌, ◌++◌, ◌<◌, false, length, IfSome, OnOk, OnErr};
+ghost use Rattle.std.specs.Prelude.{◌≡◌, ◌-◌, [], ◌∷◌, ◌++◌, ◌<◌, false, length, take, IfSome, OnOk, OnErr};
 ghost use Rattle.std.specs.List.{position, list_any};
 ghost use Rattle.ap_value.specs.Values.{symbol_eq};
 
@@ -53,6 +53,21 @@ impl NameTable {
     {
         self.names.insert(name)?;
         Ok(())
+    }
+
+    /// The number of names.
+    pub(crate) fn len(&self) -> usize
+        ensures { result ≡ length self.now }
+    {
+        self.names.len()
+    }
+
+    /// Takes the last name away. Takes no memory.
+    pub(crate) fn remove_last(&mut self)
+        ensures { self.new ≡ take (length self.old - 1) self.old }
+    {
+        let kept = self.names.len().saturating_sub(1);
+        self.names.truncate(kept);
     }
 }
 

@@ -1,17 +1,17 @@
-ghost use Rattle.std.specs.Prelude.{◌≡◌, [], ◌∷◌, ◌++◌, ◌↔◌, IsTrue, IsErrOf, IfOk, OnOk, OnErr, length, slice_get, map, true};
+ghost use Rattle.std.specs.Prelude.{◌≡◌, [], ◌∷◌, ◌++◌, ◌↔◌, IsTrue, IsErrOf, IfOk, OnOk, OnErr, length, take, slice_get, map, true};
 ghost use Rattle.ap_list.specs.Lists.{is_among};
 ghost use Rattle.ap_value.specs.Values.{symbol_eq};
 ghost use Rattle.ap_world.specs.World.{are_distinct, name_in};
 ghost use Rattle.std.specs.Option.{option_copied};
 
-use crate::entry::{Entry, EntryRef, Function, RuleClass, Theorem, copy_entries};
-use crate::names::{NameTable, is_same_name};
-use crate::prescribing::prescription_in;
+use crate::entries::Entries;
+use crate::entry::{Entry, EntryRef, Function, RuleClass, Theorem};
+use crate::names::is_same_name;
 use crate::primitive::primitive_of;
 use crate::theory::{Rune, RuneKind, Theory, copy_theory};
 use ap_list::{NoMemory, Seq};
 use ap_term::Term;
-use ap_value::{Symbol, Value, copy_symbol};
+use ap_value::{Symbol, Value};
 use std::alloc::{AllocError, Global};
 use std::marker::Model;
 
@@ -38,8 +38,7 @@ impl From<AllocError> for AddError {
 /// function is total and every theorem is non-`nil` under every assignment.
 #[derive(Drop)]
 pub struct World {
-    entries: Seq<Entry>,
-    names: NameTable,
+    entries: Entries,
     theory: Theory,
 }
 
@@ -53,11 +52,11 @@ impl Model for World {
 
     ghost coded = { Prim.hlevel (codes, term.the_row.coded, value.the_row.coded) };
 
-    ghost use Rattle.ap_world.specs.Kept.{Kept};
-
     ghost view = { λ w. record { entries = w.entries; theory = w.theory } };
 
-    ghost invariant = { λ w. Kept w.entries w.names };
+    ghost use Rattle.ap_world.specs.Sound.{Sound};
+
+    ghost invariant = { λ w. Sound w.entries };
 }
 
 impl World {
@@ -74,8 +73,7 @@ impl World {
         ensures { result ≡ record { entries = []; theory = record { disabled = [] } } }
     {
         World {
-            entries: Seq::new(alloc),
-            names: NameTable::new(alloc),
+            entries: Entries::new(alloc),
             theory: Theory {
                 disabled: Seq::new(alloc),
             },
@@ -89,33 +87,35 @@ impl World {
         let _ = &self.entries;
     }
 
+    /// The names of the entries are distinct, and no primitive's. Costs nothing: a caller's proof learns it
+    /// so.
+    pub fn has_distinct_names(&self)
+        ensures { are_distinct self.now.entries ≡ true }
+    {
+        self.entries.has_distinct_names();
+    }
+
     /// A copy of the world.
     pub fn copy_world(&self, alloc: Global) -> Result<World, NoMemory>
         ensures { IfOk result (λ w. w ≡ self.now) }
     {
-        let entries = copy_entries(alloc, self.entries.as_slice())?;
-        let names = names_of(alloc, self.entries.as_slice())?;
+        let entries = self.entries.copy(alloc)?;
         let theory = copy_theory(alloc, &self.theory)?;
-        Ok(World {
-            entries,
-            names,
-            theory,
-        })
+        Ok(World { entries, theory })
     }
 
-    /// The entry of a name.
-    fn find(&self, name: &Symbol) -> Option<&Entry>
-        ensures { option_copied result ≡ entry_of self.now.entries name.now }
+    /// The number of entries. Takes no memory.
+    pub fn count(&self) -> usize
+        ensures { result ≡ length self.now.entries }
     {
-        let place = self.names.place_of(name)?;
-        self.entries.get(place)
+        self.entries.len()
     }
 
     /// The function of a name, or `None` where the world has no such function. Takes no memory.
     pub fn lookup_fun(&self, name: &Symbol) -> Option<&Function>
         ensures { option_copied result ≡ function_of self.now.entries name.now }
     {
-        match self.find(name) {
+        match self.entries.find(name) {
             Some(Entry::Function(function)) => Some(function),
             _ => None,
         }
@@ -125,7 +125,7 @@ impl World {
     pub fn lookup_thm(&self, name: &Symbol) -> Option<&Theorem>
         ensures { option_copied result ≡ theorem_of self.now.entries name.now }
     {
-        match self.find(name) {
+        match self.entries.find(name) {
             Some(Entry::Theorem(theorem)) => Some(theorem),
             _ => None,
         }
@@ -135,7 +135,7 @@ impl World {
     pub fn lookup_const(&self, name: &Symbol) -> Option<&Value>
         ensures { option_copied result ≡ constant_of self.now.entries name.now }
     {
-        match self.find(name) {
+        match self.entries.find(name) {
             Some(Entry::Constant(_, value)) => Some(value),
             _ => None,
         }
@@ -145,7 +145,7 @@ impl World {
     pub fn has(&self, name: &Symbol) -> bool
         ensures { result ≡ has_name self.now.entries name.now }
     {
-        primitive_of(name).is_some() || self.find(name).is_some()
+        primitive_of(name).is_some() || self.entries.find(name).is_some()
     }
 
     /// The entry at a place of the list, or `None` past its end. Takes no memory.
@@ -166,7 +166,7 @@ impl World {
     pub fn prescription(&self, function: &Symbol, number: usize) -> Option<&Theorem>
         ensures { option_copied result ≡ slice_get (theorems_about function.now self.now.entries) number }
     {
-        prescription_in(self.entries.as_slice(), function, number)
+        self.entries.prescription(function, number)
     }
 
     /// The current theory. Takes no memory.
@@ -198,10 +198,19 @@ impl World {
         self.theory.is_enabled(kind, name)
     }
 
+    /// Goes back to the first entries, with a theory that is then the current one. Takes no memory.
+    pub fn back_to(&mut self, count: usize, theory: Theory)
+        requires { Sound (take count self.old.entries) }
+        ensures { self.new ≡ record { entries = take count self.old.entries; theory = theory } }
+    {
+        self.entries.truncate(count);
+        self.theory = theory;
+    }
+
     /// Adds a function at the end. `NameTaken` exactly where the name is in the world, which then stays as
     /// it was; so it does where memory is refused.
     pub fn add_function(&mut self, alloc: Global, function: Function) -> Result<(), AddError>
-        requires sound { Sound (self.old.entries ++ Entry.Function function ∷ []) }
+        requires sound { has_name self.old.entries function.name ≡ false → Sound (self.old.entries ++ Entry.Function function ∷ []) }
         ensures ok { OnOk result (self.new ≡ added self.old (Entry.Function function)) }
         ensures err { OnErr result (self.new ≡ self.old) }
         ensures taken { IsErrOf result AddError.NameTaken ↔ IsTrue (has_name self.old.entries function.name) }
@@ -217,7 +226,7 @@ impl World {
     /// exactly where one of the names is in the world or stands twice in the list. The world then stays as
     /// it was; so it does where memory is refused.
     pub fn add_functions(&mut self, alloc: Global, list: Seq<Function>) -> Result<(), AddError>
-        requires sound { Sound (self.old.entries ++ map Entry.Function list) }
+        requires sound { are_taken self.old.entries list ≡ false → Sound (self.old.entries ++ map Entry.Function list) }
         ensures ok { OnOk result (self.new ≡ added_all self.old list) }
         ensures err { OnErr result (self.new ≡ self.old) }
         ensures taken { IsErrOf result AddError.NameTaken ↔ IsTrue (are_taken self.old.entries list) }
@@ -225,7 +234,7 @@ impl World {
         if self.are_taken(list.as_slice()) {
             return Err(AddError::NameTaken);
         }
-        self.add_free(alloc, list)?;
+        self.entries.push_functions(alloc, list)?;
         Ok(())
     }
 
@@ -241,28 +250,6 @@ impl World {
             left = rest;
         }
         false
-    }
-
-    /// Adds functions whose names are free and distinct at the end of the list.
-    fn add_free(&mut self, alloc: Global, list: Seq<Function>) -> Result<(), NoMemory>
-        requires sound { Sound (self.old.entries ++ map Entry.Function list) }
-        requires free { are_taken self.old.entries list ≡ false }
-        ensures ok { OnOk result (self.new ≡ added_all self.old list) }
-        ensures err { OnErr result (self.new ≡ self.old) }
-    {
-        let kept = self.entries.len();
-        let more = as_entries(alloc, list)?;
-        self.entries.append(more)?;
-        match names_of(alloc, self.entries.as_slice()) {
-            Ok(names) => {
-                self.names = names;
-                Ok(())
-            }
-            Err(error) => {
-                self.entries.truncate(kept);
-                Err(error)
-            }
-        }
     }
 
     /// Adds a theorem at the end. `NameTaken` exactly where the name is in the world, which then stays as it
@@ -322,38 +309,8 @@ impl World {
         ensures ok { OnOk result (self.new ≡ added self.old entry) }
         ensures err { OnErr result (self.new ≡ self.old) }
     {
-        let name = copy_symbol(alloc, entry.name())?;
-        let count = self.entries.len();
-        self.entries.push(entry)?;
-        if let Err(error) = self.names.add(name) {
-            self.entries.truncate(count);
-            return Err(error);
-        }
-        Ok(())
+        self.entries.push(alloc, entry)
     }
-}
-
-/// The table of the names of entries whose names are distinct.
-fn names_of(alloc: Global, entries: &[Entry]) -> Result<NameTable, NoMemory>
-    requires { are_distinct entries.now ≡ true }
-    ensures { IfOk result (λ names. names ≡ map name_in entries.now) }
-{
-    let mut names = NameTable::new(alloc);
-    for entry in entries {
-        names.add(copy_symbol(alloc, entry.name())?)?;
-    }
-    Ok(names)
-}
-
-/// The functions as entries.
-fn as_entries(alloc: Global, list: Seq<Function>) -> Result<Seq<Entry>, NoMemory>
-    ensures { IfOk result (λ entries. entries ≡ map Entry.Function list) }
-{
-    let mut entries = Seq::new(alloc);
-    for function in list.into_vec() {
-        entries.push(Entry::Function(function))?;
-    }
-    Ok(entries)
 }
 
 /// Whether a function of the list has this name.
