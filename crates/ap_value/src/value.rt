@@ -2,19 +2,20 @@ ghost use Rattle.std.specs.Prelude.{◌≡◌, ◌+◌, ◌-◌, ◌^◌, ◌<�
 ghost use Rattle.ap_value.specs.Values.{val_of};
 ghost use Rattle.ap_value.specs.Counts.{node_count, acl2_count_of};
 
-use crate::symbol::{Symbol, copy_bytes, copy_symbol, same_bytes, same_code, same_symbol};
-use ap_list::{Boxed, Bytes, NoMemory};
+use crate::symbol::{Symbol, copy_symbol, same_bytes, same_code, same_symbol};
+use ap_list::{Bytes, NoMemory, Shared};
 use std::alloc::Global;
 
 /// A value: an integer, a character by its code, a string by the codes of its characters, a symbol, or
-/// a cons of two values. Integers of the universe have no bound, those of a program 128 bits.
-#[derive(Debug, Drop)]
+/// a cons of two values. Integers of the universe have no bound, those of a program 128 bits. Copies share
+/// a string's codes and the parts of a cons.
+#[derive(Debug, Drop, PartialEq, Eq, Hash)]
 pub enum Value {
     Int(i128),
     Chr(u8),
-    Str(Bytes),
+    Str(Shared<Bytes>),
     Sym(Symbol),
-    Cons(Boxed<Value>, Boxed<Value>),
+    Cons(Shared<Value>, Shared<Value>),
 }
 
 /// Whether two values are one: ACL2's `equal`. Takes no memory.
@@ -33,18 +34,18 @@ pub fn same(a: &Value, b: &Value) -> bool
     }
 }
 
-/// A copy of a value.
+/// A copy of a value, which shares its parts: it takes no memory.
 pub fn copy(alloc: Global, v: &Value) -> Result<Value, NoMemory>
     ensures { IfOk result (λ r. r ≡ v.now) }
 {
     match v {
         Value::Int(n) => Ok(Value::Int(*n)),
         Value::Chr(code) => Ok(Value::Chr(*code)),
-        Value::Str(codes) => Ok(Value::Str(copy_bytes(alloc, codes)?)),
+        Value::Str(codes) => Ok(Value::Str(codes.share()?)),
         Value::Sym(symbol) => Ok(Value::Sym(copy_symbol(alloc, symbol)?)),
         Value::Cons(first, rest) => {
-            let first = Boxed::new(alloc, copy(alloc, first.get())?)?;
-            let rest = Boxed::new(alloc, copy(alloc, rest.get())?)?;
+            let first = first.share()?;
+            let rest = rest.share()?;
             Ok(Value::Cons(first, rest))
         }
     }
