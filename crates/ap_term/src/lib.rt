@@ -11,8 +11,9 @@ mod starts;
 mod steps;
 mod term;
 
-pub use ap_value::{Boxed, Bytes, NoMemory, Seq, Symbol, Value};
+pub use ap_list::SharedSeq;
+pub use ap_value::{Boxed, Bytes, NoMemory, Seq, Shared, Symbol, Value};
 pub use atoms::reads_back;
 pub use order::{term_less, term_order_is_total};
 pub use steps::{Spent, Steps};
-pub use term::{Clause, Subst, Term, copy_symbols, copy_term, copy_terms, same_term, size};
+pub use term::{Clause, Subst, Term, copy_symbols, copy_term, copy_terms, owned, same_term, size};
