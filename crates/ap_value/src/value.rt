@@ -1,4 +1,5 @@
 ghost use Rattle.std.specs.Prelude.{◌≡◌, ◌+◌, ◌-◌, ◌^◌, ◌<◌, ◌↔◌, IsTrue, IfOk, IfSome, IfNone};
+ghost use Rattle.ap_value.specs.declared.value.Value.{Str, Cons};
 ghost use Rattle.ap_value.specs.Values.{val_of};
 ghost use Rattle.ap_value.specs.Counts.{node_count, acl2_count_of};
 
@@ -16,6 +17,24 @@ pub enum Value {
     Str(Shared<Bytes>),
     Sym(Symbol),
     Cons(Shared<Value>, Shared<Value>),
+}
+
+impl Value {
+    /// The string of these codes, moved to where copies share them.
+    pub fn string(alloc: Global, codes: Bytes) -> Result<Value, NoMemory>
+        ensures { IfOk result (λ v. v ≡ Str codes) }
+    {
+        Ok(Value::Str(Shared::new(alloc, codes)?))
+    }
+
+    /// The cons of two values, moved to where copies share them.
+    pub fn cons(alloc: Global, first: Value, rest: Value) -> Result<Value, NoMemory>
+        ensures { IfOk result (λ v. v ≡ Cons first rest) }
+    {
+        let first = Shared::new(alloc, first)?;
+        let rest = Shared::new(alloc, rest)?;
+        Ok(Value::Cons(first, rest))
+    }
 }
 
 /// Whether two values are one: ACL2's `equal`. Takes no memory.
