@@ -16,4 +16,7 @@ pub use ap_value::{Boxed, Bytes, NoMemory, Seq, Shared, Symbol, Value};
 pub use atoms::reads_back;
 pub use order::{term_less, term_order_is_total};
 pub use steps::{Spent, Steps};
-pub use term::{Clause, Subst, Term, copy_symbols, copy_term, copy_terms, owned, same_term, size};
+pub use term::{
+    Clause, Subst, Term, copy_symbols, copy_term, copy_terms, equality_of_terms, owned, same_term,
+    size,
+};

@@ -1,6 +1,7 @@
-ghost use Rattle.std.specs.Prelude.{◌≡◌, ◌-◌, ◌^◌, ◌<◌, ◌↔◌, IsTrue, IfOk, IfSome, IfNone, map};
+ghost use Rattle.std.specs.Prelude.{◌≡◌, ◌-◌, ◌^◌, ◌<◌, ◌↔◌, true, IsTrue, IfOk, IfSome, IfNone, map};
 ghost use Rattle.ap_list.specs.Lists.{sum_of};
-ghost use Rattle.ap_term.specs.declared.term.Term.{Call};
+ghost use Rattle.ap_term.specs.declared.term.Term.{Term, Call};
+ghost use Rattle.ap_term.specs.Equal.{term_eq};
 ghost use Rattle.ap_term.specs.Terms.{term_size};
 
 use ap_list::SharedSeq;
@@ -131,3 +132,9 @@ fn sizes(xs: &[Term]) -> Option<u64>
     }
     Some(total)
 }
+
+/// The law of the test of equality that definitions choose by: it is true of two terms exactly where they
+/// are one. It does nothing.
+pub fn equality_of_terms()
+    ensures { (a b : Term) → (term_eq a b ≡ true) ↔ (a ≡ b) }
+{}

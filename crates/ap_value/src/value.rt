@@ -1,5 +1,6 @@
-ghost use Rattle.std.specs.Prelude.{◌≡◌, ◌+◌, ◌-◌, ◌^◌, ◌<◌, ◌↔◌, IsTrue, IfOk, IfSome, IfNone};
-ghost use Rattle.ap_value.specs.declared.value.Value.{Str, Cons};
+ghost use Rattle.std.specs.Prelude.{◌≡◌, ◌+◌, ◌-◌, ◌^◌, ◌<◌, ◌↔◌, true, IsTrue, IfOk, IfSome, IfNone};
+ghost use Rattle.ap_value.specs.declared.value.Value.{Value, Str, Cons};
+ghost use Rattle.ap_value.specs.Equal.{constant_eq};
 ghost use Rattle.ap_value.specs.Values.{val_of};
 ghost use Rattle.ap_value.specs.Counts.{node_count, acl2_count_of};
 
@@ -102,3 +103,9 @@ pub fn acl2_count(v: &Value) -> Option<u128>
         }
     }
 }
+
+/// The law of the test of equality that definitions choose by: it is true of two values exactly where they
+/// are one. It does nothing.
+pub fn equality_of_values()
+    ensures { (a b : Value) → (constant_eq a b ≡ true) ↔ (a ≡ b) }
+{}
