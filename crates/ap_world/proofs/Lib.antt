@@ -1,5 +1,6 @@
 pub mod Adding
 pub mod Agreeing
+pub mod Alike
 pub mod Coinciding
 pub mod Equations
 pub mod Extending

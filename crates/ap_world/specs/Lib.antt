@@ -6,9 +6,11 @@ pub mod Clauses
 pub mod Recursion
 pub mod Ground
 pub mod Sound
+pub mod Theories
+pub mod RuneTables
 pub mod World
 pub mod Prescribing
 pub mod Kept
-pub mod Theories
+pub mod Alike
 pub mod Laws
 pub mod Units
