@@ -9,10 +9,12 @@ pub mod Sound
 pub mod Facts
 pub mod Shapes
 pub mod Assume
+pub mod Theories
+pub mod RuneTables
 pub mod World
 pub mod Prescribing
 pub mod Kept
-pub mod Theories
+pub mod Alike
 pub mod Kinds
 pub mod Rows
 pub mod Narrowing
