@@ -67,12 +67,6 @@ value_eq-turned x y = tests_same (value_eq x y) (value_eq y x) (turn x y) (turn 
     turn : (a b : V) → value_eq a b ≡ true → value_eq b a ≡ true
     turn a b h = subst (λ z. value_eq z a ≡ true) (value_eq-true a b h) (value_eq-same a)
 
--- an equation or an inequality leaves all types of a term that is neither side
-pub pair_apart : (u : Term) (s : Bool) (o : Option Prim) (a b : Term) → term_eq a u ≡ false → term_eq b u ≡ false → by_pair u s o a b ≡ all
-pair_apart u s (Some Equal) a b h k = rw (h, k) refl
-pair_apart u s (Some Less) a b h k = rw (h, k) refl
-pair_apart u s o a b h k = refl
-
 module _ (D : Defs) (A : Apply) (m : Models D A) (ground : HasGround D) (lists : TrueLists D) (e : Env) where
   constant_in : (s : Bool) (x : V) (b : Term) (y : Shape Term) → Says b y → value_eq x (val A b e) ≡ s → In (by_constant s y) x
   constant_in s x b (constant w) says h =

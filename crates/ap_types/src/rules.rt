@@ -110,7 +110,7 @@ fn narrowed(w: &World, f: &Symbol, mask: u16) -> u16
     ensures { result ≡ narrowed w.now.theory (theorems_about f.now w.now.entries) mask }
 {
     let mut out = mask;
-    for number in 0..w.entry_count() {
+    for number in 0..w.count() {
         match w.prescription(f, number) {
             None => return out,
             Some(theorem) => out = out & left_by(w.theory(), theorem),

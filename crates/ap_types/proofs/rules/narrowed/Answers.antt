@@ -5,7 +5,7 @@ use Rattle.ap_types.proofs.rules.narrowed.Goals as goal
 
 pub returns : goal.returns
 returns c =
-    let far : length c.args.w.now.entries ≤ c.loop-number.number = rw (← c.entry_count-number-end.ensures) c.loop-number-test.false in
+    let far : length c.args.w.now.entries ≤ c.loop-number.number = rw (← c.count-number-end.ensures) c.loop-number-test.false in
     all_cut c.args.w.now.theory c.args.f.now c.args.w.now.entries c.loop-number.number c.args.mask c.loop-number.out far c.loop-number.invariant
 
 pub returns-in-None : goal.returns-in-None
