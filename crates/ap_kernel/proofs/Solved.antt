@@ -23,10 +23,10 @@ use Rattle.ap_world.proofs.TotalMeaning.{Apply, Models, val, values_of, val_var,
 use Rattle.ap_world.proofs.Equations.{val_equal, eq-not_nil, t_isnt_nil}
 use Rattle.ap_world.proofs.Starting.{val_not}
 use Rattle.ap_world.proofs.Shaped.{Says, shape_says}
-use Rattle.ap_kernel.specs.declared.reductions.Reduction.{Reduction}
+use Rattle.ap_kernel.specs.declared.reductions.Inference.{Inference}
 use Rattle.ap_kernel.specs.Standing.{HasGround}
 use Rattle.ap_kernel.specs.Equations.{equal_of}
-use Rattle.ap_kernel.specs.Reductions.{KnownClause, Reduces, others}
+use Rattle.ap_kernel.specs.Reductions.{KnownClause, Follows, others}
 use Rattle.ap_kernel.specs.Splits.{and_then}
 use Rattle.ap_kernel.specs.Solving.{occurs, side_solved, left_first, sides_solved, equation_solved, negated_solved, solved_by, replaced_in, solved_made}
 use Rattle.ap_kernel.proofs.Typed.{each_at}
@@ -181,14 +181,14 @@ solved_known D u p s k = go s.sides
     go (inl h) = subst (λ w. known D w ≡ true) h.1 ks.1.0
     go (inr h) = subst (λ w. known D w ≡ true) h.1 ks.0
 
-pub solved_reduces : (D : Defs) → Total D → HasGround D → (c : Clause) (i : ℕ) (r : Reduction) → KnownClause D c → solved_made c i ≡ Some r → Reduces D r
+pub solved_reduces : (D : Defs) → Total D → HasGround D → (c : Clause) (i : ℕ) (r : Inference) → KnownClause D c → solved_made c i ≡ Some r → Follows D r
 solved_reduces D total ground c i r k h =
     let (p, solved, made) = then_some (and_then (slice_get c.0 i) solved_by) (λ p. Some (replaced_in c i p)) r h in
     let (u, at, by) = then_some (slice_get c.0 i) solved_by p solved in
     let same : replaced_in c i p ≡ r = cc in
-    subst (Reduces D) {x = replaced_in c i p} same (reduces u p at (solves u p by))
+    subst (Follows D) {x = replaced_in c i p} same (reduces u p at (solves u p by))
   where
-    reduces : (u : Term) (p : Symbol × Term) → slice_get c.0 i ≡ Some u → Solves u p → Reduces D (replaced_in c i p)
+    reduces : (u : Term) (p : Symbol × Term) → slice_get c.0 i ≡ Some u → Solves u p → Follows D (replaced_in c i p)
     reduces u p at s =
         let ku = each_at (λ w. known D w ≡ true) c.0 i u k at in
         to_one_reduces D total c (map (subst_of (p ∷ [])) (others i c.0)) k

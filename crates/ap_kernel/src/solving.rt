@@ -18,7 +18,7 @@ use ap_world::World;
 use std::alloc::Global;
 
 /// Whether two symbols are one, as the test that definitions choose by. Takes no memory.
-fn is_symbol(a: &Symbol, b: &Symbol) -> bool
+pub fn is_symbol(a: &Symbol, b: &Symbol) -> bool
     ensures { result ≡ symbol_eq a.now b.now }
 {
     a.keyword == b.keyword && a.name.as_slice() == b.name.as_slice()
@@ -61,10 +61,10 @@ fn replaced(alloc: Global, t: &Term, x: &Symbol, by: &Term) -> Result<Term, NoMe
             Ok(Term::Var(copy_symbol(alloc, y)?))
         }
         Term::Quote(_) => copy_term(alloc, t),
-        Term::Call(f, ts) => Ok(Term::Call(
-            copy_symbol(alloc, f)?,
-            replaced_in(alloc, ts.as_slice(), x, by)?,
-        )),
+        Term::Call(f, ts) => {
+            let parts = replaced_in(alloc, ts.as_slice(), x, by)?;
+            Term::call(alloc, copy_symbol(alloc, f)?, parts)
+        }
     }
 }
 
@@ -157,8 +157,8 @@ pub fn use_equality(
     requires ground { HasGround (function_of w.now.entries) }
     requires clause { KnownClause (function_of w.now.entries) c }
     requires solved { IsTrue (is_some (solved_made c index)) }
-    ensures stands { IfOk result (λ r. Reduces (function_of w.now.entries) r) }
-    ensures made { IfOk result (λ r. solved_made c index ≡ Some r) }
+    ensures stands { IfOk result (λ r. Reduces w.now r) }
+    ensures made { IfOk result (λ r. solved_made c index ≡ Some r.says) }
 {
     w.is_sound();
     let Some(literals) = solved_literals(alloc, &c, index)? else {

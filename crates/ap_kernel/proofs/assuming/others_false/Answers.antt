@@ -1,8 +1,8 @@
 use Rattle.std.proofs.Common.{◌+◌, ◌-◌, ◌++◌, length, take, drop, ap, ◌∙◌}
 use Rattle.std.proofs.lemmas.List.{take_rest}
 use Rattle.ap_kernel.specs.Reductions.{all_false}
-use Rattle.ap_strategy.proofs.Closing.{others_are_false}
-use Rattle.ap_strategy.proofs.reflexive.others_false.Goals as goal
+use Rattle.ap_kernel.proofs.Reduced.{others_are_false}
+use Rattle.ap_kernel.proofs.assuming.others_false.Goals as goal
 
 pub returns : goal.returns
 returns c =
