@@ -32,6 +32,7 @@ use Rattle.ap_kernel.specs.Solving.{occurs, side_solved, left_first, sides_solve
 use Rattle.ap_kernel.proofs.Typed.{each_at}
 use Rattle.ap_kernel.proofs.Reduced.{each_put, any_others, any_at, to_one_reduces}
 use Rattle.ap_kernel.proofs.Splitting.{then_some}
+use Rattle.ap_kernel.proofs.OpeningStands.{known_subst}
 
 -- assignments that give each variable the same value give each term the same value
 alike : (A : Apply) (d e : Env) → ((x : Symbol) → value_at d x ≡ value_at e x) → (u : Term) → val A u d ≡ val A u e
@@ -67,37 +68,9 @@ any_replaced A e x by h (t ∷ ts) (inl k) = inl (λ isnil. k (same_replaced A e
 any_replaced A e x by h (t ∷ ts) (inr k) = inr (any_replaced A e x by h ts k)
 
 -- and it is known
-known_replaced : (D : Defs) (x : Symbol) (by : Term) → known D by ≡ true → (u : Term) → known D u ≡ true → known D (subst_of ((x, by) ∷ []) u) ≡ true
-known_replaced D x by kb u k = term_ind Goal variable quoted call u k
-  where
-    s : List (Symbol × Term)
-    s = (x, by) ∷ []
-
-    Goal : Term → Type 0
-    Goal u = known D u ≡ true → known D (subst_of s u) ≡ true
-
-    variable : (y : Symbol) → Goal (Var y)
-    variable y = λ k. rw (fold_var (subst_step s) y) (go (symbol_eq y x))
-      where
-        go : (b : Bool) → known D (unwrap_or (cond b (Some by) None) (Var y)) ≡ true
-        go true = kb
-        go false = known_var D y
-
-    quoted : (q : Value) → Goal (Quote q)
-    quoted q = λ k. rw (fold_quote (subst_step s) q) (known_quote D q)
-
-    args : (ts : List Term) → Each Goal ts → Each (λ u. known D u ≡ true) ts → Each (λ u. known D u ≡ true) (map (subst_of s) ts)
-    args [] es ks = tt
-    args (t ∷ ts) es ks = (es.0 ks.0, args ts es.1 ks.1)
-
-    call : (f : Symbol) (ts : List Term) → Each Goal ts → Goal (Call f ts)
-    call f ts es = λ k. rw (fold_call (subst_step s) f ts)
-        (known_by D f (map (subst_of s) ts) (rw (length-map ts (subst_of s)) (known_head D f ts k))
-        (true_each (known D) (map (subst_of s) ts) (args ts es (each_true (known D) ts (known_args D f ts k)))))
-
 each_replaced : (D : Defs) (x : Symbol) (by : Term) → known D by ≡ true → (ts : List Term) → Each (λ u. known D u ≡ true) ts → Each (λ u. known D u ≡ true) (map (subst_of ((x, by) ∷ [])) ts)
 each_replaced D x by kb [] ks = tt
-each_replaced D x by kb (t ∷ ts) ks = (known_replaced D x by kb t ks.0, each_replaced D x by kb ts ks.1)
+each_replaced D x by kb (t ∷ ts) ks = (known_subst D ((x, by) ∷ []) (kb, tt) t ks.0, each_replaced D x by kb ts ks.1)
 
 -- a side that is solved is a variable, and the other side replaces it
 abbrev SideIs : Term → Term → Symbol × Term → Type 0
