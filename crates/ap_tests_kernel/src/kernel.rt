@@ -84,7 +84,7 @@ fn same(alloc: Global, w: &World, ctx: &Ctx, t: &Term) -> Result<Equiv, NoMemory
         return Err(AllocError);
     }
     let same = refl(alloc, w, ctx, Mode::Equal, t)?;
-    weaken_mode(w, same)
+    weaken_mode(alloc, w, same)
 }
 
 /// Whether a term leads to itself under facts.
