@@ -35,7 +35,7 @@ use Rattle.ap_kernel.specs.declared.shapes.ShapeRef.TheVariants as lent
 use Rattle.ap_kernel.specs.declared.objects.Ctx.{Ctx}
 use Rattle.ap_kernel.specs.declared.objects.Mode.{Mode}
 use Rattle.ap_kernel.specs.declared.objects.Mode.TheVariants.{Equal, Iff}
-use Rattle.ap_kernel.specs.Standing.{HasGround, Same, Stands}
+use Rattle.ap_kernel.specs.Standing.{HasGround, Same, Holds}
 use Rattle.ap_kernel.specs.Shapes.{seen}
 use Rattle.ap_kernel.specs.Masks.{MaskHolds}
 use Rattle.ap_kernel.specs.Answers.{if_of}
@@ -219,7 +219,7 @@ not_truth_type (cons a b) h k = go (is_true_list b)
 not_truth_type (symbol j s) h k = rw (h, k) refl
 
 -- where the value is as good as a truth, so is the `if` of it with the branches t and nil
-truth_same : (m : Mode) (k : Mask) (v : V) → is_truth m k ≡ true → Has k v → Same m (cond (value_eq v nil) nil t) v
+pub truth_same : (m : Mode) (k : Mask) (v : V) → is_truth m k ≡ true → Has k v → Same m (cond (value_eq v nil) nil t) v
 truth_same m k v h has = go m (value_eq v nil) refl h
   where
     is_t : value_eq v nil ≡ false → bit_and k.0 999 ≡ 0 → (b : Bool) → value_eq v t ≡ b → t ≡ v
@@ -322,7 +322,7 @@ module _ (D : Defs) (A : Apply) (ms : Models D A) (ground : HasGround D) (e : En
       go y l = same_shape a b c has
 
 pub choice_stands : (D : Defs) → Total D → HasGround D → (c : Ctx) (m : Mode) (u : Term) (k : Mask) → KnownFacts D c.0 → known D u ≡ true → is_choice (shape_of u) ≡ true
-    → MaskHolds D c.0 (bare_test u) k → Stands D (choice_made c m u k)
+    → MaskHolds D c.0 (bare_test u) k → Holds D (choice_made c m u k)
 choice_stands D total ground c m u k facts u_known is holds =
     let (A, ms) = models D total in
     stand D A ms (choice_made c m u k) facts u_known (known_choice D ground (is_truth m k) u (shape_of u) (shape_says u) u_known) (agrees A ms)

@@ -9,3 +9,4 @@ pub mod Reduced
 pub mod Splitting
 pub mod Tidied
 pub mod Solved
+pub mod OpeningStands

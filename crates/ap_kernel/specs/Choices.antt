@@ -12,7 +12,7 @@ use Rattle.ap_world.specs.Assume.{whole}
 use Rattle.ap_kernel.specs.declared.objects.Ctx.{Ctx}
 use Rattle.ap_kernel.specs.declared.objects.Mode.{Mode}
 use Rattle.ap_kernel.specs.declared.objects.Mode.TheVariants.{Equal, Iff}
-use Rattle.ap_kernel.specs.declared.objects.Equiv.{Equiv}
+use Rattle.ap_kernel.specs.declared.objects.Sequent.{Sequent}
 use Rattle.ap_kernel.specs.declared.choices.Chosen.{Chosen}
 use Rattle.ap_kernel.specs.declared.choices.Chosen.TheVariants as lent
 use Rattle.ap_kernel.specs.Answers.{if_of}
@@ -78,7 +78,7 @@ abbrev pub is_choice : Shape Term → Bool
 is_choice (choice a b c) = true
 is_choice y = false
 
-abbrev pub choice_made : Ctx → Mode → Term → Mask → Equiv
+abbrev pub choice_made : Ctx → Mode → Term → Mask → Sequent
 choice_made c o u m = record { ctx = c; mode = o; lhs = u; rhs = choice_leads (is_truth o m) u (shape_of u) }
 
 -- where it leads, as it is lent

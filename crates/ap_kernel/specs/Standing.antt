@@ -1,16 +1,17 @@
--- When an equivalence stands in a world: wherever its facts hold, its two sides have values that agree.
-use Rattle.std.specs.Prelude.{◌≡◌, ◌↔◌, IsTrue}
+-- When a sequent holds in a world: wherever its facts hold, its two sides have values that agree.
+use Rattle.std.specs.Prelude.{◌≡◌, ◌↔◌, IsTrue, Some}
 use Rattle.ap_value.specs.Values.{V}
 use Rattle.ap_term.specs.declared.term.Term.{Term}
 use Rattle.ap_world.specs.Names.{not_name}
 use Rattle.ap_world.specs.Primitives.{nil}
 use Rattle.ap_world.specs.Meaning.{Env, Defs, HasValue}
 use Rattle.ap_world.specs.Sound.{known, not_function}
+use Rattle.ap_world.specs.World.{Shown, function_of}
 use Rattle.ap_world.specs.Facts.{KnownFacts, FactsHold}
 use Rattle.ap_kernel.specs.declared.objects.Mode.{Mode}
 use Rattle.ap_kernel.specs.declared.objects.Mode.TheVariants.{Equal, Iff}
+use Rattle.ap_kernel.specs.declared.objects.Sequent.{Sequent}
 use Rattle.ap_kernel.specs.declared.objects.Equiv.{Equiv}
-use Rattle.std.specs.Prelude.{Some}
 
 -- the world has the functions of the ground world: for now `not`, as it is given
 abbrev pub HasGround : Defs → Type 0
@@ -26,8 +27,12 @@ abbrev pub SameValue : Defs → Env → Mode → Term → Term → Type 0
 SameValue D e m s u = (v : V) × (w : V) × HasValue D s e v × HasValue D u e w × Same m v w
 
 -- its terms are terms of the world, and its sides have the same value wherever its facts hold
-pub record Stands (D : Defs) (q : Equiv) : Type 0 where
-  pub facts : KnownFacts D q.ctx.0
-  pub left : IsTrue (known D q.lhs)
-  pub right : IsTrue (known D q.rhs)
-  pub same : (e : Env) → FactsHold D e q.ctx.0 → SameValue D e q.mode q.lhs q.rhs
+pub record Holds (D : Defs) (s : Sequent) : Type 0 where
+  pub facts : KnownFacts D s.ctx.0
+  pub left : IsTrue (known D s.lhs)
+  pub right : IsTrue (known D s.rhs)
+  pub same : (e : Env) → FactsHold D e s.ctx.0 → SameValue D e s.mode s.lhs s.rhs
+
+-- an equivalence stands in a world where what it says holds there
+pub record Stands (w : Shown) (q : Equiv) : Type 0 where
+  pub says : Holds (function_of w.entries) q.says

@@ -77,8 +77,8 @@ pub fn by_type(
     requires term { IsTrue (known (function_of w.now.entries) t.now) }
     requires mask { MaskHolds (function_of w.now.entries) ctx.now.0 t.now mask }
     requires value { IsTrue (leads_to mask (val_of value)) }
-    ensures stands { IfOk result (λ q. Stands (function_of w.now.entries) q) }
-    ensures made { IfOk result (λ q. q ≡ typed_made ctx.now t.now mask value) }
+    ensures stands { IfOk result (λ q. Stands w.now q) }
+    ensures made { IfOk result (λ q. q.says ≡ typed_made ctx.now t.now mask value) }
 {
     w.is_sound();
     let mode = typed_mode(mask, &value);

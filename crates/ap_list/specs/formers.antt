@@ -1,2 +1,5 @@
 pub mod boxed
 pub mod seq
+pub mod shared
+pub mod shared_seq
+pub mod tagged

@@ -1,16 +1,25 @@
-//! Containers that every crate shares: a list and a box that contracts see as plain data, so that a
-//! tree of them is plain data too and a copy equals what it copies.
+//! Containers that every crate shares: a list, and values and lists that several owners hold, which
+//! contracts see as plain data, so that a tree of them is plain data too and a copy equals what it copies.
 #![tactic(auto)]
 
 mod boxed;
 mod compared;
 mod seq;
+mod shared;
+mod shared_compared;
+mod shared_seq;
+mod tagged;
 
 pub use boxed::Boxed;
 pub use seq::Seq;
+pub use shared::Shared;
+pub use shared_seq::SharedSeq;
 
 /// Want of memory: the one answer whose cause nothing states.
 pub type NoMemory = std::alloc::AllocError;
 
 /// A list of bytes: a text of a book, a name, what is printed.
 pub type Bytes = Seq<u8>;
+
+/// A list of bytes that copies share: a symbol's name, a string's codes.
+pub type Text = SharedSeq<u8>;

@@ -1,27 +1,13 @@
 -- The texts of each kind of value and of term, and how they open.
-use Rattle.std.proofs.Common.{◌≡◌, List, ◌∷◌, ◌++◌, map, Some, None, sym, ap, ◌∙◌}
+use Rattle.std.proofs.Common.{◌≡◌, List, ◌∷◌, ◌++◌, map, Some, None, ap, ◌∙◌}
 use Rattle.ap_value.specs.declared.symbol.Symbol.{Symbol}
-use Rattle.ap_value.specs.declared.value.Value.{Value, fold-Value, fold-roll-Value, Chr, Str, Sym, Cons}
-use Rattle.ap_value.specs.declared.value.Value.TheOpen.{Value-F}
-use Rattle.ap_value.specs.declared.value.Value.TheVariants.{rolls-Chr, rolls-Str, rolls-Sym, rolls-Cons}
+use Rattle.ap_value.specs.declared.value.Value.{Value, Chr, Str, Sym, Cons}
+use Rattle.ap_value.proofs.Induction.{fold_chr, fold_str, fold_sym, fold_cons}
 use Rattle.ap_term.specs.declared.term.Term.{Term, Var, Quote, Call}
 use Rattle.ap_term.specs.Printed.{written_step, value_text, rest_text, term_text, term_step, symbol_text, character_text, quoted, quote_text}
 use Rattle.ap_term.specs.Starts.{value_opens, value_open_step, term_opens, term_open_step, arguments_text}
 use Rattle.ap_term.proofs.Induction.{fold_var, fold_quote, fold_call}
 use Rattle.ap_term.proofs.Parts.{list_text-arguments}
-
-module _ {A : Type 0} (step : Value-F A → A) where
-  fold_chr : (c : _) → fold-Value A step (Chr c) ≡ step (Value-F.Chr c)
-  fold_chr c = ap (fold-Value A step) (sym (rolls-Chr c)) ∙ fold-roll-Value A step (Value-F.Chr c)
-
-  fold_str : (s : _) → fold-Value A step (Str s) ≡ step (Value-F.Str s)
-  fold_str s = ap (fold-Value A step) (sym (rolls-Str s)) ∙ fold-roll-Value A step (Value-F.Str s)
-
-  fold_sym : (s : Symbol) → fold-Value A step (Sym s) ≡ step (Value-F.Sym s)
-  fold_sym s = ap (fold-Value A step) (sym (rolls-Sym s)) ∙ fold-roll-Value A step (Value-F.Sym s)
-
-  fold_cons : (p q : Value) → fold-Value A step (Cons p q) ≡ step (Value-F.Cons (fold-Value A step p) (fold-Value A step q))
-  fold_cons p q = ap (fold-Value A step) (sym (rolls-Cons p q)) ∙ fold-roll-Value A step (Value-F.Cons p q)
 
 pub chr_opens : (v : Value) (c : _) → v ≡ Chr c → value_opens v ≡ None
 chr_opens v c e = ap value_opens e ∙ fold_chr value_open_step c

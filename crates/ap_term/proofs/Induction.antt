@@ -1,11 +1,11 @@
--- Induction on terms, and what a fold gives at each kind of term.
-use Rattle.std.proofs.Common.{◌≡◌, List, [], ◌∷◌, map, sym, ap, ◌∙◌, subst}
+-- Induction on terms, what a fold gives at each kind of term, and what the outside of a term says of it.
+use Rattle.std.proofs.Common.{◌≡◌, List, [], ◌∷◌, map, refl, sym, ap, ◌∙◌, subst}
 use Rattle.ap_list.specs.Lists.{Each}
 use Rattle.ap_value.specs.declared.symbol.Symbol.{Symbol}
 use Rattle.ap_value.specs.declared.value.Value.{Value}
-use Rattle.ap_term.specs.declared.term.Term.{Term, fold-Term, fold-roll-Term, para-Term, para-roll-Term, ind-Term, roll-Term, map-Term, Var, Quote, Call}
+use Rattle.ap_term.specs.declared.term.Term.{Term, fold-Term, fold-roll-Term, para-Term, para-roll-Term, ind-Term, roll-Term, map-Term, out-Term, Var, Quote, Call}
 use Rattle.ap_term.specs.declared.term.Term.TheOpen.{Term-F}
-use Rattle.ap_term.specs.declared.term.Term.TheVariants.{rolls-Var, rolls-Quote, rolls-Call}
+use Rattle.ap_term.specs.declared.term.Term.TheVariants.{rolls-Var, rolls-Quote, rolls-Call, outs-Var, outs-Quote, outs-Call}
 
 -- what holds of variables and constants, and of a call where it holds of each argument, holds of each term
 pub term_ind : (P : Term → Type 0) → ((x : Symbol) → P (Var x)) → ((v : Value) → P (Quote v))
@@ -45,3 +45,21 @@ para_quote {A} step v = ap (para-Term A step) (sym (rolls-Quote v)) ∙ para-rol
 pub para_call : {A : Type 0} (step : Term-F (Term × A) → A) (f : Symbol) (ts : List Term)
     → para-Term A step (Call f ts) ≡ step (Term-F.Call f (map (λ t. (t, para-Term A step t)) ts))
 para_call {A} step f ts = ap (para-Term A step) (sym (rolls-Call f ts)) ∙ para-roll-Term A step (Term-F.Call f ts)
+
+-- what the outside of a term says of it
+abbrev pub OutSays : Term → Term-F Term → Type 0
+OutSays u (Term-F.Var x) = u ≡ Var x
+OutSays u (Term-F.Quote v) = u ≡ Quote v
+OutSays u (Term-F.Call f ts) = u ≡ Call f ts
+
+pub out_says : (u : Term) → OutSays u (out-Term u)
+out_says = term_ind (λ u. OutSays u (out-Term u)) variable quoted call
+  where
+    variable : (x : Symbol) → OutSays (Var x) (out-Term (Var x))
+    variable x = rw (outs-Var x) refl
+
+    quoted : (v : Value) → OutSays (Quote v) (out-Term (Quote v))
+    quoted v = rw (outs-Quote v) refl
+
+    call : (f : Symbol) (ts : List Term) → Each (λ u. OutSays u (out-Term u)) ts → OutSays (Call f ts) (out-Term (Call f ts))
+    call f ts es = rw (outs-Call f ts) refl

@@ -1,16 +1,23 @@
--- Equality as a test that computes, for definitions that choose by it.
-use Rattle.std.specs.Prelude.{Bool, true, false, ◌&&◌, nat_eq}
-use base.Stored.{Gv, gnil, gnum, gcons}
-use Rattle.ap_term.specs.declared.term.Term.{Term}
-use Rattle.ap_term.specs.contracts.term.Term as term
+-- Equality of terms as a test that computes, for definitions that choose by it.
+use Rattle.std.specs.Prelude.{Bool, true, false, ◌&&◌, List, [], ◌∷◌}
+use Rattle.ap_value.specs.Values.{symbol_eq}
+use Rattle.ap_value.specs.Equal.{constant_eq}
+use Rattle.ap_term.specs.declared.term.Term.{Term, fold-Term, out-Term}
+use Rattle.ap_term.specs.declared.term.Term.TheOpen.{Term-F}
 
--- two trees of numbers are one; each plain type is stored as such a tree, and no two values as one
-abbrev pub stored_eq : Gv → Gv → Bool
-stored_eq gnil gnil = true
-stored_eq (gnum m) (gnum n) = nat_eq m n
-stored_eq (gcons a b) (gcons c d) = stored_eq a c && stored_eq b d
-stored_eq _ _ = false
+-- as many tests as terms, and each is true of its term
+abbrev pub tests_pass : List (Term → Bool) → List Term → Bool
+tests_pass [] [] = true
+tests_pass (p ∷ ps) (t ∷ ts) = p t && tests_pass ps ts
+tests_pass _ _ = false
+
+-- one level of a term against one of another, the tests of its arguments taken as given
+abbrev pub same_step : Term-F (Term → Bool) → Term-F Term → Bool
+same_step (Term-F.Var x) (Term-F.Var y) = symbol_eq x y
+same_step (Term-F.Quote v) (Term-F.Quote w) = constant_eq v w
+same_step (Term-F.Call f ps) (Term-F.Call g ts) = symbol_eq f g && tests_pass ps ts
+same_step _ _ = false
 
 -- two terms are one
 unfoldable pub term_eq : Term → Term → Bool
-term_eq a b = stored_eq (term.the_row.coded.code a) (term.the_row.coded.code b)
+term_eq = fold-Term (Term → Bool) (λ y u. same_step y (out-Term u))

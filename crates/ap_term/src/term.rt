@@ -1,16 +1,30 @@
-ghost use Rattle.std.specs.Prelude.{◌≡◌, ◌-◌, ◌^◌, ◌<◌, ◌↔◌, IsTrue, IfOk, IfSome, IfNone, map};
+ghost use Rattle.std.specs.Prelude.{◌≡◌, ◌-◌, ◌^◌, ◌<◌, ◌↔◌, true, IsTrue, IfOk, IfSome, IfNone, map};
 ghost use Rattle.ap_list.specs.Lists.{sum_of};
+ghost use Rattle.ap_term.specs.declared.term.Term.{Term, Call};
+ghost use Rattle.ap_term.specs.Equal.{term_eq};
 ghost use Rattle.ap_term.specs.Terms.{term_size};
 
+use ap_list::SharedSeq;
 use ap_value::{NoMemory, Seq, Symbol, Value, copy, copy_symbol, nodes, same, same_symbol};
 use std::alloc::Global;
 
-/// A term in translated form: a variable, a quoted constant, or a call of a function by its name.
-#[derive(Debug, Drop)]
+/// A term in translated form: a variable, a quoted constant, or a call of a function by its name. Copies
+/// share the arguments of a call.
+#[derive(Debug, Drop, PartialEq, Eq, Hash)]
 pub enum Term {
     Var(Symbol),
     Quote(Value),
-    Call(Symbol, Seq<Term>),
+    Call(Symbol, SharedSeq<Term>),
+}
+
+impl Term {
+    /// A call of a function, whose arguments are moved to where copies share them.
+    pub fn call(alloc: Global, head: Symbol, arguments: Seq<Term>) -> Result<Term, NoMemory>
+        ensures { IfOk result (λ t. t ≡ Call head arguments) }
+    {
+        let arguments = SharedSeq::new(alloc, arguments)?;
+        Ok(Term::Call(head, arguments))
+    }
 }
 
 /// A list of literals, read as their disjunction: it holds where one of them isn't `nil`.
@@ -50,23 +64,18 @@ fn same_terms(a: &[Term], b: &[Term]) -> bool
     true
 }
 
-/// A copy of a term.
-#[cycle(copying)]
+/// A copy of a term, which shares its parts: it takes no memory.
 pub fn copy_term(alloc: Global, t: &Term) -> Result<Term, NoMemory>
     ensures { IfOk result (λ r. r ≡ t.now) }
 {
     match t {
         Term::Var(x) => Ok(Term::Var(copy_symbol(alloc, x)?)),
         Term::Quote(v) => Ok(Term::Quote(copy(alloc, v)?)),
-        Term::Call(f, xs) => Ok(Term::Call(
-            copy_symbol(alloc, f)?,
-            copy_terms(alloc, xs.as_slice())?,
-        )),
+        Term::Call(f, xs) => Ok(Term::Call(copy_symbol(alloc, f)?, xs.share()?)),
     }
 }
 
-/// A copy of a list of terms.
-#[cycle(copying)]
+/// A copy of a list of terms, each of which shares its parts.
 pub fn copy_terms(alloc: Global, xs: &[Term]) -> Result<Seq<Term>, NoMemory>
     ensures { IfOk result (λ r. r ≡ xs.now) }
 {
@@ -75,6 +84,16 @@ pub fn copy_terms(alloc: Global, xs: &[Term]) -> Result<Seq<Term>, NoMemory>
         out.push(copy_term(alloc, x)?)?;
     }
     Ok(out)
+}
+
+/// The arguments of a call by value: the list itself where the call alone holds it, and else a copy.
+pub fn owned(alloc: Global, arguments: SharedSeq<Term>) -> Result<Seq<Term>, NoMemory>
+    ensures { IfOk result (λ r. r ≡ arguments) }
+{
+    match arguments.try_into_seq() {
+        Ok(terms) => Ok(terms),
+        Err(shared) => copy_terms(alloc, shared.as_slice()),
+    }
 }
 
 /// A copy of a list of symbols.
@@ -113,3 +132,9 @@ fn sizes(xs: &[Term]) -> Option<u64>
     }
     Some(total)
 }
+
+/// The law of the test of equality that definitions choose by: it is true of two terms exactly where they
+/// are one. It does nothing.
+pub fn equality_of_terms()
+    ensures { (a b : Term) → (term_eq a b ≡ true) ↔ (a ≡ b) }
+{}

@@ -1,2 +1,4 @@
 pub mod Bytes
+pub mod Constants
 pub mod Equals
+pub mod Induction

@@ -5,8 +5,8 @@
 mod symbol;
 mod value;
 
-pub use ap_list::{Boxed, Bytes, NoMemory, Seq};
+pub use ap_list::{Boxed, Bytes, NoMemory, Seq, Shared, Text};
 pub use symbol::{
     BookName, Symbol, acl2, copy_bytes, copy_symbol, is_named, same_bytes, same_symbol,
 };
-pub use value::{Value, acl2_count, copy, nodes, same};
+pub use value::{Value, acl2_count, copy, equality_of_values, nodes, same};

@@ -1,15 +1,16 @@
 ghost use Rattle.std.specs.Prelude.{◌≡◌, ◌<◌, ◌↔◌, ℕ, IsTrue, IfOk, slice_index, map};
 ghost use Rattle.ap_value.specs.Values.{acl2, byte_of, symbol_eq};
 
-use ap_list::{Bytes, NoMemory};
+use ap_list::{Bytes, NoMemory, Text};
 use std::alloc::Global;
 
 /// A symbol of the package `KEYWORD`, or else of `ACL2`, by its name as it is read: `car` has the name
-/// `CAR`. The two packages are those of the manual's topic `packages` that this fragment has.
+/// `CAR`. The two packages are those of the manual's topic `packages` that this fragment has. Copies share
+/// the name.
 #[derive(Debug, Drop, PartialEq, Eq, Hash)]
 pub struct Symbol {
     pub keyword: bool,
-    pub name: Bytes,
+    pub name: Text,
 }
 
 /// The name of a book as the command's words have it, without `.lisp`.
@@ -56,11 +57,11 @@ pub fn same_symbol(a: &Symbol, b: &Symbol) -> bool
     a.keyword == b.keyword && same_bytes(&a.name, &b.name)
 }
 
-/// A copy of a symbol.
-pub fn copy_symbol(alloc: Global, symbol: &Symbol) -> Result<Symbol, NoMemory>
+/// A copy of a symbol, which shares the name: it takes no memory.
+pub fn copy_symbol(_alloc: Global, symbol: &Symbol) -> Result<Symbol, NoMemory>
     ensures { IfOk result (λ copy. copy ≡ symbol.now) }
 {
-    let name = copy_bytes(alloc, &symbol.name)?;
+    let name = symbol.name.share()?;
     Ok(Symbol {
         keyword: symbol.keyword,
         name,
@@ -71,7 +72,7 @@ pub fn copy_symbol(alloc: Global, symbol: &Symbol) -> Result<Symbol, NoMemory>
 pub fn acl2(alloc: Global, name: &[u8]) -> Result<Symbol, NoMemory>
     ensures { IfOk result (λ s. s ≡ acl2 name.now) }
 {
-    let name = Bytes::from_slice(alloc, name)?;
+    let name = Text::new(alloc, Bytes::from_slice(alloc, name)?)?;
     Ok(Symbol {
         keyword: false,
         name,

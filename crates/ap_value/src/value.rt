@@ -1,20 +1,41 @@
-ghost use Rattle.std.specs.Prelude.{◌≡◌, ◌+◌, ◌-◌, ◌^◌, ◌<◌, ◌↔◌, IsTrue, IfOk, IfSome, IfNone};
+ghost use Rattle.std.specs.Prelude.{◌≡◌, ◌+◌, ◌-◌, ◌^◌, ◌<◌, ◌↔◌, true, IsTrue, IfOk, IfSome, IfNone};
+ghost use Rattle.ap_value.specs.declared.value.Value.{Value, Str, Cons};
+ghost use Rattle.ap_value.specs.Equal.{constant_eq};
 ghost use Rattle.ap_value.specs.Values.{val_of};
 ghost use Rattle.ap_value.specs.Counts.{node_count, acl2_count_of};
 
-use crate::symbol::{Symbol, copy_bytes, copy_symbol, same_bytes, same_code, same_symbol};
-use ap_list::{Boxed, Bytes, NoMemory};
+use crate::symbol::{Symbol, copy_symbol, same_bytes, same_code, same_symbol};
+use ap_list::{Bytes, NoMemory, Shared, Text};
 use std::alloc::Global;
 
 /// A value: an integer, a character by its code, a string by the codes of its characters, a symbol, or
-/// a cons of two values. Integers of the universe have no bound, those of a program 128 bits.
-#[derive(Debug, Drop)]
+/// a cons of two values. Integers of the universe have no bound, those of a program 128 bits. Copies share
+/// a string's codes and the parts of a cons.
+#[derive(Debug, Drop, PartialEq, Eq, Hash)]
 pub enum Value {
     Int(i128),
     Chr(u8),
-    Str(Bytes),
+    Str(Text),
     Sym(Symbol),
-    Cons(Boxed<Value>, Boxed<Value>),
+    Cons(Shared<Value>, Shared<Value>),
+}
+
+impl Value {
+    /// The string of these codes, moved to where copies share them.
+    pub fn string(alloc: Global, codes: Bytes) -> Result<Value, NoMemory>
+        ensures { IfOk result (λ v. v ≡ Str codes) }
+    {
+        Ok(Value::Str(Text::new(alloc, codes)?))
+    }
+
+    /// The cons of two values, moved to where copies share them.
+    pub fn cons(alloc: Global, first: Value, rest: Value) -> Result<Value, NoMemory>
+        ensures { IfOk result (λ v. v ≡ Cons first rest) }
+    {
+        let first = Shared::new(alloc, first)?;
+        let rest = Shared::new(alloc, rest)?;
+        Ok(Value::Cons(first, rest))
+    }
 }
 
 /// Whether two values are one: ACL2's `equal`. Takes no memory.
@@ -33,18 +54,18 @@ pub fn same(a: &Value, b: &Value) -> bool
     }
 }
 
-/// A copy of a value.
+/// A copy of a value, which shares its parts: it takes no memory.
 pub fn copy(alloc: Global, v: &Value) -> Result<Value, NoMemory>
     ensures { IfOk result (λ r. r ≡ v.now) }
 {
     match v {
         Value::Int(n) => Ok(Value::Int(*n)),
         Value::Chr(code) => Ok(Value::Chr(*code)),
-        Value::Str(codes) => Ok(Value::Str(copy_bytes(alloc, codes)?)),
+        Value::Str(codes) => Ok(Value::Str(codes.share()?)),
         Value::Sym(symbol) => Ok(Value::Sym(copy_symbol(alloc, symbol)?)),
         Value::Cons(first, rest) => {
-            let first = Boxed::new(alloc, copy(alloc, first.get())?)?;
-            let rest = Boxed::new(alloc, copy(alloc, rest.get())?)?;
+            let first = first.share()?;
+            let rest = rest.share()?;
             Ok(Value::Cons(first, rest))
         }
     }
@@ -82,3 +103,9 @@ pub fn acl2_count(v: &Value) -> Option<u128>
         }
     }
 }
+
+/// The law of the test of equality that definitions choose by: it is true of two values exactly where they
+/// are one. It does nothing.
+pub fn equality_of_values()
+    ensures { (a b : Value) → (constant_eq a b ≡ true) ↔ (a ≡ b) }
+{}

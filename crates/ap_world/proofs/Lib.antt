@@ -1,6 +1,7 @@
 pub mod Adding
 pub mod Assumed
 pub mod Agreeing
+pub mod Alike
 pub mod Coinciding
 pub mod Equations
 pub mod Extending

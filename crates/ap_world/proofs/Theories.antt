@@ -1,5 +1,9 @@
 -- The test of runes is equality, and a theory disables the runes of its list.
-use Rattle.std.proofs.Common.{◌≡◌, zero, suc, Bool, true, false, not, ◌&&◌, ◌||◌, ◌↔◌, List, [], ◌∷◌, refl, sym, ap, ◌∙◌, subst, arith}
+use Rattle.std.proofs.Common.{◌≡◌, zero, suc, Bool, true, false, cond, not, ◌&&◌, ◌||◌, ◌↔◌, List, [], ◌∷◌, ◌++◌, Some, unwrap_or, refl, sym, ap, ◌∙◌, subst, arith}
+use Rattle.std.specs.Map.{lookup}
+use Rattle.ap_world.specs.declared.runes.Kinds.{Kinds}
+use Rattle.ap_world.specs.RuneTables.{RuneTable, has_kind, with_kind, no_kinds, has_rune}
+use Rattle.ap_world.proofs.Places.{symbol_eq-turned}
 use Rattle.std.proofs.lemmas.List.Elements.{Contains-get_or, Contains-append_right}
 use Rattle.std.specs.Prelude.{Contains}
 use Rattle.ap_list.specs.Lists.{is_among}
@@ -10,8 +14,7 @@ use Rattle.ap_world.specs.declared.theory.Rune.{Rune}
 use Rattle.ap_world.specs.declared.theory.Rune.TheVariants as rune
 use Rattle.ap_world.specs.declared.theory.RuneKind.{RuneKind}
 use Rattle.ap_world.specs.declared.theory.RuneKind.TheVariants as kind
-use Rattle.ap_world.specs.declared.theory.Theory.{Theory}
-use Rattle.ap_world.specs.Theories.{rune_of, kind_in, symbol_in, kind_eq, rune_eq, is_enabled}
+use Rattle.ap_world.specs.Theories.{rune_of, kind_in, symbol_in, kind_eq, rune_eq, ShownTheory, is_enabled}
 
 pub kind_of_rune : (k : RuneKind) (f : Symbol) → kind_in (rune_of k f) ≡ k
 kind_of_rune kind.Definition f = refl
@@ -99,5 +102,75 @@ disabled_listed rs r = (λ h. among_contains rs r (turned (is_among rune_eq r rs
     turned false h = absurd (cc h)
 
 -- what is told of a rune's kind and name is told of the rune
-pub enabled_is : (h : Theory) (r : Rune) (k : RuneKind) (f : Symbol) → k ≡ kind_in r → f ≡ symbol_in r → is_enabled h (rune_of k f) ≡ is_enabled h r
+pub enabled_is : (h : ShownTheory) (r : Rune) (k : RuneKind) (f : Symbol) → k ≡ kind_in r → f ≡ symbol_in r → is_enabled h (rune_of k f) ≡ is_enabled h r
 enabled_is h r k f kind_is name_is = ap (is_enabled h) (ap (λ x. rune_of x f) kind_is ∙ ap (rune_of (kind_in r)) name_is ∙ rune_of_parts r)
+
+-- what holds of each kind
+all_kinds : (P : RuneKind → Type 0) → P kind.Definition → P kind.Executable → P kind.TypePrescription → P kind.Induction → P kind.Rewrite → P kind.Linear → P kind.Elim → (k : RuneKind) → P k
+all_kinds P a b c d e f g kind.Definition = a
+all_kinds P a b c d e f g kind.Executable = b
+all_kinds P a b c d e f g kind.TypePrescription = c
+all_kinds P a b c d e f g kind.Induction = d
+all_kinds P a b c d e f g kind.Rewrite = e
+all_kinds P a b c d e f g kind.Linear = f
+all_kinds P a b c d e f g kind.Elim = g
+
+-- a kind that is marked is among the kinds, and so is each one that was
+pub marked : (ks : Kinds) (j k : RuneKind) → has_kind (with_kind ks j) k ≡ (kind_eq k j || has_kind ks k)
+marked ks kind.Definition = all_kinds (λ k. has_kind (with_kind ks kind.Definition) k ≡ (kind_eq k kind.Definition || has_kind ks k)) refl refl refl refl refl refl refl
+marked ks kind.Executable = all_kinds (λ k. has_kind (with_kind ks kind.Executable) k ≡ (kind_eq k kind.Executable || has_kind ks k)) refl refl refl refl refl refl refl
+marked ks kind.TypePrescription = all_kinds (λ k. has_kind (with_kind ks kind.TypePrescription) k ≡ (kind_eq k kind.TypePrescription || has_kind ks k)) refl refl refl refl refl refl refl
+marked ks kind.Induction = all_kinds (λ k. has_kind (with_kind ks kind.Induction) k ≡ (kind_eq k kind.Induction || has_kind ks k)) refl refl refl refl refl refl refl
+marked ks kind.Rewrite = all_kinds (λ k. has_kind (with_kind ks kind.Rewrite) k ≡ (kind_eq k kind.Rewrite || has_kind ks k)) refl refl refl refl refl refl refl
+marked ks kind.Linear = all_kinds (λ k. has_kind (with_kind ks kind.Linear) k ≡ (kind_eq k kind.Linear || has_kind ks k)) refl refl refl refl refl refl refl
+marked ks kind.Elim = all_kinds (λ k. has_kind (with_kind ks kind.Elim) k ≡ (kind_eq k kind.Elim || has_kind ks k)) refl refl refl refl refl refl refl
+
+pub none_marked : (k : RuneKind) → has_kind no_kinds k ≡ false
+none_marked = all_kinds (λ k. has_kind no_kinds k ≡ false) refl refl refl refl refl refl refl
+
+-- the table with one rune more has that rune, and those that it had
+pub rune_added : (old new : RuneTable) (j : RuneKind) (x : Symbol) (ks : Kinds)
+    → ((k : RuneKind) → has_kind ks k ≡ has_rune old k x)
+    → ((q : Symbol) → lookup (symbol_eq q) new ≡ cond (symbol_eq x q) (Some (with_kind ks j)) (lookup (symbol_eq q) old))
+    → (k : RuneKind) (f : Symbol) → has_rune new k f ≡ (kind_eq k j && symbol_eq f x || has_rune old k f)
+rune_added old new j x ks had written k f = ap (λ o. has_kind (unwrap_or o no_kinds) k) (written f) ∙ go (symbol_eq x f) refl
+  where
+    go : (b : Bool) → symbol_eq x f ≡ b
+        → has_kind (unwrap_or (cond b (Some (with_kind ks j)) (lookup (symbol_eq f) old)) no_kinds) k ≡ (kind_eq k j && symbol_eq f x || has_rune old k f)
+    go true e =
+        marked ks j k ∙ ap (λ b. kind_eq k j || b) (had k ∙ ap (has_rune old k) (symbol_eq-true x f e))
+        ∙ ap (λ b. b || has_rune old k f) (sym (and_true (kind_eq k j)) ∙ ap (λ b. kind_eq k j && b) (sym e ∙ symbol_eq-turned x f))
+      where
+        and_true : (b : Bool) → (b && true) ≡ b
+        and_true true = refl
+        and_true false = refl
+    go false e = ap (λ b. b || has_rune old k f) (sym (and_false (kind_eq k j)) ∙ ap (λ b. kind_eq k j && b) (sym e ∙ symbol_eq-turned x f))
+      where
+        and_false : (b : Bool) → (b && false) ≡ false
+        and_false true = refl
+        and_false false = refl
+
+-- a rune is among those of a list and one more
+pub among_more : (r : Rune) (rs : List Rune) (s : Rune) → is_among rune_eq r (rs ++ s ∷ []) ≡ (rune_eq r s || is_among rune_eq r rs)
+among_more r [] s = refl
+among_more r (x ∷ rs) s = go (rune_eq r x) (rune_eq r s) (among_more r rs s)
+  where
+    go : (b c : Bool) → is_among rune_eq r (rs ++ s ∷ []) ≡ (c || is_among rune_eq r rs) → (b || is_among rune_eq r (rs ++ s ∷ [])) ≡ (c || (b || is_among rune_eq r rs))
+    go true true h = refl
+    go true false h = refl
+    go false c h = h
+
+-- the table of a list, one rune after another
+pub rune_next : (table more : RuneTable) (rs : List Rune) (s : Rune) (j : RuneKind) (x : Symbol) → j ≡ kind_in s → x ≡ symbol_in s
+    → ((k : RuneKind) (f : Symbol) → has_rune table k f ≡ is_among rune_eq (rune_of k f) rs)
+    → ((k : RuneKind) (f : Symbol) → has_rune more k f ≡ (kind_eq k j && symbol_eq f x || has_rune table k f))
+    → (k : RuneKind) (f : Symbol) → has_rune more k f ≡ is_among rune_eq (rune_of k f) (rs ++ s ∷ [])
+rune_next table more rs s j x kind_is name_is had added k f =
+    added k f ∙ ap (λ b. kind_eq k j && symbol_eq f x || b) (had k f)
+    ∙ ap (λ b. b || is_among rune_eq (rune_of k f) rs) same
+    ∙ sym (among_more (rune_of k f) rs s)
+  where
+    same : (kind_eq k j && symbol_eq f x) ≡ rune_eq (rune_of k f) s
+    same = ap (λ l. kind_eq k l && symbol_eq f x) kind_is ∙ ap (λ y. kind_eq k (kind_in s) && symbol_eq f y) name_is
+        ∙ ap (λ l. kind_eq l (kind_in s) && symbol_eq f (symbol_in s)) (sym (kind_of_rune k f))
+        ∙ ap (λ y. kind_eq (kind_in (rune_of k f)) (kind_in s) && symbol_eq y (symbol_in s)) (sym (symbol_of_rune k f))

@@ -1,5 +1,5 @@
 -- The laws of meaning and soundness, as the public functions of the module of laws state them.
-use Rattle.std.specs.Prelude.{◌≡◌, ℕ, ◌+◌, Bool, true, ◌&&◌, ◌||◌, ◌↔◌, List, [], ◌∷◌, ◌++◌, map, Option, Some, None, is_some}
+use Rattle.std.specs.Prelude.{◌≡◌, ℕ, ◌+◌, length, Bool, true, ◌&&◌, ◌||◌, ◌↔◌, List, [], ◌∷◌, ◌++◌, map, Option, Some, None, is_some}
 use Rattle.ap_list.specs.Lists.{all_true}
 use Rattle.ap_value.specs.declared.symbol.Symbol.{Symbol}
 use Rattle.ap_value.specs.Values.{V}
@@ -13,6 +13,7 @@ use Rattle.ap_world.specs.Primitives.{prim_of}
 use Rattle.ap_world.specs.Meaning.{Env, Defs, ev, HasValue, CallValue, Total, Valid}
 use Rattle.ap_world.specs.Sound.{known, not_function, Sound}
 use Rattle.ap_world.specs.World.{function_of}
+use Rattle.ap_world.specs.Alike.{DefinesAlike}
 
 -- a value that some number of units gives, every greater number gives
 abbrev pub MoreFuelKeeps : Type 0
@@ -64,6 +65,29 @@ pub record AgreeOn (S : Symbol → Bool) (D E : Defs) : Type 0 where
 -- worlds that define the functions of a clause, and all that these call, alike agree on its validity
 abbrev pub WorldsThatAgree : Type 0
 WorldsThatAgree = (S : Symbol → Bool) (D E : Defs) → AgreeOn S D E → (c : List Term) → all_true (map (calls_only S) c) ≡ true → Valid D c ↔ Valid E c
+
+-- where a world defines all that another does, alike, it keeps values, the values of calls, what is known and
+-- what is valid, whatever the masks
+abbrev pub AlikeKeepsValues : Type 0
+AlikeKeepsValues = (D E : Defs) → DefinesAlike D E → (u : Term) (e : Env) (v : V) → HasValue D u e v → HasValue E u e v
+
+abbrev pub AlikeKeepsCalls : Type 0
+AlikeKeepsCalls = (D E : Defs) → DefinesAlike D E → (f : Symbol) (vs : List V) (v : V) → CallValue D f vs v → CallValue E f vs v
+
+abbrev pub AlikeKeepsKnown : Type 0
+AlikeKeepsKnown = (D E : Defs) → DefinesAlike D E → (u : Term) → known D u ≡ true → known E u ≡ true
+
+abbrev pub AlikeKeepsValidity : Type 0
+AlikeKeepsValidity = (D E : Defs) → DefinesAlike D E → (c : List Term) → Valid D c → Valid E c
+
+-- and where the smaller one is total, of its own terms nothing else is valid in the larger one, and a call of its own
+-- functions has no other value there
+abbrev pub AlikeAddsNoValidity : Type 0
+AlikeAddsNoValidity = (D E : Defs) → Total D → DefinesAlike D E → (c : List Term) → all_true (map (known D) c) ≡ true → Valid E c → Valid D c
+
+abbrev pub AlikeAddsNoValues : Type 0
+AlikeAddsNoValues = (D E : Defs) → Total D → DefinesAlike D E → (f : Symbol) (g : Function) → D f ≡ Some g → (vs : List V) (v : V) → length g.formals ≡ length vs
+    → CallValue E f vs v → CallValue D f vs v
 
 -- a known term equals itself
 abbrev pub EqualSidesAreValid : Type 0

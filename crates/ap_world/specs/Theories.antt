@@ -1,5 +1,5 @@
--- What a theory enables. See the manual's topics `rune` and `theories`.
-use Rattle.std.specs.Prelude.{Bool, true, false, not, ◌&&◌}
+-- What contracts see of a theory, and what it enables. See the manual's topics `rune` and `theories`.
+use Rattle.std.specs.Prelude.{Bool, true, false, not, ◌&&◌, List}
 use Rattle.ap_list.specs.Lists.{is_among}
 use Rattle.ap_value.specs.declared.symbol.Symbol.{Symbol}
 use Rattle.ap_value.specs.Values.{symbol_eq}
@@ -7,7 +7,10 @@ use Rattle.ap_world.specs.declared.theory.Rune.{Rune}
 use Rattle.ap_world.specs.declared.theory.Rune.TheVariants as rune
 use Rattle.ap_world.specs.declared.theory.RuneKind.{RuneKind}
 use Rattle.ap_world.specs.declared.theory.RuneKind.TheVariants as kind
-use Rattle.ap_world.specs.declared.theory.Theory.{Theory}
+
+-- the runes that a theory disables; every other rune is enabled
+pub record ShownTheory : Type 0 where
+  pub disabled : List Rune
 
 -- the rune of a kind and a name
 abbrev pub rune_of : RuneKind → Symbol → Rune
@@ -53,5 +56,5 @@ abbrev pub rune_eq : Rune → Rune → Bool
 rune_eq r s = kind_eq (kind_in r) (kind_in s) && symbol_eq (symbol_in r) (symbol_in s)
 
 -- a theory enables every rune that it doesn't disable
-abbrev pub is_enabled : Theory → Rune → Bool
+abbrev pub is_enabled : ShownTheory → Rune → Bool
 is_enabled h r = not (is_among rune_eq r h.disabled)

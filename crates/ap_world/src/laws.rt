@@ -1,5 +1,5 @@
 //! The laws of meaning and soundness, each the contract of a function that does nothing.
-ghost use Rattle.ap_world.specs.Laws.{MoreFuelKeeps, ValuesAreUnique, CallsAreUnique, KnownTermsHaveValues, EntriesKeepValues, EntriesKeepValidity, EntriesAddNoValidity, WorldsThatAgree, EqualSidesAreValid, StartingWorldIsSound};
+ghost use Rattle.ap_world.specs.Laws.{MoreFuelKeeps, ValuesAreUnique, CallsAreUnique, KnownTermsHaveValues, EntriesKeepValues, EntriesKeepValidity, EntriesAddNoValidity, WorldsThatAgree, AlikeKeepsValues, AlikeKeepsCalls, AlikeKeepsKnown, AlikeKeepsValidity, AlikeAddsNoValidity, AlikeAddsNoValues, EqualSidesAreValid, StartingWorldIsSound};
 
 /// A value that some number of units gives, every greater number gives.
 pub fn more_fuel()
@@ -28,6 +28,18 @@ pub fn entries_keep_values()
 /// Worlds that define the functions of a clause, and all that these call, alike agree on its validity.
 pub fn worlds_that_agree()
     ensures { WorldsThatAgree }
+{}
+
+/// A world that defines all that another one does with the same formals and bodies, whatever the masks, keeps
+/// its values, what it knows and what is valid in it. Where the smaller one is total, nothing else is valid in
+/// the larger one of terms that the smaller one knows, and a call of its functions has no other value.
+pub fn worlds_that_define_alike()
+    ensures values { AlikeKeepsValues }
+    ensures calls { AlikeKeepsCalls }
+    ensures known { AlikeKeepsKnown }
+    ensures valid { AlikeKeepsValidity }
+    ensures back { AlikeAddsNoValidity }
+    ensures calls_back { AlikeAddsNoValues }
 {}
 
 /// In a total world a known term equals itself.

@@ -9,6 +9,8 @@ pub mod laws;
 mod names;
 mod prescribing;
 mod primitive;
+mod runes;
+mod same;
 mod tables;
 mod theory;
 mod world;
@@ -22,5 +24,6 @@ pub use entry::{
 };
 pub use kinds::{Kind, Sign};
 pub use primitive::{Primitive, primitive_of};
+pub use same::{alike_entry, same_entry, same_theory, same_world};
 pub use theory::{Rune, RuneKind, Theory, copy_rune, copy_theory, same_rune};
 pub use world::{AddError, World};

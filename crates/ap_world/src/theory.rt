@@ -1,12 +1,11 @@
-ghost use Rattle.std.specs.Prelude.{◌≡◌, ◌↔◌, IsTrue, IfOk, false, Contains};
-ghost use Rattle.ap_list.specs.Lists.{is_among};
-ghost use Rattle.ap_value.specs.Values.{symbol_eq};
-ghost use Rattle.ap_world.specs.Theories.{rune_of, kind_in, symbol_in, kind_eq, rune_eq, is_enabled};
+ghost use Rattle.std.specs.Prelude.{◌≡◌, ◌↔◌, IsTrue, IfOk, [], false, Contains};
+ghost use Rattle.ap_world.specs.Theories.{rune_of, kind_in, symbol_in, kind_eq, is_enabled};
 
-use crate::names::is_same_name;
-use ap_list::{NoMemory, Seq};
+use crate::runes::Disabled;
+use ap_list::{NoMemory, Seq, Shared};
 use ap_value::{Symbol, copy_symbol, same_symbol};
 use std::alloc::Global;
+use std::marker::Model;
 
 /// The name of a rule, by the function or theorem that it comes from. See the manual's topic `rune`.
 #[derive(Debug, Drop)]
@@ -82,10 +81,24 @@ impl Rune {
     }
 }
 
-/// A theory, by the runes that it disables: every other rune is enabled.
+/// A theory, by the runes that it disables: every other rune is enabled. Copies share the runes, and a table
+/// of them. Contracts see the list of the runes.
 #[derive(Debug, Drop)]
 pub struct Theory {
-    pub disabled: Seq<Rune>,
+    shared: Option<Shared<Disabled>>,
+}
+
+impl Model for Theory {
+    ghost use Rattle.std.specs.Prelude.{[], unwrap_or};
+    ghost use Rattle.std.specs.Coded.{codes};
+    ghost use Rattle.ap_world.specs.contracts.theory.Rune as rune;
+    ghost use Rattle.ap_world.specs.Theories.{ShownTheory};
+
+    ghost Value = { ShownTheory };
+
+    ghost coded = { Prim.hlevel (codes, rune.the_row.coded) };
+
+    ghost view = { λ t. record { disabled = unwrap_or t.shared [] } };
 }
 
 /// Whether two runes are one. Takes no memory.
@@ -119,44 +132,58 @@ pub fn copy_rune(alloc: Global, rune: &Rune) -> Result<Rune, NoMemory>
     }
 }
 
-/// A copy of a theory.
-pub fn copy_theory(alloc: Global, theory: &Theory) -> Result<Theory, NoMemory>
+/// A copy of a theory, which shares its runes: a count is copied, and it fails only where that is full.
+pub fn copy_theory(_alloc: Global, theory: &Theory) -> Result<Theory, NoMemory>
     ensures { IfOk result (λ r. r ≡ theory.now) }
 {
-    let mut disabled = Seq::new(alloc);
-    for rune in theory.disabled.as_slice() {
-        disabled.push(copy_rune(alloc, rune)?)?;
-    }
-    Ok(Theory { disabled })
-}
-
-/// Whether a rune is the one of this kind and name.
-fn is_rune(rune: &Rune, kind: RuneKind, name: &Symbol) -> bool
-    ensures { result ≡ rune_eq (rune_of kind name.now) rune.now }
-{
-    kind.is(rune.kind()) && is_same_name(name, rune.symbol())
-}
-
-/// Whether the rune of this kind and name is in a list.
-fn is_listed(runes: &[Rune], kind: RuneKind, name: &Symbol) -> bool
-    ensures { result ≡ is_among rune_eq (rune_of kind name.now) runes.now }
-{
-    let mut left = runes;
-    while let [first, rest @ ..] = left {
-        if is_rune(first, kind, name) {
-            return true;
+    match &theory.shared {
+        None => Ok(Theory { shared: None }),
+        Some(disabled) => {
+            let disabled = disabled.share()?;
+            Ok(Theory {
+                shared: Some(disabled),
+            })
         }
-        left = rest;
     }
-    false
 }
 
 impl Theory {
-    /// Whether the rune of this kind and name is enabled. Takes no memory.
+    /// The theory that disables no rune. Takes no memory.
+    pub fn all_enabled() -> Theory
+        ensures { result ≡ record { disabled = [] } }
+    {
+        Theory { shared: None }
+    }
+
+    /// The theory that disables the runes of a list.
+    pub fn disabling(alloc: Global, runes: Seq<Rune>) -> Result<Theory, NoMemory>
+        ensures { IfOk result (λ t. t ≡ record { disabled = runes }) }
+    {
+        let disabled = Disabled::new(alloc, runes)?;
+        let shared = Shared::new(alloc, disabled)?;
+        Ok(Theory {
+            shared: Some(shared),
+        })
+    }
+
+    /// The runes that are disabled, in their order. Takes no memory.
+    pub fn disabled(&self) -> &[Rune]
+        ensures { result.now ≡ self.now.disabled }
+    {
+        match &self.shared {
+            None => &[],
+            Some(disabled) => disabled.get().as_slice(),
+        }
+    }
+
+    /// Whether the rune of this kind and name is enabled: looked up in a table. Takes no memory.
     pub fn is_enabled(&self, kind: RuneKind, name: &Symbol) -> bool
         ensures { result ≡ is_enabled self.now (rune_of kind name.now) }
     {
-        !is_listed(self.disabled.as_slice(), kind, name)
+        match &self.shared {
+            None => true,
+            Some(disabled) => !disabled.get().has(kind, name),
+        }
     }
 
     /// Whether a rune is enabled: the theory doesn't disable it. Takes no memory.

@@ -74,9 +74,7 @@ impl World {
     {
         World {
             entries: Entries::new(alloc),
-            theory: Theory {
-                disabled: Seq::new(alloc),
-            },
+            theory: Theory::all_enabled(),
         }
     }
 
@@ -158,6 +156,13 @@ impl World {
             Some(Entry::Constant(name, value)) => Some(EntryRef::Constant(name, value)),
             None => None,
         }
+    }
+
+    /// The entries in their order, lent. Takes no memory.
+    pub fn entries(&self) -> &[Entry]
+        ensures { result.now ≡ self.now.entries }
+    {
+        self.entries.as_slice()
     }
 
     /// The theorem with this number, from 0, of those of the class of type prescriptions that are about a
