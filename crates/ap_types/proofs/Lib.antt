@@ -6,3 +6,5 @@ pub mod Cutting
 pub mod TypesHold
 pub mod RulesHold
 pub mod KeptHolds
+pub mod Sketches
+pub mod GroundKept
