@@ -2,6 +2,7 @@ pub mod Adding
 pub mod Agreeing
 pub mod Alike
 pub mod Coinciding
+pub mod Conjectures
 pub mod Equations
 pub mod Extending
 pub mod Fuel
