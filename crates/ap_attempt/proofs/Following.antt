@@ -12,28 +12,28 @@ use Rattle.ap_walk.proofs.Trees.{walk_is_cut_of_all}
 use Rattle.ap_walk.proofs.Stops.{cut_counts}
 use Rattle.ap_attempt.specs.declared.turn.Turn.{Turn}
 use Rattle.ap_attempt.specs.declared.turn.Next.{Next}
-use Rattle.ap_attempt.specs.declared.verdict.Attempt.{Attempt}
 use Rattle.ap_attempt.specs.declared.verdict.Verdict.{Verdict}
-use Rattle.ap_attempt.specs.Attempts.{taken, next_by, next_turn, follow, walked_first, one_turn, turns_within, turns_from}
+use Rattle.ap_attempt.specs.Attempts.{Course, walks_of, with_pool, after_walk, next_turn, follow, walked_first, turn_walk, one_turn, turns_within, turns_from}
 use Rattle.ap_attempt.proofs.Lowering.{next_rule}
 
 module _ {T : Type 0} where
-  -- walks that stand before those of an attempt
-  abbrev pub walked_before : List (Walked T) → Attempt T → Attempt T
-  walked_before walks attempt = record { verdict = attempt.verdict; walks = walks ++ attempt.walks }
+  -- walks that were made, and then those of this course, are those of the whole one
+  pub record EndsWith (made : List (Walked T)) (rest whole : Course T) : Type 0 where
+    pub verdict : rest.verdict ≡ whole.verdict
+    pub walks : made ++ walks_of rest ≡ walks_of whole
 
   turn_back : (a b : Turn T) → Next.Walk a ≡ Next.Walk b → a ≡ b
   turn_back a b is = cc
 
   -- a turn is taken only under the rule that is left
-  taken_rule : (refuses : Bool) (left : Option Rule) (pool : List T) (turn : Turn T) → taken refuses left pool ≡ Next.Walk turn → left ≡ Some turn.rule
+  taken_rule : (refuses : Bool) (left : Option Rule) (pool : List T) (turn : Turn T) → with_pool refuses left pool ≡ Next.Walk turn → left ≡ Some turn.rule
   taken_rule refuses left [] turn is = absurd (cc)
   taken_rule true left (task ∷ rest) turn is = absurd (cc)
   taken_rule false None (task ∷ rest) turn is = absurd (cc)
   taken_rule false (Some rule) (task ∷ rest) turn is = ap (λ (t : Turn T). Some t.rule) (turn_back _ turn is)
 
   next_by_rule : (e : End) (refuses : Bool) (left : Option Rule) (original : T) (own rest : List T) (turn : Turn T)
-      → next_by e (taken refuses left) original own rest ≡ Next.Walk turn → left ≡ Some turn.rule
+      → after_walk e (with_pool refuses left) original own rest ≡ Next.Walk turn → left ≡ Some turn.rule
   next_by_rule End.Through refuses left original own rest turn is = taken_rule refuses left (own ++ rest) turn is
   next_by_rule End.Revert refuses left original own rest turn is = taken_rule refuses left (original ∷ []) turn is
   next_by_rule End.Limit refuses left original own rest turn is = absurd (cc)
@@ -46,7 +46,7 @@ module _ {T : Type 0} where
       next_rule rule turn.rule w.tally.goals (next_by_rule w.end refuses _ _ _ rest turn is)
 
   -- what follows counts only at the turn that comes
-  pub follow_same : (next : Next T) (f g : Turn T → Attempt T) → ((turn : Turn T) → next ≡ Next.Walk turn → f turn ≡ g turn) → follow next f ≡ follow next g
+  pub follow_same : (next : Next T) (f g : Turn T → Course T) → ((turn : Turn T) → next ≡ Next.Walk turn → f turn ≡ g turn) → follow next f ≡ follow next g
   follow_same (Next.Done verdict) f g same = refl
   follow_same (Next.Walk turn) f g same = same turn refl
 
@@ -92,7 +92,7 @@ module _ {T : Type 0} (step : T → Stepped T) (depth : T → ℕ) (tells : (tas
     enough (suc m) zero turn below more = absurd (let some = turn.rule.limited.0 in omega arith)
     enough (suc m) (suc n) turn below more =
         let w = walk step depth turn.rule turn.task zero_tally in
-        ap (walked_first w)
+        ap (walked_first (turn_walk turn w))
         (follow_same (next_turn inducted original refuses turn.rule w turn.rest)
         (turns_within step depth inducted original refuses m) (turns_within step depth inducted original refuses n)
         (λ next is. let fewer = fewer_left turn next is in enough m n next (omega arith) (omega arith)))
@@ -104,7 +104,7 @@ module _ {T : Type 0} (step : T → Stepped T) (depth : T → ℕ) (tells : (tas
     once zero turn below = absurd (let some = turn.rule.limited.0 in omega arith)
     once (suc n) turn below =
         let w = walk step depth turn.rule turn.task zero_tally in
-        ap (walked_first w)
+        ap (walked_first (turn_walk turn w))
         (follow_same (next_turn inducted original refuses turn.rule w turn.rest)
         (turns_within step depth inducted original refuses n) (turns_from step depth inducted original refuses)
         (λ next is. let fewer = fewer_left turn next is in enough n next.rule.goal_limit next (omega arith) (omega arith)))
@@ -115,34 +115,42 @@ module _ {T : Type 0} (step : T → Stepped T) (depth : T → ℕ) (tells : (tas
     turns_from_is turn = once turn.rule.goal_limit turn (omega arith)
 
     -- what has been walked, and then this turn's walk with what follows it
-    turned : (walks before : List (Walked T)) (turn : Turn T) (w : Walked T) (next : Next T) (whole : Attempt T)
-        → walked_before before (turns_from step depth inducted original refuses turn) ≡ whole
+    turned : (walks before : List (Walked T)) (turn : Turn T) (w : Walked T) (next : Next T) (whole : Course T)
+        → EndsWith before (turns_from step depth inducted original refuses turn) whole
         → w ≡ walk step depth turn.rule turn.task zero_tally → next ≡ next_turn inducted original refuses turn.rule w turn.rest → walks ≡ before ++ w ∷ []
-        → walked_before walks (follow next (turns_from step depth inducted original refuses)) ≡ whole
+        → EndsWith walks (follow next (turns_from step depth inducted original refuses)) whole
     turned walks before turn w next whole to_come is follows added =
         let turns = turns_from step depth inducted original refuses in
-        let after : Walked T → Attempt T = λ v. walked_first v (follow (next_turn inducted original refuses turn.rule v turn.rest) turns) in
-        ap (λ ws. walked_before ws (follow next turns)) added
-        ∙ ap (λ n. walked_before (before ++ w ∷ []) (follow n turns)) follows
-        ∙ ap (λ ws. record { verdict = (after w).verdict; walks = ws }) (append_assoc before (w ∷ []) _)
-        ∙ ap (λ v. walked_before before (after v)) is
-        ∙ ap (walked_before before) (sym (turns_from_is turn))
-        ∙ to_come
+        let after : Walked T → Course T = λ v. walked_first (turn_walk turn v) (follow (next_turn inducted original refuses turn.rule v turn.rest) turns) in
+        record {
+          verdict =
+              ap (λ n. (follow n turns).verdict) follows
+              ∙ ap (λ v. (after v).verdict) is
+              ∙ ap (λ (c : Course T). c.verdict) (sym (turns_from_is turn))
+              ∙ to_come.verdict;
+          walks =
+              ap (λ ws. ws ++ walks_of (follow next turns)) added
+              ∙ append_assoc before (w ∷ []) _
+              ∙ ap (λ n. before ++ w ∷ walks_of (follow n turns)) follows
+              ∙ ap (λ v. before ++ walks_of (after v)) is
+              ∙ ap (λ (c : Course T). before ++ walks_of c) (sym (turns_from_is turn))
+              ∙ to_come.walks;
+        }
 
-    pub turn_follows : (walks before : List (Walked T)) (turn : Turn T) (w : Walked T) (next : Next T) (after : Turn T) (whole : Attempt T)
-        → walked_before before (turns_from step depth inducted original refuses turn) ≡ whole
+    pub turn_follows : (walks before : List (Walked T)) (turn : Turn T) (w : Walked T) (next : Next T) (after : Turn T) (whole : Course T)
+        → EndsWith before (turns_from step depth inducted original refuses turn) whole
         → w ≡ walk step depth turn.rule turn.task zero_tally → next ≡ next_turn inducted original refuses turn.rule w turn.rest → walks ≡ before ++ w ∷ []
-        → next ≡ Next.Walk after → walked_before walks (turns_from step depth inducted original refuses after) ≡ whole
+        → next ≡ Next.Walk after → EndsWith walks (turns_from step depth inducted original refuses after) whole
     turn_follows walks before turn w next after whole to_come is follows added walks_on =
         turned walks before turn w (Next.Walk after) whole to_come is (sym walks_on ∙ follows) added
 
-    pub verdict_follows : (walks before : List (Walked T)) (turn : Turn T) (w : Walked T) (next : Next T) (verdict : Verdict) (whole : Attempt T)
-        → walked_before before (turns_from step depth inducted original refuses turn) ≡ whole
+    pub verdict_follows : (walks before : List (Walked T)) (turn : Turn T) (w : Walked T) (next : Next T) (verdict : Verdict) (whole : Course T)
+        → EndsWith before (turns_from step depth inducted original refuses turn) whole
         → w ≡ walk step depth turn.rule turn.task zero_tally → next ≡ next_turn inducted original refuses turn.rule w turn.rest → walks ≡ before ++ w ∷ []
-        → next ≡ Next.Done verdict → record { verdict = verdict; walks = walks } ≡ whole
+        → next ≡ Next.Done verdict → (verdict ≡ whole.verdict) × (walks ≡ walks_of whole)
     verdict_follows walks before turn w next verdict whole to_come is follows added done =
-        ap (λ ws. record { verdict = verdict; walks = ws }) (sym (append-nil walks))
-        ∙ turned walks before turn w (Next.Done verdict) whole to_come is (sym done ∙ follows) added
+        let ends = turned walks before turn w (Next.Done verdict) whole to_come is (sym done ∙ follows) added in
+        (ends.verdict, sym (append-nil walks) ∙ ends.walks)
 
     pub turn_shrinks : (turn : Turn T) (w : Walked T) (next : Next T) (after : Turn T)
         → w ≡ walk step depth turn.rule turn.task zero_tally → next ≡ next_turn inducted original refuses turn.rule w turn.rest
@@ -150,18 +158,18 @@ module _ {T : Type 0} (step : T → Stepped T) (depth : T → ℕ) (tells : (tas
     turn_shrinks turn w next after is follows walks_on =
         fewer_left turn after (ap (λ v. next_turn inducted original refuses turn.rule v turn.rest) (sym is) ∙ sym follows ∙ walks_on)
 
-    only_within : (follows : Turn T → Attempt T) → ((turn : Turn T) → follows turn ≡ one_turn step depth inducted original refuses follows turn)
+    only_within : (follows : Turn T → Course T) → ((turn : Turn T) → follows turn ≡ one_turn step depth inducted original refuses follows turn)
         → (n : ℕ) (turn : Turn T) → turn.rule.goal_limit ≤ n → follows turn ≡ turns_from step depth inducted original refuses turn
     only_within follows goes zero turn below = absurd (let some = turn.rule.limited.0 in omega arith)
     only_within follows goes (suc n) turn below =
         let w = walk step depth turn.rule turn.task zero_tally in
         goes turn
-        ∙ ap (walked_first w)
+        ∙ ap (walked_first (turn_walk turn w))
         (follow_same (next_turn inducted original refuses turn.rule w turn.rest) follows (turns_from step depth inducted original refuses)
         (λ next is. let fewer = fewer_left turn next is in only_within follows goes n next (omega arith)))
         ∙ sym (turns_from_is turn)
 
     -- only one function goes turn by turn
-    pub only_turns : (follows : Turn T → Attempt T) → ((turn : Turn T) → follows turn ≡ one_turn step depth inducted original refuses follows turn)
+    pub only_turns : (follows : Turn T → Course T) → ((turn : Turn T) → follows turn ≡ one_turn step depth inducted original refuses follows turn)
         → (turn : Turn T) → follows turn ≡ turns_from step depth inducted original refuses turn
     only_turns follows goes turn = only_within follows goes turn.rule.goal_limit turn (omega arith)

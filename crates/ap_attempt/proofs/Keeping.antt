@@ -15,8 +15,7 @@ use Rattle.ap_walk.proofs.Bounds.{walk_few_from_zero}
 use Rattle.ap_attempt.specs.declared.turn.Turn.{Turn}
 use Rattle.ap_attempt.specs.declared.turn.Next.{Next}
 use Rattle.ap_attempt.specs.declared.verdict.Verdict.{Verdict}
-use Rattle.ap_attempt.specs.declared.verdict.Attempt.{Attempt}
-use Rattle.ap_attempt.specs.Attempts.{inductions, rule_after, taken, next_by, next_turn, follow, turns_within, attempt}
+use Rattle.ap_attempt.specs.Attempts.{Course, walks_of, turn_walk, inductions, rule_after, with_pool, after_walk, next_turn, follow, turns_within, attempt}
 use Rattle.ap_attempt.specs.Laws.{mark_count, IsLater, EachAfterFirst}
 use Rattle.ap_attempt.proofs.Following.{next_turn_rule, walk_counts}
 
@@ -26,24 +25,24 @@ module _ {T : Type 0} where
   each_append P (x ∷ xs) ys each = let more = each_append P xs ys each.1 in ((each.0, more.0), more.1)
 
   -- where the turn that comes has few marks, so has what follows
-  few_next : (next : Next T) (turns : Turn T → Attempt T) (n : ℕ) → ((turn : Turn T) → next ≡ Next.Walk turn → mark_count (turns turn).walks ≤ n) → mark_count (follow next turns).walks ≤ n
+  few_next : (next : Next T) (turns : Turn T → Course T) (n : ℕ) → ((turn : Turn T) → next ≡ Next.Walk turn → mark_count (walks_of (turns turn)) ≤ n) → mark_count (walks_of (follow next turns)) ≤ n
   few_next (Next.Done verdict) turns n few = omega arith
   few_next (Next.Walk turn) turns n few = few turn refl
 
-  later_next : (next : Next T) (turns : Turn T → Attempt T) (P : Walked T → Type 0) → ((turn : Turn T) → next ≡ Next.Walk turn → Each P (turns turn).walks) → Each P (follow next turns).walks
+  later_next : (next : Next T) (turns : Turn T → Course T) (P : Walked T → Type 0) → ((turn : Turn T) → next ≡ Next.Walk turn → Each P (walks_of (turns turn))) → Each P (walks_of (follow next turns))
   later_next (Next.Done verdict) turns P later = tt
   later_next (Next.Walk turn) turns P later = later turn refl
 
 module _ {T : Type 0} (step : T → Stepped T) (depth : T → ℕ) (tells : (task : T) → Tells (step task).act.process (step task).out)
     (inducted : T → ℕ → T) (original : T) (refuses : Bool) where
-  few_within : (n : ℕ) (turn : Turn T) → mark_count (turns_within step depth inducted original refuses n turn).walks ≤ turn.rule.goal_limit
+  few_within : (n : ℕ) (turn : Turn T) → mark_count (walks_of (turns_within step depth inducted original refuses n turn)) ≤ turn.rule.goal_limit
   unfolding turns_within
   few_within zero turn = omega arith
   few_within (suc n) turn =
       let w = walk step depth turn.rule turn.task zero_tally in
       let counts = walk_counts step depth tells turn.rule turn.task in
       let few = walk_few_from_zero step depth tells turn.rule turn.task in
-      let rest : mark_count (follow (next_turn inducted original refuses turn.rule w turn.rest) (turns_within step depth inducted original refuses n)).walks ≤ turn.rule.goal_limit - w.tally.goals =
+      let rest : mark_count (walks_of (follow (next_turn inducted original refuses turn.rule w turn.rest) (turns_within step depth inducted original refuses n))) ≤ turn.rule.goal_limit - w.tally.goals =
       few_next (next_turn inducted original refuses turn.rule w turn.rest) (turns_within step depth inducted original refuses n) (turn.rule.goal_limit - w.tally.goals)
       (λ next is.
       let left = (next_turn_rule inducted original refuses turn.rule w turn.rest next is).1 in
@@ -52,31 +51,31 @@ module _ {T : Type 0} (step : T → Stepped T) (depth : T → ℕ) (tells : (tas
       omega arith
 
   -- all walks of an attempt together have no more marks than the limit
-  pub attempt_few : (rule : Rule) (root : T) → mark_count (attempt step depth inducted original refuses rule root).walks ≤ rule.goal_limit
+  pub attempt_few : (rule : Rule) (root : T) → mark_count (walks_of (attempt step depth inducted original refuses rule root)) ≤ rule.goal_limit
   attempt_few rule root = few_within rule.goal_limit _
 
   later_after : (n : ℕ) (rule : Rule) (w : Walked T) (rest : List T)
-      → ((turn : Turn T) → turn.rule.initial ≡ false → Each (IsLater step depth) (turns_within step depth inducted original refuses n turn).walks)
-      → Each (IsLater step depth) (follow (next_turn inducted original refuses rule w rest) (turns_within step depth inducted original refuses n)).walks
+      → ((turn : Turn T) → turn.rule.initial ≡ false → Each (IsLater step depth) (walks_of (turns_within step depth inducted original refuses n turn)))
+      → Each (IsLater step depth) (walks_of (follow (next_turn inducted original refuses rule w rest) (turns_within step depth inducted original refuses n)))
   later_after n rule w rest later =
       later_next (next_turn inducted original refuses rule w rest) (turns_within step depth inducted original refuses n) (IsLater step depth)
       (λ next is. later next (next_turn_rule inducted original refuses rule w rest next is).0)
 
-  later_within : (n : ℕ) (turn : Turn T) → turn.rule.initial ≡ false → Each (IsLater step depth) (turns_within step depth inducted original refuses n turn).walks
+  later_within : (n : ℕ) (turn : Turn T) → turn.rule.initial ≡ false → Each (IsLater step depth) (walks_of (turns_within step depth inducted original refuses n turn))
   unfolding turns_within
   later_within zero turn not_initial = tt
   later_within (suc n) turn not_initial =
       let w = walk step depth turn.rule turn.task zero_tally in
       (record { rule = turn.rule; task = turn.task; not_initial = not_initial; is = refl }, later_after n turn.rule w turn.rest (later_within n))
 
-  after_first_within : (n : ℕ) (turn : Turn T) → EachAfterFirst (IsLater step depth) (turns_within step depth inducted original refuses n turn).walks
+  after_first_within : (n : ℕ) (turn : Turn T) → EachAfterFirst (IsLater step depth) (walks_of (turns_within step depth inducted original refuses n turn))
   unfolding turns_within
   after_first_within zero turn = tt
   after_first_within (suc n) turn =
       later_after n turn.rule (walk step depth turn.rule turn.task zero_tally) turn.rest (later_within n)
 
   -- no walk of an attempt but the first is initial
-  pub attempt_later : (rule : Rule) (root : T) → EachAfterFirst (IsLater step depth) (attempt step depth inducted original refuses rule root).walks
+  pub attempt_later : (rule : Rule) (root : T) → EachAfterFirst (IsLater step depth) (walks_of (attempt step depth inducted original refuses rule root))
   attempt_later rule root = after_first_within rule.goal_limit _
 
 module _ {T : Type 0} (step : T → Stepped T) (depth : T → ℕ) (good : T → Type 0)
@@ -89,8 +88,8 @@ module _ {T : Type 0} (step : T → Stepped T) (depth : T → ℕ) (good : T →
   inductions_good k [] from each = tt
   inductions_good k (task ∷ tasks) from each = (by_induction task k from each.0, inductions_good (k + 1) tasks (omega arith) each.1)
 
-  taken_good : (turns : Turn T → Attempt T) → ((turn : Turn T) → (turns turn).verdict ≡ Verdict.Qed → Each good (turn.task ∷ turn.rest) ⊎ good root)
-      → (left : Option Rule) (refused : Bool) (pool : List T) → (follow (taken refused left pool) turns).verdict ≡ Verdict.Qed → Each good pool ⊎ good root
+  taken_good : (turns : Turn T → Course T) → ((turn : Turn T) → (turns turn).verdict ≡ Verdict.Qed → Each good (turn.task ∷ turn.rest) ⊎ good root)
+      → (left : Option Rule) (refused : Bool) (pool : List T) → (follow (with_pool refused left pool) turns).verdict ≡ Verdict.Qed → Each good pool ⊎ good root
   taken_good turns goods left refused [] qed = inl tt
   taken_good turns goods left true (task ∷ rest) qed = absurd (cc)
   taken_good turns goods None false (task ∷ rest) qed = absurd (cc)
@@ -104,9 +103,9 @@ module _ {T : Type 0} (step : T → Stepped T) (depth : T → ℕ) (good : T →
   own_good own rest task made (inl each) = let parts = each_append good own rest each in inl (made parts.0, parts.1)
   own_good own rest task made (inr is) = inr is
 
-  next_good : (turns : Turn T → Attempt T) → ((turn : Turn T) → (turns turn).verdict ≡ Verdict.Qed → Each good (turn.task ∷ turn.rest) ⊎ good root)
+  next_good : (turns : Turn T → Course T) → ((turn : Turn T) → (turns turn).verdict ≡ Verdict.Qed → Each good (turn.task ∷ turn.rest) ⊎ good root)
       → (left : Option Rule) (e : End) (own rest : List T) (task : T) → (e ≡ End.Through → Each good own → good task)
-      → (follow (next_by e (taken refuses left) (inducted original 1) own rest) turns).verdict ≡ Verdict.Qed → Each good (task ∷ rest) ⊎ good root
+      → (follow (after_walk e (with_pool refuses left) (inducted original 1) own rest) turns).verdict ≡ Verdict.Qed → Each good (task ∷ rest) ⊎ good root
   next_good turns goods left End.Through own rest task made qed = own_good own rest task (made refl) (taken_good turns goods left refuses (own ++ rest) qed)
   next_good turns goods left End.Revert own rest task made qed = inr (root_by_original (taken_good turns goods left refuses (inducted original 1 ∷ []) qed))
   next_good turns goods left End.Limit own rest task made qed = absurd (cc)

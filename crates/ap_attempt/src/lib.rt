@@ -15,5 +15,5 @@ pub use ap_list::{NoMemory, Seq};
 pub use naming::push_name;
 pub use prover::Prover;
 pub use proving::prove;
-pub use theorems::{attempt_goes_turn_by_turn, pushes_are_named};
+pub use theorems::{attempt_goes_turn_by_turn, pushes_are_named, pushes_have_less_rank};
 pub use verdict::{Attempt, Verdict};

@@ -1,5 +1,8 @@
-ghost use Rattle.std.specs.Prelude.{◌≡◌, ◌≤◌, ℕ, Bool, IfOk};
+ghost use Rattle.std.specs.Prelude.{◌≡◌, ◌≤◌, ◌<◌, ℕ, Bool, IfOk};
+ghost use Rattle.ap_list.specs.Lists.{Each};
 ghost use Rattle.ap_names.specs.Names.{pushed_of};
+ghost use Rattle.ap_walk.specs.declared.act.Out.{Out};
+ghost use Rattle.ap_walk.specs.Visits.{out_children};
 
 use ap_list::NoMemory;
 use ap_walk::Step;
@@ -13,6 +16,9 @@ pub trait Prover: Step {
 
     /// What an attempt on a root reverts to: its goal as it came, which waits to be proved by induction.
     ghost original_of: { Self.Task → Self.Task };
+
+    /// How many inductions may stand within each other below a task.
+    ghost rank: { Self.Task → ℕ };
 
     /// Whether no induction may be made.
     ghost refuses_induction: { Self → Bool };
@@ -36,6 +42,12 @@ pub trait Prover: Step {
 
     // An original has its root's name.
     ghost original_named: { (root : Self.Task) → Self.name (original_of root) ≡ Self.name root };
+
+    // A task's children have no greater rank.
+    ghost ranked: { (task : Self.Task) → Each (λ child. rank child ≤ rank task) (out_children (Self.step_of task).out) };
+
+    // The induction of a task that is pushed has less rank.
+    ghost falling: { (task : Self.Task) (k : ℕ) → 1 ≤ k → (Self.step_of task).out ≡ Out.Push → rank (inducted task k) < rank task };
 
     // Where the induction of a task is good the task is good.
     ghost by_induction: { (task : Self.Task) (k : ℕ) → 1 ≤ k → Self.good (inducted task k) → Self.good task };

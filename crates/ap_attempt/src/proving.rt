@@ -1,6 +1,6 @@
 ghost use Rattle.std.specs.Prelude.{◌≡◌, ◌+◌, ◌≤◌, ◌<◌, ◌^◌, [], length, IfOk};
 ghost use Rattle.ap_walk.specs.Laws.{pushed};
-ghost use Rattle.ap_attempt.specs.Attempts.{attempt, inductions, next_turn, rule_after, taken};
+ghost use Rattle.ap_attempt.specs.Attempts.{attempt, inductions, next_turn, rule_after, walks_of, with_pool};
 ghost use Rattle.ap_attempt.specs.Laws.{EachAfterFirst, IsLater, mark_count};
 
 use crate::pool::Pool;
@@ -46,9 +46,9 @@ fn inductions<P: Prover>(
     Ok(tasks)
 }
 
-/// What an attempt does where a pool is to be proved.
-fn take<T: Drop>(refuses: bool, left: Option<Rule>, pool: Pool<T>) -> Next<T>
-    ensures { result ≡ taken refuses left pool }
+/// What is done with a pool.
+fn with_pool<T: Drop>(refuses: bool, left: Option<Rule>, pool: Pool<T>) -> Next<T>
+    ensures { result ≡ with_pool refuses left pool }
 {
     let mut rest = pool;
     let Some(task) = rest.take_first() else {
@@ -63,7 +63,7 @@ fn take<T: Drop>(refuses: bool, left: Option<Rule>, pool: Pool<T>) -> Next<T>
     }
 }
 
-/// What an attempt on a root does after a walk, where `rest` waited.
+/// What follows a walk of an attempt on a root, where `rest` waited.
 fn next_turn<P: Prover>(
     alloc: Global,
     prover: &P,
@@ -86,7 +86,7 @@ fn next_turn<P: Prover>(
         End::Stopped(reason) => return Ok(Next::Done(Verdict::Failed(reason))),
     }
     let left = rule_after(rule, walked.tally.goals);
-    Ok(take(prover.do_not_induct(), left, pool))
+    Ok(with_pool(prover.do_not_induct(), left, pool))
 }
 
 /// An attempt on a goal. The root is walked under the rule. Where a walk stops for a reason, the attempt fails
@@ -102,7 +102,7 @@ pub fn prove<P: Prover>(
     root: P::Task,
     rule: Rule,
 ) -> Result<Attempt<P::Task>, NoMemory>
-    ensures attempt { IfOk result (λ done. done ≡ attempt P.step_of P.depth P.inducted (P.original_of root) (P.refuses_induction prover.now) rule root) }
+    ensures attempt { let course = attempt P.step_of P.depth P.inducted (P.original_of root) (P.refuses_induction prover.now) rule root in IfOk result (λ done. (done.verdict ≡ course.verdict) × (done.walks ≡ walks_of course)) }
     ensures good { IfOk result (λ done. done.verdict ≡ Verdict.Qed → P.good root) }
     ensures few { IfOk result (λ done. mark_count done.walks ≤ rule.goal_limit) }
     ensures later { IfOk result (λ done. EachAfterFirst (IsLater P.step_of P.depth) done.walks) }

@@ -1,13 +1,14 @@
 -- Splitting, and the clauses that wait: what is pushed and taken, and what comes of it.
-use Rattle.std.proofs.Common.{◌≡◌, ℕ, zero, suc, ◌+◌, ◌*◌, ◌<◌, ◌≤◌, List, [], ◌∷◌, ◌++◌, map, length, take, drop, Option, Some, None, slice_get, refl, ap, sym, ◌∙◌, subst, append_assoc, add-one, length-append, arith}
-use Rattle.ap_list.specs.Lists.{Each, joined}
+use Rattle.std.proofs.Common.{◌≡◌, ℕ, zero, suc, ◌+◌, ◌*◌, ◌<◌, ◌≤◌, List, [], ◌∷◌, ◌++◌, length, take, drop, Option, Some, None, slice_get, refl, ap, sym, ◌∙◌, subst, append_assoc, add-one, length-append, arith}
+use Rattle.ap_list.specs.Lists.{Each}
 use Rattle.ap_term.specs.declared.term.Term.{Term}
 use Rattle.ap_term.specs.declared.term.Clause.{Clause}
-use Rattle.ap_world.specs.Meaning.{Defs}
+use Rattle.ap_world.specs.World.{Shown, function_of}
+use Rattle.ap_kernel.specs.declared.reductions.Inference.{Inference}
 use Rattle.ap_kernel.specs.declared.reductions.Reduction.{Reduction}
-use Rattle.ap_kernel.specs.Reductions.{KnownClause, Reduces, chained}
+use Rattle.ap_kernel.specs.Reductions.{KnownClause, Reduces, claims, all_from, all_to, chained}
 use Rattle.ap_kernel.specs.Splits.{and_then, choice_at, with_part, cases_of, literal_split, split_made}
-use Rattle.ap_kernel.proofs.Reduced.{each_append}
+use Rattle.ap_kernel.proofs.Reduced.{each_append, all_to_end}
 use Rattle.ap_kernel.proofs.Splitting.{then_some}
 use Rattle.ap_clausify.specs.Places.{first_choice}
 use Rattle.ap_clausify.specs.declared.states.Frame.{Frame}
@@ -16,7 +17,7 @@ use Rattle.ap_clausify.specs.declared.states.Task.TheVariants as task
 use Rattle.ap_clausify.specs.declared.states.Turn.{Turn}
 use Rattle.ap_clausify.specs.declared.states.Turn.TheVariants as turn
 use Rattle.ap_clausify.specs.Splitting.{Left, Splitter, spend, before, then_rest, each_split, cases, split_by, split_to, split_of, steps_left}
-use Rattle.ap_clausify.specs.Frames.{from_clause, to_clauses, by_steps, done_clauses, due, resumed, outcome, origin, Waits, Linked, at_hand, comes, weight, Follows, Goes}
+use Rattle.ap_clausify.specs.Frames.{by_steps, done_clauses, due, resumed, outcome, origin, Waits, Linked, at_hand, comes, weight, GoesOn, Goes}
 
 -- the steps only fall
 abbrev Falls : Splitter → Type 0
@@ -42,7 +43,7 @@ each_falls s f (c ∷ cs) (suc m) es l h = go (s c m) refl h (λ k ds. each_fall
         let b : p.1 ≤ m = f c m p.0 p.1 q in
         omega arith
 
-by_falls : (s : Splitter) → Falls s → (c : Clause) (n : ℕ) (o : Option Reduction) (es : List Clause) (l : ℕ) → split_by s c n o ≡ Some (es, l) → l ≤ n
+by_falls : (s : Splitter) → Falls s → (c : Clause) (n : ℕ) (o : Option Inference) (es : List Clause) (l : ℕ) → split_by s c n o ≡ Some (es, l) → l ≤ n
 by_falls s f c n None es l h = let e : n ≡ l = ap steps_left h in omega arith
 by_falls s f c n (Some r) es l h = each_falls s f r.to n es l h
 
@@ -65,7 +66,7 @@ each_agree s r f n e (c ∷ cs) (suc m) h = go (s c m) (r c m) refl (e c m (omeg
         let b : x.1 ≤ m = f c m x.0 x.1 q in
         ap (before x.0) (more x.1 (omega arith)) ∙ ap (λ (p : List Clause × ℕ). then_rest (Some p) (each_split r cs)) same
 
-by_agree : (s r : Splitter) → Falls s → (n : ℕ) → ((c : Clause) (m : ℕ) → m < n → s c m ≡ r c m) → (c : Clause) (o : Option Reduction) → split_by s c n o ≡ split_by r c n o
+by_agree : (s r : Splitter) → Falls s → (n : ℕ) → ((c : Clause) (m : ℕ) → m < n → s c m ≡ r c m) → (c : Clause) (o : Option Inference) → split_by s c n o ≡ split_by r c n o
 by_agree s r f n e c None = refl
 by_agree s r f n e c (Some q) = each_agree s r f n e q.to n (omega arith)
 
@@ -84,10 +85,6 @@ unfolds (suc d) c = by_agree (split_to d) by_steps (to_falls d) (suc d) (λ c m 
 append_nil : {A : Type 0} (xs : List A) → xs ++ [] ≡ xs
 append_nil [] = refl
 append_nil (x ∷ xs) = ap (λ ys. x ∷ ys) (append_nil xs)
-
-joined_end : (rs : List Reduction) (r : Reduction) → joined (map to_clauses (rs ++ r ∷ [])) ≡ joined (map to_clauses rs) ++ r.to
-joined_end [] r = append_nil r.to
-joined_end (q ∷ rs) r = ap (λ cs. q.to ++ cs) (joined_end rs r) ∙ sym (append_assoc q.to (joined (map to_clauses rs)) r.to)
 
 length_end : {A : Type 0} (xs : List A) (x : A) → length (xs ++ x ∷ []) ≡ length xs + 1
 length_end xs x = length-append xs (x ∷ [])
@@ -123,18 +120,18 @@ pub outcome_none : (fs : List Frame) → outcome fs None ≡ None
 outcome_none [] = refl
 outcome_none (g ∷ fs) = ap (resumed g) (outcome_none fs)
 
-pub origin_end : (fs : List Frame) (f : Frame) (c : Clause) → origin (fs ++ f ∷ []) c ≡ origin fs f.split.from
+pub origin_end : (fs : List Frame) (f : Frame) (c : Clause) → origin (fs ++ f ∷ []) c ≡ origin fs f.split.says.from
 origin_end [] f c = refl
 origin_end (g ∷ fs) f c = refl
 
-pub linked_end : (D : Defs) (fs : List Frame) (f : Frame) (c : Clause) → Linked D fs f.split.from → Waits D f → slice_get f.split.to (length f.done) ≡ Some c → Linked D (fs ++ f ∷ []) c
-linked_end D [] f c l w h = (w, h, tt)
-linked_end D (g ∷ fs) f c l w h = (l.0, l.1 ∙ ap Some (sym (origin_end fs f c)), linked_end D fs f c l.2 w h)
+pub linked_end : (W : Shown) (fs : List Frame) (f : Frame) (c : Clause) → Linked W fs f.split.says.from → Waits W f → slice_get f.split.says.to (length f.done) ≡ Some c → Linked W (fs ++ f ∷ []) c
+linked_end W [] f c l w h = (w, h, tt)
+linked_end W (g ∷ fs) f c l w h = (l.0, l.1 ∙ ap Some (sym (origin_end fs f c)), linked_end W fs f c l.2 w h)
 
-pub linked_taken : (D : Defs) (fs : List Frame) (f : Frame) (c : Clause) → Linked D (fs ++ f ∷ []) c → Linked D fs f.split.from × Waits D f × (slice_get f.split.to (length f.done) ≡ Some c)
-linked_taken D [] f c l = (tt, l.0, l.1)
-linked_taken D (g ∷ fs) f c l =
-    let p = linked_taken D fs f c l.2 in
+pub linked_taken : (W : Shown) (fs : List Frame) (f : Frame) (c : Clause) → Linked W (fs ++ f ∷ []) c → Linked W fs f.split.says.from × Waits W f × (slice_get f.split.says.to (length f.done) ≡ Some c)
+linked_taken W [] f c l = (tt, l.0, l.1)
+linked_taken W (g ∷ fs) f c l =
+    let p = linked_taken W fs f c l.2 in
     ((l.0, l.1 ∙ ap Some (origin_end fs f c), p.0), p.1, p.2)
 
 -- what comes before joins
@@ -150,69 +147,69 @@ before_none (Some p) = refl
 pub opened_whole : (n : ℕ) (c : Clause) → cases c ≡ None → split_of n c ≡ Some (c ∷ [], n)
 opened_whole n c h = unfolds n c ∙ ap (split_by by_steps c n) h
 
-pub opened_cases : (n : ℕ) (c : Clause) (r : Reduction) → cases c ≡ Some r → split_of n c ≡ due (record { split = r; done = [] }) n
-opened_cases n c r h = unfolds n c ∙ ap (split_by by_steps c n) h ∙ sym (before_none (each_split by_steps r.to n))
+pub opened_cases : (n : ℕ) (c : Clause) (r : Reduction) → cases c ≡ Some r.says → split_of n c ≡ due (record { split = r; done = [] }) n
+opened_cases n c r h = unfolds n c ∙ ap (split_by by_steps c n) h ∙ sym (before_none (each_split by_steps r.says.to n))
 
-pub begins : (D : Defs) (r : Reduction) → Reduces D r → Waits D (record { split = r; done = [] })
-begins D r s = record { split = s; done = tt; from = refl }
+pub begins : (W : Shown) (r : Reduction) → Reduces W r → Waits W (record { split = r; done = [] })
+begins W r s = record { split = s; done = tt; from = refl }
 
 -- a case that is done
-pub closed_due : (f : Frame) (r : Reduction) (n : ℕ) → resumed f (Some (r.to, n)) ≡ due (record { split = f.split; done = f.done ++ r ∷ [] }) n
+pub closed_due : (f : Frame) (r : Reduction) (n : ℕ) → resumed f (Some (r.says.to, n)) ≡ due (record { split = f.split; done = f.done ++ r ∷ [] }) n
 closed_due f r n =
-    before_before (done_clauses f) r.to (each_split by_steps (drop (length f.done + 1) f.split.to) n)
-    ∙ ap (λ cs. before cs (each_split by_steps (drop (length f.done + 1) f.split.to) n)) (sym (joined_end f.done r))
-    ∙ ap (λ k. before (joined (map to_clauses (f.done ++ r ∷ []))) (each_split by_steps (drop k f.split.to) n)) (sym (length_end f.done r))
+    before_before (done_clauses f) r.says.to (each_split by_steps (drop (length f.done + 1) f.split.says.to) n)
+    ∙ ap (λ cs. before cs (each_split by_steps (drop (length f.done + 1) f.split.says.to) n)) (sym (all_to_end f.done r))
+    ∙ ap (λ k. before (all_to (claims (f.done ++ r ∷ []))) (each_split by_steps (drop k f.split.says.to) n)) (sym (length_end f.done r))
 
-map_end : (rs : List Reduction) (r : Reduction) → map from_clause (rs ++ r ∷ []) ≡ map from_clause rs ++ r.from ∷ []
-map_end [] r = refl
-map_end (q ∷ rs) r = ap (λ cs. q.from ∷ cs) (map_end rs r)
+from_end : (rs : List Reduction) (r : Reduction) → all_from (claims (rs ++ r ∷ [])) ≡ all_from (claims rs) ++ r.says.from ∷ []
+from_end [] r = refl
+from_end (q ∷ rs) r = ap (λ cs. q.says.from ∷ cs) (from_end rs r)
 
-pub closed_waits : (D : Defs) (f : Frame) (r : Reduction) → Waits D f → Reduces D r → slice_get f.split.to (length f.done) ≡ Some r.from → Waits D (record { split = f.split; done = f.done ++ r ∷ [] })
-closed_waits D f r w s h = record {
+pub closed_waits : (W : Shown) (f : Frame) (r : Reduction) → Waits W f → Reduces W r → slice_get f.split.says.to (length f.done) ≡ Some r.says.from → Waits W (record { split = f.split; done = f.done ++ r ∷ [] })
+closed_waits W f r w s h = record {
   split = w.split;
-  done = each_append (Reduces D) f.done (r ∷ []) w.done (s, tt);
-  from = map_end f.done r ∙ ap (λ cs. cs ++ r.from ∷ []) w.from ∙ sym (get_take f.split.to (length f.done) r.from h) ∙ ap (λ k. take k f.split.to) (sym (length_end f.done r));
+  done = each_append (Reduces W) f.done (r ∷ []) w.done (s, tt);
+  from = from_end f.done r ∙ ap (λ cs. cs ++ r.says.from ∷ []) w.from ∙ sym (get_take f.split.says.to (length f.done) r.says.from h) ∙ ap (λ k. take k f.split.says.to) (sym (length_end f.done r));
 }
 
 -- the next case is due
-pub all_from : (D : Defs) (f : Frame) → Waits D f → slice_get f.split.to (length f.done) ≡ None → map from_clause f.done ≡ f.split.to
-all_from D f w h = w.from ∙ (none_drop f.split.to (length f.done) h).1
+pub all_done : (W : Shown) (f : Frame) → Waits W f → slice_get f.split.says.to (length f.done) ≡ None → all_from (claims f.done) ≡ f.split.says.to
+all_done W f w h = w.from ∙ (none_drop f.split.says.to (length f.done) h).1
 
-pub goes_done : (D : Defs) (fs : List Frame) (f : Frame) (r : Reduction) (n : ℕ) → Linked D fs f.split.from → slice_get f.split.to (length f.done) ≡ None → Reduces D r → r ≡ chained f.split f.done
-    → Follows D fs f.split.from (due f n) (2 * n + (length fs + 1)) (record { frames = fs; task = task.Done r }) n
-goes_done D fs f r n l h s e = record {
-  linked = subst (λ (q : Reduction). Linked D fs q.from) {x = chained f.split f.done} (sym e) l;
+pub goes_done : (W : Shown) (fs : List Frame) (f : Frame) (r : Reduction) (n : ℕ) → Linked W fs f.split.says.from → slice_get f.split.says.to (length f.done) ≡ None → Reduces W r → r.says ≡ chained f.split.says (claims f.done)
+    → GoesOn W fs f.split.says.from (due f n) (2 * n + (length fs + 1)) (record { frames = fs; task = task.Done r }) n
+goes_done W fs f r n l h s e = record {
+  linked = subst (λ (q : Inference). Linked W fs q.from) {x = chained f.split.says (claims f.done)} (sym e) l;
   holds = s;
-  origin = ap (λ (q : Reduction). origin fs q.from) e;
-  outcome = ap (λ (q : Reduction). outcome fs (Some (q.to, n))) e ∙ ap (outcome fs) (sym due_is);
+  origin = ap (λ (q : Inference). origin fs q.from) e;
+  outcome = ap (λ (q : Inference). outcome fs (Some (q.to, n))) e ∙ ap (outcome fs) (sym due_is);
   falls = omega arith;
 }
   where
-    due_is : due f n ≡ Some (joined (map to_clauses f.done), n)
-    due_is = ap (λ cs. before (done_clauses f) (each_split by_steps cs n)) (none_drop f.split.to (length f.done) h).0 ∙ ap (λ cs. Some (cs, n)) (append_nil (done_clauses f))
+    due_is : due f n ≡ Some (all_to (claims f.done), n)
+    due_is = ap (λ cs. before (done_clauses f) (each_split by_steps cs n)) (none_drop f.split.says.to (length f.done) h).0 ∙ ap (λ cs. Some (cs, n)) (append_nil (done_clauses f))
 
-due_case : (f : Frame) (c : Clause) (n : ℕ) → slice_get f.split.to (length f.done) ≡ Some c → due f n ≡ before (done_clauses f) (spend n (λ m. then_rest (split_of m c) (each_split by_steps (drop (length f.done + 1) f.split.to))))
-due_case f c n h = ap (λ cs. before (done_clauses f) (each_split by_steps cs n)) (get_drop f.split.to (length f.done) c h)
+due_case : (f : Frame) (c : Clause) (n : ℕ) → slice_get f.split.says.to (length f.done) ≡ Some c → due f n ≡ before (done_clauses f) (spend n (λ m. then_rest (split_of m c) (each_split by_steps (drop (length f.done + 1) f.split.says.to))))
+due_case f c n h = ap (λ cs. before (done_clauses f) (each_split by_steps cs n)) (get_drop f.split.says.to (length f.done) c h)
 
-pub goes_out : (fs : List Frame) (f : Frame) (c : Clause) (n : ℕ) → slice_get f.split.to (length f.done) ≡ Some c → n ≡ 0 → outcome fs (due f n) ≡ None
+pub goes_out : (fs : List Frame) (f : Frame) (c : Clause) (n : ℕ) → slice_get f.split.says.to (length f.done) ≡ Some c → n ≡ 0 → outcome fs (due f n) ≡ None
 goes_out fs f c n h z = ap (λ k. outcome fs (due f k)) z ∙ ap (outcome fs) (due_case f c 0 h) ∙ outcome_none fs
 
 -- a case is known
-pub case_known : (D : Defs) (f : Frame) (c : Clause) → Waits D f → slice_get f.split.to (length f.done) ≡ Some c → KnownClause D c
-case_known D f c w h = each_at (KnownClause D) f.split.to (length f.done) c w.split.goals h
+pub case_known : (W : Shown) (f : Frame) (c : Clause) → Waits W f → slice_get f.split.says.to (length f.done) ≡ Some c → KnownClause (function_of W.entries) c
+case_known W f c w h = each_at (KnownClause (function_of W.entries)) f.split.says.to (length f.done) c w.split.says.goals h
   where
     each_at : (P : Clause → Type 0) (cs : List Clause) (i : ℕ) (c : Clause) → Each P cs → slice_get cs i ≡ Some c → P c
     each_at P [] i c ps q = cc
     each_at P (d ∷ cs) zero c ps q = let same : d ≡ c = cc in subst P same ps.0
     each_at P (d ∷ cs) (suc i) c ps q = each_at P cs i c ps.1 q
 
-pub goes_open : (D : Defs) (fs gs : List Frame) (f : Frame) (c : Clause) (ts : List Term) (n m : ℕ) → Linked D fs f.split.from → Waits D f → slice_get f.split.to (length f.done) ≡ Some c → gs ≡ fs ++ f ∷ [] → ts ≡ c.0 → n ≡ m + 1
-    → Follows D fs f.split.from (due f n) (2 * n + (length fs + 1)) (record { frames = gs; task = task.Open (record { 0 = ts }) }) m
-goes_open D fs gs f c ts n m l w h g t e =
-    subst (λ us. Follows D fs f.split.from (due f n) (2 * n + (length fs + 1)) (record { frames = gs; task = task.Open (record { 0 = us }) }) m) (sym t)
-    (subst (λ hs. Follows D fs f.split.from (due f n) (2 * n + (length fs + 1)) (record { frames = hs; task = task.Open c }) m) (sym g) (record {
-      linked = linked_end D fs f c l w h;
-      holds = case_known D f c w h;
+pub goes_open : (W : Shown) (fs gs : List Frame) (f : Frame) (c : Clause) (ts : List Term) (n m : ℕ) → Linked W fs f.split.says.from → Waits W f → slice_get f.split.says.to (length f.done) ≡ Some c → gs ≡ fs ++ f ∷ [] → ts ≡ c.0 → n ≡ m + 1
+    → GoesOn W fs f.split.says.from (due f n) (2 * n + (length fs + 1)) (record { frames = gs; task = task.Open (record { 0 = ts }) }) m
+goes_open W fs gs f c ts n m l w h g t e =
+    subst (λ us. GoesOn W fs f.split.says.from (due f n) (2 * n + (length fs + 1)) (record { frames = gs; task = task.Open (record { 0 = us }) }) m) (sym t)
+    (subst (λ hs. GoesOn W fs f.split.says.from (due f n) (2 * n + (length fs + 1)) (record { frames = hs; task = task.Open c }) m) (sym g) (record {
+      linked = linked_end W fs f c l w h;
+      holds = case_known W f c w h;
       origin = origin_end fs f c;
       outcome = outcome_end fs f (split_of m c) ∙ ap (outcome fs) (sym (ap (due f) (e ∙ add-one m) ∙ due_case f c (suc m) h));
       falls = fewer;
@@ -222,37 +219,37 @@ goes_open D fs gs f c ts n m l w h g t e =
     fewer = let p = length_end fs f in omega arith
 
 -- the cases are those of the clause
-pub split_from : (c : Clause) (i : ℕ) (is : List ℕ) (r : Reduction) → split_made c i is ≡ Some r → r.from ≡ c
+pub split_from : (c : Clause) (i : ℕ) (is : List ℕ) (r : Inference) → split_made c i is ≡ Some r → r.from ≡ c
 split_from c i is r h =
     let (u, at, by_choice) = then_some (slice_get c.0 i) (λ u. and_then (choice_at is u) (literal_split c i is u)) r h in
     let (p, there, by_parts) = then_some (choice_at is u) (literal_split c i is u) r by_choice in
     let (v, first, by_yes) = then_some (with_part is p.1 u) (λ v. and_then (with_part is p.2 u) (λ w. Some (cases_of c i p.0 v w))) r by_parts in
     let (w, second, made) = then_some (with_part is p.2 u) (λ w. Some (cases_of c i p.0 v w)) r by_yes in
     let same : cases_of c i p.0 v w ≡ r = cc in
-    ap (λ (q : Reduction). q.from) (sym same)
+    ap (λ (q : Inference). q.from) (sym same)
 
-pub opened_by : (c : Clause) (i : ℕ) (is : List ℕ) (r : Reduction) → first_choice c ≡ Some (i, is) → split_made c i is ≡ Some r → cases c ≡ Some r
+pub opened_by : (c : Clause) (i : ℕ) (is : List ℕ) (r : Inference) → first_choice c ≡ Some (i, is) → split_made c i is ≡ Some r → cases c ≡ Some r
 opened_by c i is r h k = ap (λ o. and_then o (λ p. split_made c p.0 p.1)) h ∙ k
 
 -- a turn of the clause that was taken is one of all that wait
-pub goes_taken : (D : Defs) (gs fs : List Frame) (f : Frame) (r : Reduction) (n m : ℕ) (t : Turn) → gs ≡ fs ++ f ∷ [] → Goes D fs f.split.from (resumed f (Some (r.to, n))) (2 * n + (length fs + 1)) t m
-    → Goes D gs r.from (Some (r.to, n)) (2 * n + (length gs + 0)) t m
-goes_taken D gs fs f r n m t e g = subst (λ hs. Goes D hs r.from (Some (r.to, n)) (2 * n + (length hs + 0)) t m) (sym e) (go t g)
+pub goes_taken : (W : Shown) (gs fs : List Frame) (f : Frame) (r : Reduction) (n m : ℕ) (t : Turn) → gs ≡ fs ++ f ∷ [] → Goes W fs f.split.says.from (resumed f (Some (r.says.to, n))) (2 * n + (length fs + 1)) t m
+    → Goes W gs r.says.from (Some (r.says.to, n)) (2 * n + (length gs + 0)) t m
+goes_taken W gs fs f r n m t e g = subst (λ hs. Goes W hs r.says.from (Some (r.says.to, n)) (2 * n + (length hs + 0)) t m) (sym e) (go t g)
   where
-    go : (t : Turn) → Goes D fs f.split.from (resumed f (Some (r.to, n))) (2 * n + (length fs + 1)) t m → Goes D (fs ++ f ∷ []) r.from (Some (r.to, n)) (2 * n + (length (fs ++ f ∷ []) + 0)) t m
+    go : (t : Turn) → Goes W fs f.split.says.from (resumed f (Some (r.says.to, n))) (2 * n + (length fs + 1)) t m → Goes W (fs ++ f ∷ []) r.says.from (Some (r.says.to, n)) (2 * n + (length (fs ++ f ∷ []) + 0)) t m
     go (turn.On s) g = record {
       linked = g.linked;
       holds = g.holds;
-      origin = g.origin ∙ sym (origin_end fs f r.from);
-      outcome = g.outcome ∙ sym (outcome_end fs f (Some (r.to, n)));
+      origin = g.origin ∙ sym (origin_end fs f r.says.from);
+      outcome = g.outcome ∙ sym (outcome_end fs f (Some (r.says.to, n)));
       falls = let p = length_end fs f in omega arith;
     }
-    go (turn.Through q) g = (g.0, g.1 ∙ sym (origin_end fs f r.from), outcome_end fs f (Some (r.to, n)) ∙ g.2)
-    go turn.Out g = (outcome_end fs f (Some (r.to, n)) ∙ g.0, g.1)
+    go (turn.Through q) g = (g.0, g.1 ∙ sym (origin_end fs f r.says.from), outcome_end fs f (Some (r.says.to, n)) ∙ g.2)
+    go turn.Out g = (outcome_end fs f (Some (r.says.to, n)) ∙ g.0, g.1)
 
-pub taken : (D : Defs) (gs fs : List Frame) (f : Frame) (x : Task) (r : Reduction) → gs ≡ fs ++ f ∷ [] → x ≡ task.Done r → Linked D gs (at_hand x) → Linked D fs f.split.from × Waits D f × (slice_get f.split.to (length f.done) ≡ Some r.from)
-taken D gs fs f x r e d l = linked_taken D fs f r.from (subst (λ hs. Linked D hs r.from) e (subst (λ y. Linked D gs (at_hand y)) d l))
+pub taken : (W : Shown) (gs fs : List Frame) (f : Frame) (x : Task) (r : Reduction) → gs ≡ fs ++ f ∷ [] → x ≡ task.Done r → Linked W gs (at_hand x) → Linked W fs f.split.says.from × Waits W f × (slice_get f.split.says.to (length f.done) ≡ Some r.says.from)
+taken W gs fs f x r e d l = linked_taken W fs f r.says.from (subst (λ hs. Linked W hs r.says.from) e (subst (λ y. Linked W gs (at_hand y)) d l))
 
-pub goes_from : (D : Defs) (gs fs : List Frame) (f : Frame) (x : Task) (r : Reduction) (n m : ℕ) (t : Turn) → gs ≡ fs ++ f ∷ [] → x ≡ task.Done r → Goes D fs f.split.from (resumed f (Some (r.to, n))) (2 * n + (length fs + 1)) t m
-    → Goes D gs (at_hand x) (comes x n) (2 * n + (length gs + weight x)) t m
-goes_from D gs fs f x r n m t e d g = subst (λ y. Goes D gs (at_hand y) (comes y n) (2 * n + (length gs + weight y)) t m) (sym d) (goes_taken D gs fs f r n m t e g)
+pub goes_from : (W : Shown) (gs fs : List Frame) (f : Frame) (x : Task) (r : Reduction) (n m : ℕ) (t : Turn) → gs ≡ fs ++ f ∷ [] → x ≡ task.Done r → Goes W fs f.split.says.from (resumed f (Some (r.says.to, n))) (2 * n + (length fs + 1)) t m
+    → Goes W gs (at_hand x) (comes x n) (2 * n + (length gs + weight x)) t m
+goes_from W gs fs f x r n m t e d g = subst (λ y. Goes W gs (at_hand y) (comes y n) (2 * n + (length gs + weight y)) t m) (sym d) (goes_taken W gs fs f r n m t e g)

@@ -1,6 +1,5 @@
 pub mod Flattened
 pub mod Framed
 pub mod Implied
-pub mod FalseFacts
 pub mod Placed
 pub mod SplitStands

@@ -10,8 +10,8 @@ use Rattle.ap_term.specs.declared.term.Clause.{Clause}
 use Rattle.ap_term.proofs.Induction.{term_ind, fold_var, fold_quote, fold_call, para_var, para_quote, para_call}
 use Rattle.ap_world.specs.Names.{if_name, not_name, equal_name, cons_name}
 use Rattle.ap_world.specs.Clauses.{if_parts}
+use Rattle.ap_world.specs.Shapes.{head_by, head_of, call_shape, shape_of}
 use Rattle.ap_kernel.specs.Solving.{any_true}
-use Rattle.ap_kernel.specs.Shapes.{head_by, head_of, call_shape, shape_of}
 use Rattle.ap_kernel.specs.Splits.{and_then, part_at, parts_of, choice_at, choice_in}
 use Rattle.ap_clausify.specs.Places.{has_if_step, has_if, has_plain_test, first_in, place_step, first_place, or_later, choice_from, first_choice, found}
 

@@ -3,9 +3,9 @@ use Rattle.std.proofs.Common.{◌≡◌, ℕ, zero, suc, ◌+◌, ◌≤◌, Lis
 use Rattle.ap_list.specs.Lists.{Each}
 use Rattle.ap_term.specs.declared.term.Clause.{Clause}
 use Rattle.ap_world.specs.Meaning.{Defs, Total, Valid}
-use Rattle.ap_kernel.specs.declared.reductions.Reduction.{Reduction}
+use Rattle.ap_kernel.specs.declared.reductions.Inference.{Inference}
 use Rattle.ap_kernel.specs.Standing.{HasGround}
-use Rattle.ap_kernel.specs.Reductions.{KnownClause, Reduces}
+use Rattle.ap_kernel.specs.Reductions.{KnownClause, Follows}
 use Rattle.ap_kernel.specs.Splits.{split_made}
 use Rattle.ap_kernel.proofs.Reduced.{each_append, each_parts}
 use Rattle.ap_kernel.proofs.Splitting.{then_some, split_reduces as cases_reduce}
@@ -50,15 +50,15 @@ each_serves D s f (c ∷ cs) (suc m) es l ks h = go (s c m) refl h (λ n ds. eac
         let (ds, rest, is) = before_is p.0 es (each_split s cs p.1) l k in
         subst (Serve D (c ∷ cs)) (sym is) (both_serve D c cs p.0 ds (f c m p.0 p.1 ks.0 q) (more p.1 ds rest))
 
-cases_are : (c : Clause) (r : Reduction) → cases c ≡ Some r → (p : ℕ × List ℕ) × (split_made c p.0 p.1 ≡ Some r)
+cases_are : (c : Clause) (r : Inference) → cases c ≡ Some r → (p : ℕ × List ℕ) × (split_made c p.0 p.1 ≡ Some r)
 cases_are c r h = let (p, at, made) = then_some (first_choice c) (λ p. split_made c p.0 p.1) r h in (p, made)
 
-by_serves : (D : Defs) → Total D → HasGround D → (s : Splitter) → Serves D s → (c : Clause) (n : ℕ) (o : Option Reduction) → cases c ≡ o → (es : List Clause) (l : ℕ) → KnownClause D c
+by_serves : (D : Defs) → Total D → HasGround D → (s : Splitter) → Serves D s → (c : Clause) (n : ℕ) (o : Option Inference) → cases c ≡ o → (es : List Clause) (l : ℕ) → KnownClause D c
     → split_by s c n o ≡ Some (es, l) → Serve D (c ∷ []) es
 by_serves D total ground s f c n None q es l k h = subst (Serve D (c ∷ [])) (ap clauses_left h) (record { known = (k, tt); valid = λ v. v })
 by_serves D total ground s f c n (Some r) q es l k h =
     let (p, made) = cases_are c r q in
-    let stands : Reduces D r = cases_reduce D total ground c p.0 p.1 r k made in
+    let stands : Follows D r = cases_reduce D total ground c p.0 p.1 r k made in
     let e = each_serves D s f r.to n es l stands.goals h in
     record {
       known = e.known;
@@ -69,7 +69,7 @@ to_serves : (D : Defs) → Total D → HasGround D → (d : ℕ) → Serves D (s
 to_serves D total ground zero c n ds l k h = by_serves D total ground (λ c n. None) (none_serves D) c n (cases c) refl ds l k h
 to_serves D total ground (suc d) c n ds l k h = by_serves D total ground (split_to d) (to_serves D total ground d) c n (cases c) refl ds l k h
 
-pub split_reduces : (D : Defs) → Total D → HasGround D → (n : ℕ) (c : Clause) (cs : List Clause) (m : ℕ) → KnownClause D c → split_of n c ≡ Some (cs, m) → Reduces D (record { from = c; to = cs })
+pub split_reduces : (D : Defs) → Total D → HasGround D → (n : ℕ) (c : Clause) (cs : List Clause) (m : ℕ) → KnownClause D c → split_of n c ≡ Some (cs, m) → Follows D (record { from = c; to = cs })
 split_reduces D total ground n c cs m k h =
     let s = to_serves D total ground n c n cs m k h in
     record { start = k; goals = s.known; valid = λ v. (s.valid v).0 }
@@ -98,7 +98,7 @@ each_few s f (c ∷ cs) (suc m) es l h = go (s c m) refl h (λ n ds. each_few s 
         let d : length ds + l ≤ p.1 = more p.1 ds rest in
         omega arith
 
-by_few : (s : Splitter) → Few s → (c : Clause) (n : ℕ) (o : Option Reduction) (es : List Clause) (l : ℕ) → split_by s c n o ≡ Some (es, l) → length es + l ≤ n + 1
+by_few : (s : Splitter) → Few s → (c : Clause) (n : ℕ) (o : Option Inference) (es : List Clause) (l : ℕ) → split_by s c n o ≡ Some (es, l) → length es + l ≤ n + 1
 by_few s f c n None es l h =
     let a : length es ≡ 1 = ap length (sym (ap clauses_left h)) in
     let b : l ≡ n = ap steps_left (sym h) in
@@ -109,7 +109,7 @@ to_few : (d : ℕ) → Few (split_to d)
 to_few zero c n ds l h = by_few (λ c n. None) none_few c n (cases c) ds l h
 to_few (suc d) c n ds l h = by_few (split_to d) (to_few d) c n (cases c) ds l h
 
-by_bound : (s : Splitter) → Few s → (c : Clause) (n b : ℕ) (o : Option Reduction) (es : List Clause) (l : ℕ) → split_by s c n o ≡ Some (es, l) → n ≤ b → 1 ≤ b → length es ≤ b
+by_bound : (s : Splitter) → Few s → (c : Clause) (n b : ℕ) (o : Option Inference) (es : List Clause) (l : ℕ) → split_by s c n o ≡ Some (es, l) → n ≤ b → 1 ≤ b → length es ≤ b
 by_bound s f c n b None es l h below one = let a : length es ≡ 1 = ap length (sym (ap clauses_left h)) in omega arith
 by_bound s f c n b (Some r) es l h below one = let a = each_few s f r.to n es l h in omega arith
 

@@ -1,7 +1,7 @@
 -- Splitting a clause at its `if`s, each clause that is made spending a step.
 use Rattle.std.specs.Prelude.{ℕ, zero, suc, List, [], ◌∷◌, ◌++◌, Option, Some, None}
 use Rattle.ap_term.specs.declared.term.Clause.{Clause}
-use Rattle.ap_kernel.specs.declared.reductions.Reduction.{Reduction}
+use Rattle.ap_kernel.specs.declared.reductions.Inference.{Inference}
 use Rattle.ap_kernel.specs.Splits.{and_then, split_made}
 use Rattle.ap_clausify.specs.Places.{first_choice}
 
@@ -34,11 +34,11 @@ each_split s [] n = Some ([], n)
 each_split s (c ∷ cs) n = spend n (λ m. then_rest (s c m) (each_split s cs))
 
 -- the two cases of a clause for the `if` that is split first, if there is one
-abbrev pub cases : Clause → Option Reduction
+abbrev pub cases : Clause → Option Inference
 cases c = and_then (first_choice c) (λ p. split_made c p.0 p.1)
 
 -- a clause without `if` stays, another one's cases are split in their turn
-abbrev pub split_by : Splitter → Clause → ℕ → Option Reduction → Left
+abbrev pub split_by : Splitter → Clause → ℕ → Option Inference → Left
 split_by s c n None = Some (c ∷ [], n)
 split_by s c n (Some r) = each_split s r.to n
 

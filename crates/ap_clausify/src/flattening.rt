@@ -2,7 +2,7 @@ ghost use Rattle.std.specs.Prelude.{◌≡◌, ◌++◌, IfOk, OnOk, map};
 ghost use Rattle.ap_world.specs.Clauses.{negate, conjuncts, flat};
 ghost use Rattle.ap_clausify.specs.Flattening.{Clausifies};
 
-use crate::shapes::{is_if, is_implies, is_nil, negated};
+use ap_kernel::{is_if, is_implies, is_nil_term, negated};
 use ap_list::{NoMemory, Seq};
 use ap_term::{Clause, Term, copy_term};
 use std::alloc::Global;
@@ -15,7 +15,7 @@ fn push_negations(alloc: Global, out: &mut Seq<Term>, t: &Term) -> Result<(), No
     match t {
         Term::Call(f, ts) => match (is_if(f), ts.as_slice()) {
             (true, [a, b, c]) => {
-                if !is_nil(c) {
+                if !is_nil_term(c) {
                     return out.push(negated(alloc, t)?);
                 }
                 push_negations(alloc, out, a)?;

@@ -8,7 +8,6 @@
 mod flattening;
 mod itself;
 mod places;
-mod shapes;
 mod splitting;
 mod states;
 

@@ -2,7 +2,7 @@ ghost use Rattle.std.specs.Prelude.{◌≡◌, ◌∷◌, [], ◌++◌, IfOk, On
 ghost use Rattle.std.specs.Option.{option_map};
 ghost use Rattle.ap_clausify.specs.Places.{first_in, first_place, first_choice, found};
 
-use crate::shapes::is_if;
+use ap_kernel::is_if;
 use ap_list::{NoMemory, Seq};
 use ap_term::{Clause, Term};
 use std::alloc::{AllocError, Global};

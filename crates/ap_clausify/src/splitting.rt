@@ -4,7 +4,7 @@ ghost use Rattle.ap_world.specs.World.{function_of};
 ghost use Rattle.ap_kernel.specs.Standing.{HasGround};
 ghost use Rattle.ap_kernel.specs.Reductions.{KnownClause, Reduces};
 ghost use Rattle.ap_clausify.specs.Splitting.{split_of, steps_left};
-ghost use Rattle.ap_clausify.specs.Frames.{Waits, Linked, due, resumed, origin, outcome, at_hand, comes, Holds, Goes, weight};
+ghost use Rattle.ap_clausify.specs.Frames.{Waits, Linked, due, resumed, origin, outcome, at_hand, comes, IsAtHand, Goes, weight};
 
 use crate::itself::itself;
 use crate::places::first_choice;
@@ -24,9 +24,9 @@ fn go_on(
     frame: Frame,
     steps: &mut Steps,
 ) -> Result<Turn, NoMemory>
-    requires linked { Linked (function_of w.now.entries) frames frame.split.from }
-    requires waits { Waits (function_of w.now.entries) frame }
-    ensures { IfOk result (λ t. Goes (function_of w.now.entries) frames frame.split.from (due frame steps.old.left) (2 * steps.old.left + (length frames + 1)) t steps.new.left) }
+    requires linked { Linked w.now frames frame.split.says.from }
+    requires waits { Waits w.now frame }
+    ensures { IfOk result (λ t. Goes w.now frames frame.split.says.from (due frame steps.old.left) (2 * steps.old.left + (length frames + 1)) t steps.new.left) }
 {
     let Some(case) = frame.split.to().get(frame.done.len()) else {
         let Frame { split, done } = frame;
@@ -50,9 +50,9 @@ fn open(
     steps: &mut Steps,
 ) -> Result<Turn, NoMemory>
     requires ground { HasGround (function_of w.now.entries) }
-    requires linked { Linked (function_of w.now.entries) frames c }
+    requires linked { Linked w.now frames c }
     requires clause { KnownClause (function_of w.now.entries) c }
-    ensures { IfOk result (λ t. Goes (function_of w.now.entries) frames c (split_of steps.old.left c) (2 * steps.old.left + (length frames + 1)) t steps.new.left) }
+    ensures { IfOk result (λ t. Goes w.now frames c (split_of steps.old.left c) (2 * steps.old.left + (length frames + 1)) t steps.new.left) }
 {
     let Some(place) = first_choice(alloc, &c)? else {
         let task = Task::Done(itself(alloc, w, c)?);
@@ -73,11 +73,11 @@ fn close(
     r: Reduction,
     steps: &mut Steps,
 ) -> Result<Turn, NoMemory>
-    requires linked { Linked (function_of w.now.entries) frames frame.split.from }
-    requires waits { Waits (function_of w.now.entries) frame }
-    requires stands { Reduces (function_of w.now.entries) r }
-    requires case { slice_get frame.split.to (length frame.done) ≡ Some r.from }
-    ensures { IfOk result (λ t. Goes (function_of w.now.entries) frames frame.split.from (resumed frame (Some (r.to, steps.old.left))) (2 * steps.old.left + (length frames + 1)) t steps.new.left) }
+    requires linked { Linked w.now frames frame.split.says.from }
+    requires waits { Waits w.now frame }
+    requires stands { Reduces w.now r }
+    requires case { slice_get frame.split.says.to (length frame.done) ≡ Some r.says.from }
+    ensures { IfOk result (λ t. Goes w.now frames frame.split.says.from (resumed frame (Some (r.says.to, steps.old.left))) (2 * steps.old.left + (length frames + 1)) t steps.new.left) }
 {
     frame.done.push(r)?;
     let turn = go_on(alloc, w, frames, frame, steps)?;
@@ -87,9 +87,9 @@ fn close(
 /// Goes on with what is at hand.
 fn advance(alloc: Global, w: &World, state: State, steps: &mut Steps) -> Result<Turn, NoMemory>
     requires ground { HasGround (function_of w.now.entries) }
-    requires linked { Linked (function_of w.now.entries) state.frames (at_hand state.task) }
-    requires holds { Holds (function_of w.now.entries) state.task }
-    ensures { IfOk result (λ t. Goes (function_of w.now.entries) state.frames (at_hand state.task) (comes state.task steps.old.left) (2 * steps.old.left + (length state.frames + weight state.task)) t steps.new.left) }
+    requires linked { Linked w.now state.frames (at_hand state.task) }
+    requires holds { IsAtHand w.now state.task }
+    ensures { IfOk result (λ t. Goes w.now state.frames (at_hand state.task) (comes state.task steps.old.left) (2 * steps.old.left + (length state.frames + weight state.task)) t steps.new.left) }
 {
     let State { mut frames, task } = state;
     match task {
@@ -120,9 +120,9 @@ fn advance(alloc: Global, w: &World, state: State, steps: &mut Steps) -> Result<
 pub fn split(alloc: Global, w: &World, c: Clause, steps: &mut Steps) -> Result<Split, NoMemory>
     requires ground { HasGround (function_of w.now.entries) }
     requires clause { KnownClause (function_of w.now.entries) c }
-    ensures made { IfOk result (λ s. s.reduction ≡ option_map (λ p. record { from = c; to = p.0 }) (split_of steps.old.left c)) }
+    ensures made { IfOk result (λ s. option_map (λ r. r.says) s.reduction ≡ option_map (λ p. record { from = c; to = p.0 }) (split_of steps.old.left c)) }
     ensures steps { IfOk result (λ s. steps.new.left ≡ steps_left (split_of steps.old.left c)) }
-    ensures stands { IfOk result (λ s. IfSome s.reduction (λ r. Reduces (function_of w.now.entries) r)) }
+    ensures stands { IfOk result (λ s. IfSome s.reduction (λ r. Reduces w.now r)) }
 {
     let mut state = State {
         frames: Seq::new(alloc),

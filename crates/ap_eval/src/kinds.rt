@@ -5,19 +5,15 @@ ghost use Rattle.ap_world.specs.Primitives.{symbol_value, nil, is_cons, is_integ
 ghost use Rattle.ap_world.specs.Names.{list_name};
 ghost use Rattle.ap_world.specs.Units.{nil_constant, truth_constant};
 
-use ap_list::{Bytes, NoMemory};
-use ap_value::{Symbol, Value, same};
+use ap_list::{NoMemory, Text};
+use ap_value::{Value, acl2, same};
 use std::alloc::Global;
 
 /// The symbol of package `ACL2` with a name.
 fn named(alloc: Global, name: &[u8]) -> Result<Value, NoMemory>
     ensures { IfOk result (λ v. v ≡ Value.Sym (acl2 name.now)) }
 {
-    let name = Bytes::from_slice(alloc, name)?;
-    Ok(Value::Sym(Symbol {
-        keyword: false,
-        name,
-    }))
+    Ok(Value::Sym(acl2(alloc, name)?))
 }
 
 /// The symbol `nil`.
@@ -49,7 +45,7 @@ fn slice_of(text: &[u8]) -> &[u8]
 }
 
 /// Whether a name is spelt by these bytes.
-fn spells(name: &Bytes, text: &[u8]) -> bool
+fn spells(name: &Text, text: &[u8]) -> bool
     ensures { IsTrue result ↔ (map byte_of name.now ≡ map byte_of text.now) }
 {
     slice_of(name.as_slice()) == slice_of(text)

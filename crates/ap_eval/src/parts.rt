@@ -7,7 +7,7 @@ ghost use Rattle.ap_world.specs.Units.{narrow, int_constant, first_part, rest_pa
 
 use crate::kinds::nil_value;
 use ap_list::{Bytes, NoMemory};
-use ap_value::{Value, copy, copy_bytes};
+use ap_value::{Value, copy};
 use std::alloc::Global;
 
 /// The integer that a value counts as.
@@ -124,7 +124,7 @@ pub(crate) fn name_of(alloc: Global, v: &Value) -> Result<Value, NoMemory>
     ensures { IfOk result (λ r. r ≡ name_part (out-Value v.now)) }
 {
     match v {
-        Value::Sym(symbol) => Ok(Value::Str(copy_bytes(alloc, &symbol.name)?)),
-        _ => Ok(Value::Str(Bytes::new(alloc))),
+        Value::Sym(symbol) => Ok(Value::Str(symbol.name.share()?)),
+        _ => Value::string(alloc, Bytes::new(alloc)),
     }
 }

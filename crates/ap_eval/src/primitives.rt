@@ -7,7 +7,7 @@ use crate::parts::{
     character_of, code_of, first_of, is_less, name_of, negation, product, rest_of, sum,
 };
 use crate::texts::coercion;
-use ap_list::{Boxed, NoMemory};
+use ap_list::NoMemory;
 use ap_value::{Value, copy};
 use ap_world::Primitive;
 use std::alloc::Global;
@@ -36,9 +36,7 @@ fn applied_to_one(alloc: Global, p: Primitive, x: &Value) -> Result<Option<Value
 fn pair(alloc: Global, x: &Value, y: &Value) -> Result<Value, NoMemory>
     ensures { IfOk result (λ r. r ≡ Value.Cons x.now y.now) }
 {
-    let first = Boxed::new(alloc, copy(alloc, x)?)?;
-    let rest = Boxed::new(alloc, copy(alloc, y)?)?;
-    Ok(Value::Cons(first, rest))
+    Value::cons(alloc, copy(alloc, x)?, copy(alloc, y)?)
 }
 
 /// A primitive of two arguments.

@@ -6,7 +6,7 @@ ghost use Rattle.ap_world.specs.Primitives.{char_in};
 ghost use Rattle.ap_world.specs.Units.{characters, list_part, codes_in, coerced};
 
 use crate::kinds::{is_list_name, nil_value};
-use ap_list::{Boxed, Bytes, NoMemory};
+use ap_list::{Bytes, NoMemory};
 use ap_value::Value;
 use std::alloc::Global;
 
@@ -18,8 +18,7 @@ fn characters_of(alloc: Global, codes: &[u8]) -> Result<Value, NoMemory>
     let mut left = codes.len();
     while left > 0 {
         left -= 1;
-        let first = Boxed::new(alloc, Value::Chr(codes[left]))?;
-        list = Value::Cons(first, Boxed::new(alloc, list)?);
+        list = Value::cons(alloc, Value::Chr(codes[left]), list)?;
     }
     Ok(list)
 }
@@ -65,5 +64,5 @@ pub(crate) fn coercion(alloc: Global, x: &Value, y: &Value) -> Result<Value, NoM
     if is_list_name(y) {
         return list_of(alloc, x);
     }
-    Ok(Value::Str(codes_of(alloc, x)?))
+    Value::string(alloc, codes_of(alloc, x)?)
 }

@@ -6,8 +6,7 @@ use Rattle.ap_world.specs.World.{Shown}
 use Rattle.ap_walk.specs.declared.act.Reason.{Reason}
 use Rattle.ap_walk.specs.declared.rule.Rule.{Rule}
 use Rattle.ap_attempt.specs.declared.verdict.Verdict.{Verdict}
-use Rattle.ap_attempt.specs.declared.verdict.Attempt.{Attempt}
-use Rattle.ap_attempt.specs.Attempts.{attempt}
+use Rattle.ap_attempt.specs.Attempts.{Course, walks_of, attempt}
 use Rattle.ap_strategy.specs.declared.plan.Plan.{Plan}
 use Rattle.ap_strategy.specs.Goals.{Goal, root_goal, inducted}
 use Rattle.ap_strategy.specs.Steps.{step_of, depth_of}
@@ -28,7 +27,7 @@ first_rule limits = record {
 }
 
 -- the attempt on a term by a plan: it starts from the term's clause under the name `Goal`
-abbrev pub attempt_on : Limits → Plan → Term → Attempt Goal
+abbrev pub attempt_on : Limits → Plan → Term → Course Goal
 attempt_on limits plan u = attempt step_of depth_of inducted (root_goal plan u) false (first_rule limits) (root_goal plan u)
 
 -- its lines, why it failed, if it did, and its checkpoints
@@ -36,8 +35,8 @@ abbrev pub reason_in : Verdict → Option Reason
 reason_in Verdict.Qed = None
 reason_in (Verdict.Failed r) = Some r
 
-abbrev pub told : Attempt Goal → Tried
-told a = record { lines = walks_text a.walks; failed = reason_in a.verdict; checkpoints = checkpoints_text a.walks }
+abbrev pub told : Course Goal → Tried
+told a = record { lines = walks_text (walks_of a); failed = reason_in a.verdict; checkpoints = checkpoints_text (walks_of a) }
 
 unfoldable pub tried : Limits → Plan → Term → Tried
 tried limits plan u = told (attempt_on limits plan u)

@@ -9,6 +9,7 @@ use Rattle.ap_world.specs.declared.entry.Entry.TheVariants as entry
 use Rattle.ap_world.specs.declared.entry.Function.{Function}
 use Rattle.ap_world.specs.declared.entry.Mask.{Mask}
 use Rattle.ap_world.specs.World.{Shown, has_name}
+use Rattle.ap_world.specs.KeptTypes.{kept_types}
 use Rattle.ap_reader.specs.declared.form.Form.{Form, fold-Form}
 use Rattle.ap_reader.specs.declared.form.Body.TheOpen.{Body-F, Form-F}
 use Rattle.ap_translate.specs.declared.fault.TransKind.{TransKind}
@@ -17,7 +18,6 @@ use Rattle.ap_translate.specs.Answers.{Answer, refused as refused_at, each, ◌>
 use Rattle.ap_translate.specs.Names.{can_be_bound}
 use Rattle.ap_translate.specs.Parts.{layer_of, items_in, is_symbol}
 use Rattle.ap_translate.specs.Table.{translated}
-use Rattle.ap_types.specs.Kept.{kept_types}
 use Rattle.ap_events.specs.declared.definition.Translated.{Translated}
 use Rattle.ap_events.specs.Shapes.{Defined, symbol_at, is_given}
 use Rattle.ap_events.specs.Texts.{event_text, translation_text}

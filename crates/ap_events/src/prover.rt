@@ -1,5 +1,8 @@
-ghost use Rattle.std.specs.Prelude.{◌≡◌, ◌≤◌, ℕ, IfOk};
+ghost use Rattle.std.specs.Prelude.{◌≡◌, ◌≤◌, ◌<◌, ℕ, IfOk};
+ghost use Rattle.ap_list.specs.Lists.{Each};
 ghost use Rattle.ap_names.specs.Names.{pushed_of};
+ghost use Rattle.ap_walk.specs.declared.act.Out.{Out};
+ghost use Rattle.ap_walk.specs.Visits.{out_children};
 
 use ap_attempt::Prover;
 use ap_list::NoMemory;
@@ -13,6 +16,9 @@ pub trait Inducts: Step {
     /// The induction of a task that was pushed as number `k`.
     ghost inducted: { Self.Task → ℕ → Self.Task };
 
+    /// How many inductions may stand within each other below a task.
+    ghost rank: { Self.Task → ℕ };
+
     /// The induction of a task that a walk pushed as number `k`, from 1. The only error is want of memory.
     fn induct(&self, alloc: Global, task: &Self::Task, k: u32) -> Result<Self::Task, NoMemory>
         requires { 1 ≤ k }
@@ -21,6 +27,12 @@ pub trait Inducts: Step {
     // An induction has the name of the pushed goal.
     ghost called: { (task : Self.Task) (k : ℕ) → 1 ≤ k → Self.name (inducted task k) ≡ pushed_of (Self.name task) k };
 
+    // A task's children have no greater rank.
+    ghost same_rank: { (task : Self.Task) → Each (λ child. rank child ≤ rank task) (out_children (Self.step_of task).out) };
+
+    // The induction of a task that is pushed has less rank.
+    ghost less_rank: { (task : Self.Task) (k : ℕ) → 1 ≤ k → (Self.step_of task).out ≡ Out.Push → rank (inducted task k) < rank task };
+
     // Where the induction of a task is good the task is good.
     ghost shows: { (task : Self.Task) (k : ℕ) → 1 ≤ k → Self.good (inducted task k) → Self.good task };
 }
@@ -28,10 +40,17 @@ pub trait Inducts: Step {
 impl<'a> Inducts for Acl2Step<'a> {
     ghost use Rattle.std.proofs.Common.{refl};
     ghost use Rattle.ap_strategy.specs.Goals.{inducted};
+    ghost use Rattle.ap_strategy.specs.Ranks.{rank_of, ranked, falling};
 
     ghost inducted = { inducted };
 
+    ghost rank = { rank_of };
+
     ghost called = { λ task k some. refl };
+
+    ghost same_rank = { ranked };
+
+    ghost less_rank = { falling };
 
     ghost shows = { λ task k some good. good };
 
@@ -89,11 +108,17 @@ impl<S: Inducts> Prover for Proving<S> {
 
     ghost original_of = { λ root. root };
 
+    ghost rank = { S.rank };
+
     ghost refuses_induction = { λ _. false };
 
     ghost named = { S.called };
 
     ghost original_named = { λ root. refl };
+
+    ghost ranked = { S.same_rank };
+
+    ghost falling = { S.less_rank };
 
     ghost by_induction = { S.shows };
 

@@ -1,5 +1,5 @@
 -- Calls whose parts agree: an `if`, and any other call.
-use Rattle.std.proofs.Common.{◌≡◌, ◌≢◌, ◌↔◌, ℕ, Bool, true, false, cond, List, [], ◌∷◌, ◌++◌, map, length, Some, refl, ap, sym, ◌∙◌, subst, eqb-true, arith, append_assoc}
+use Rattle.std.proofs.Common.{◌≡◌, ◌≢◌, ◌↔◌, ℕ, Bool, true, false, cond, List, [], ◌∷◌, length, Some, refl, ap, sym, ◌∙◌, subst, eqb-true, arith}
 use Rattle.std.proofs.Math.ListN.{length-map}
 use Rattle.ap_list.specs.Lists.{Each}
 use Rattle.ap_value.specs.declared.symbol.Symbol.{Symbol}
@@ -11,39 +11,22 @@ use Rattle.ap_world.specs.Primitives.{nil, truth, prim_of}
 use Rattle.ap_world.specs.Meaning.{Env, Defs, Total}
 use Rattle.ap_world.specs.Clauses.{not_of}
 use Rattle.ap_world.specs.Sound.{known, is_head, takes, not_function}
+use Rattle.ap_world.specs.Facts.{KnownFacts, FactsHold}
+use Rattle.ap_world.specs.Assume.{assume}
 use Rattle.ap_world.proofs.Knowing.{known_by, true_each}
 use Rattle.ap_world.proofs.TotalMeaning.{Apply, Models, models, val, values_of, val_call, head_val}
 use Rattle.ap_world.proofs.Equations.{val_if, nil-eq, eq-not_nil, prim_of_if, prim_of_not}
 use Rattle.ap_world.proofs.Starting.{val_not}
+use Rattle.ap_world.proofs.Assumed.{assume_holds}
 use Rattle.ap_kernel.specs.declared.objects.Ctx.{Ctx}
 use Rattle.ap_kernel.specs.declared.objects.Mode.{Mode}
 use Rattle.ap_kernel.specs.declared.objects.Mode.TheVariants.{Equal, Iff}
+use Rattle.ap_world.specs.World.{Shown, function_of}
+use Rattle.ap_kernel.specs.declared.objects.Sequent.{Sequent}
 use Rattle.ap_kernel.specs.declared.objects.Equiv.{Equiv}
-use Rattle.ap_kernel.specs.Standing.{HasGround, KnownFacts, FactsHold, Same, Stands}
-use Rattle.ap_kernel.specs.Assume.{assume}
-use Rattle.ap_kernel.specs.Answers.{if_of, branch_made, ModeFits, IsArgument, lefts, rights, cong_made, turned}
+use Rattle.ap_kernel.specs.Standing.{HasGround, Same, Holds}
+use Rattle.ap_kernel.specs.Answers.{if_of, branch_made, ModeFits, IsArgument, ArgumentHolds, said, lefts, rights, cong_made}
 use Rattle.ap_kernel.proofs.Standing.{agree, stand}
-use Rattle.ap_kernel.proofs.Assumed.{assume_holds}
-
--- lists, last first
-pub turned_end : {A : Type 0} (xs : List A) (x : A) → turned (xs ++ x ∷ []) ≡ x ∷ turned xs
-turned_end [] x = refl
-turned_end (y ∷ ys) x = ap (λ zs. zs ++ y ∷ []) (turned_end ys x)
-
-pub turned_twice : {A : Type 0} (xs : List A) → turned (turned xs) ≡ xs
-turned_twice [] = refl
-turned_twice (x ∷ xs) = turned_end (turned xs) x ∙ ap (λ ys. x ∷ ys) (turned_twice xs)
-
--- one element more is taken from the end
-pub turn_step : {A B : Type 0} (f : A → B) (out : List B) (old new : List A) (q : A) (all : List B) → out ++ map f (turned old) ≡ all → old ≡ new ++ q ∷ []
-    → (out ++ f q ∷ []) ++ map f (turned new) ≡ all
-turn_step f out old new q all h e =
-    append_assoc out (f q ∷ []) (map f (turned new)) ∙ ap (λ xs. out ++ map f xs) (sym (ap turned e ∙ turned_end new q)) ∙ h
-
-pub turn_step_plain : {A : Type 0} (out old new : List A) (q : A) (all : List A) → out ++ turned old ≡ all → old ≡ new ++ q ∷ []
-    → (out ++ q ∷ []) ++ turned new ≡ all
-turn_step_plain out old new q all h e =
-    append_assoc out (q ∷ []) (turned new) ∙ ap (λ xs. out ++ xs) (sym (ap turned e ∙ turned_end new q)) ∙ h
 
 -- values that are the same are both nil or both not
 pub both_nil : (m : Mode) (v w : V) → Same m v w → (v ≡ nil) ↔ (w ≡ nil)
@@ -71,8 +54,8 @@ same_if m x y a b c d h on off = rw (nil_test x y h) (go (value_eq y nil) refl)
 pub known_if : (D : Defs) (a b c : Term) → known D a ≡ true → known D b ≡ true → known D c ≡ true → known D (if_of a b c) ≡ true
 known_if D a b c p q r = known_by D if_name (a ∷ b ∷ c ∷ []) (rw prim_of_if refl) (true_each (known D) (a ∷ b ∷ c ∷ []) (p, (q, (r, tt))))
 
-pub branch_stands : (D : Defs) → Total D → HasGround D → (m : Mode) (test on off : Equiv) → Stands D test → Stands D on → Stands D off → on.mode ≡ m → off.mode ≡ m
-    → on.ctx.0 ≡ assume test.ctx.0 test.rhs true → off.ctx.0 ≡ assume test.ctx.0 test.rhs false → Stands D (branch_made m test on off)
+pub branch_stands : (D : Defs) → Total D → HasGround D → (m : Mode) (test on off : Sequent) → Holds D test → Holds D on → Holds D off → on.mode ≡ m → off.mode ≡ m
+    → on.ctx.0 ≡ assume test.ctx.0 test.rhs true → off.ctx.0 ≡ assume test.ctx.0 test.rhs false → Holds D (branch_made m test on off)
 branch_stands D total ground m test on off s p q on_mode off_mode on_facts off_facts =
     let (A, ms) = models D total in
     stand D A ms (branch_made m test on off) s.facts (known_if D test.lhs on.lhs off.lhs s.left p.left q.left) (known_if D test.rhs on.rhs off.rhs s.right p.right q.right)
@@ -92,7 +75,7 @@ branch_stands D total ground m test on off s p q on_mode off_mode on_facts off_f
         subst (λ x. Same m x (val A (if_of test.rhs on.rhs off.rhs) e)) (sym l) (subst (λ y. Same m (cond (value_eq (val A test.lhs e) nil) (val A off.lhs e) (val A on.lhs e)) y) (sym r) same)
 
 -- one argument, where the list has so many
-one_argument : (P : List Equiv → Type 0) (qs : List Equiv) → ((q : Equiv) → P (q ∷ [])) → 1 ≡ length qs → P qs
+one_argument : (P : List Sequent → Type 0) (qs : List Sequent) → ((q : Sequent) → P (q ∷ [])) → 1 ≡ length qs → P qs
 one_argument P [] k h = absurd (omega arith)
 one_argument P (q ∷ []) k h = k q
 one_argument P (q ∷ r ∷ qs) k h = absurd (omega arith)
@@ -102,34 +85,34 @@ unfolding not_function
 one_formal n h = eqb-true 1 n h
 
 module _ (D : Defs) (A : Apply) (ms : Models D A) (ground : HasGround D) (c : Ctx) (f : Symbol) where
-  lefts_known : (qs : List Equiv) → Each (IsArgument D c f) qs → Each (λ u. known D u ≡ true) (lefts qs)
+  lefts_known : (qs : List Sequent) → Each (ArgumentHolds D c f) qs → Each (λ u. known D u ≡ true) (lefts qs)
   lefts_known [] es = tt
-  lefts_known (q ∷ qs) es = (es.0.stands.left, lefts_known qs es.1)
+  lefts_known (q ∷ qs) es = (es.0.holds.left, lefts_known qs es.1)
 
-  rights_known : (qs : List Equiv) → Each (IsArgument D c f) qs → Each (λ u. known D u ≡ true) (rights qs)
+  rights_known : (qs : List Sequent) → Each (ArgumentHolds D c f) qs → Each (λ u. known D u ≡ true) (rights qs)
   rights_known [] es = tt
-  rights_known (q ∷ qs) es = (es.0.stands.right, rights_known qs es.1)
+  rights_known (q ∷ qs) es = (es.0.holds.right, rights_known qs es.1)
 
-  known_call_of : (qs : List Equiv) (ts : List Term) → length ts ≡ length qs → is_head D f (prim_of f) (length qs) ≡ true → Each (λ u. known D u ≡ true) ts → known D (Call f ts) ≡ true
+  known_call_of : (qs : List Sequent) (ts : List Term) → length ts ≡ length qs → is_head D f (prim_of f) (length qs) ≡ true → Each (λ u. known D u ≡ true) ts → known D (Call f ts) ≡ true
   known_call_of qs ts l h ks = known_by D f ts (rw l h) (true_each (known D) ts ks)
 
   -- under equality the arguments' values are the same
-  same_values : (e : Env) → FactsHold D e c.0 → symbol_eq f not_name ≡ false → (qs : List Equiv) → Each (IsArgument D c f) qs → values_of A (lefts qs) e ≡ values_of A (rights qs) e
+  same_values : (e : Env) → FactsHold D e c.0 → symbol_eq f not_name ≡ false → (qs : List Sequent) → Each (ArgumentHolds D c f) qs → values_of A (lefts qs) e ≡ values_of A (rights qs) e
   same_values e h isnt [] es = refl
   same_values e h isnt (q ∷ qs) es =
-      let mode : q.mode ≡ Equal = subst (λ b. ModeFits b q.mode) isnt es.0.mode in
-      let facts : FactsHold D e q.ctx.0 = subst (λ (k : Ctx). FactsHold D e k.0) (sym es.0.facts) h in
-      let same : val A q.lhs e ≡ val A q.rhs e = subst (λ o. Same o (val A q.lhs e) (val A q.rhs e)) mode (agree D A ms q es.0.stands e facts) in
+      let mode : q.mode ≡ Equal = subst (λ b. ModeFits b q.mode) isnt es.0.fits.mode in
+      let facts : FactsHold D e q.ctx.0 = subst (λ (k : Ctx). FactsHold D e k.0) (sym es.0.fits.facts) h in
+      let same : val A q.lhs e ≡ val A q.rhs e = subst (λ o. Same o (val A q.lhs e) (val A q.rhs e)) mode (agree D A ms q es.0.holds e facts) in
       ap (λ v. v ∷ values_of A (lefts qs) e) same ∙ ap (λ vs. val A q.rhs e ∷ vs) (same_values e h isnt qs es.1)
 
   -- under either mode the calls of `not` are equal
-  same_nots : (e : Env) → FactsHold D e c.0 → (q : Equiv) → IsArgument D c f q → val A (not_of q.lhs) e ≡ val A (not_of q.rhs) e
+  same_nots : (e : Env) → FactsHold D e c.0 → (q : Sequent) → ArgumentHolds D c f q → val A (not_of q.lhs) e ≡ val A (not_of q.rhs) e
   same_nots e h q k =
-      let facts : FactsHold D e q.ctx.0 = subst (λ (k : Ctx). FactsHold D e k.0) (sym k.facts) h in
-      let nils = both_nil q.mode (val A q.lhs e) (val A q.rhs e) (agree D A ms q k.stands e facts) in
+      let facts : FactsHold D e q.ctx.0 = subst (λ (k : Ctx). FactsHold D e k.0) (sym k.fits.facts) h in
+      let nils = both_nil q.mode (val A q.lhs e) (val A q.rhs e) (agree D A ms q k.holds e facts) in
       val_not D A ms ground q.lhs e ∙ ap truth (nil_test (val A q.lhs e) (val A q.rhs e) nils) ∙ sym (val_not D A ms ground q.rhs e)
 
-  same_calls : (e : Env) → FactsHold D e c.0 → (qs : List Equiv) → is_head D f (prim_of f) (length qs) ≡ true → Each (IsArgument D c f) qs → val A (Call f (lefts qs)) e ≡ val A (Call f (rights qs)) e
+  same_calls : (e : Env) → FactsHold D e c.0 → (qs : List Sequent) → is_head D f (prim_of f) (length qs) ≡ true → Each (ArgumentHolds D c f) qs → val A (Call f (lefts qs)) e ≡ val A (Call f (rights qs)) e
   same_calls e h qs k es = go (symbol_eq f not_name) refl
     where
       go : (b : Bool) → symbol_eq f not_name ≡ b → val A (Call f (lefts qs)) e ≡ val A (Call f (rights qs)) e
@@ -138,14 +121,19 @@ module _ (D : Defs) (A : Apply) (ms : Models D A) (ground : HasGround D) (c : Ct
           let is : f ≡ not_name = symbol_eq-true f not_name q in
           let takes_one : takes (Some not_function) (length qs) ≡ true =
           subst (λ o. takes o (length qs) ≡ true) ground (subst (λ o. is_head D not_name o (length qs) ≡ true) prim_of_not (subst (λ g. is_head D g (prim_of g) (length qs) ≡ true) is k)) in
-          one_argument (λ qs. Each (IsArgument D c f) qs → val A (Call f (lefts qs)) e ≡ val A (Call f (rights qs)) e) qs
+          one_argument (λ qs. Each (ArgumentHolds D c f) qs → val A (Call f (lefts qs)) e ≡ val A (Call f (rights qs)) e) qs
           (λ r es. ap (λ g. val A (Call g (r.lhs ∷ [])) e) is ∙ same_nots e h r es.0 ∙ ap (λ g. val A (Call g (r.rhs ∷ [])) e) (sym is)) (one_formal (length qs) takes_one) es
 
-pub cong_stands : (D : Defs) → Total D → HasGround D → (c : Ctx) (f : Symbol) (qs : List Equiv) → KnownFacts D c.0 → is_head D f (prim_of f) (length qs) ≡ true
-    → Each (IsArgument D c f) qs → Stands D (cong_made c f qs)
+pub cong_stands : (D : Defs) → Total D → HasGround D → (c : Ctx) (f : Symbol) (qs : List Sequent) → KnownFacts D c.0 → is_head D f (prim_of f) (length qs) ≡ true
+    → Each (ArgumentHolds D c f) qs → Holds D (cong_made c f qs)
 cong_stands D total ground c f qs facts head es =
     let (A, ms) = models D total in
     stand D A ms (cong_made c f qs) facts
-    (known_call_of D A ms ground c f qs (lefts qs) (length-map qs (λ (q : Equiv). q.lhs)) head (lefts_known D A ms ground c f qs es))
-    (known_call_of D A ms ground c f qs (rights qs) (length-map qs (λ (q : Equiv). q.rhs)) head (rights_known D A ms ground c f qs es))
+    (known_call_of D A ms ground c f qs (lefts qs) (length-map qs (λ (q : Sequent). q.lhs)) head (lefts_known D A ms ground c f qs es))
+    (known_call_of D A ms ground c f qs (rights qs) (length-map qs (λ (q : Sequent). q.rhs)) head (rights_known D A ms ground c f qs es))
     (λ e h. same_calls D A ms ground c f e h qs head es)
+
+-- what is handed in as arguments holds
+pub arguments_hold : (w : Shown) (c : Ctx) (f : Symbol) (qs : List Equiv) → Each (IsArgument w c f) qs → Each (ArgumentHolds (function_of w.entries) c f) (said qs)
+arguments_hold w c f [] es = tt
+arguments_hold w c f (q ∷ qs) es = (record { holds = es.0.stands.says; fits = es.0.fits }, arguments_hold w c f qs es.1)

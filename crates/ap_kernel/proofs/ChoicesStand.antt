@@ -20,27 +20,27 @@ use Rattle.ap_world.specs.Meaning.{Env, Defs, Total}
 use Rattle.ap_world.specs.Clauses.{not_of}
 use Rattle.ap_world.specs.Types.{is_true_list, type_of, Has}
 use Rattle.ap_world.specs.Sound.{known, is_head, not_function}
+use Rattle.ap_world.specs.Facts.{KnownFacts, FactsHold}
+use Rattle.ap_world.specs.Shapes.{Shape, constant, choice, negation, other, head_of, call_shape, shape_of, constant_says, is_constant, Head, if_head, not_head, equal_head, cons_head}
+use Rattle.ap_world.specs.Assume.{parts}
 use Rattle.ap_world.proofs.Knowing.{known_by, known_args, each_true, true_each}
 use Rattle.ap_world.proofs.TotalMeaning.{Apply, Models, models, val, val_is, val_quote}
 use Rattle.ap_world.proofs.Equations.{val_if, nil-eq, eq-not_nil, t-not_nil, t_isnt_nil, prim_of_not}
 use Rattle.ap_world.proofs.Starting.{val_not}
-use Rattle.ap_kernel.specs.declared.shapes.Head.{Head}
-use Rattle.ap_kernel.specs.declared.shapes.Head.TheVariants as head
+use Rattle.ap_world.proofs.Shaped.{Says, shape_says}
+use Rattle.ap_world.proofs.Sets.{apart}
+use Rattle.ap_world.proofs.Parts.{parts_smaller}
 use Rattle.ap_kernel.specs.declared.shapes.ShapeRef.{ShapeRef}
 use Rattle.ap_kernel.specs.declared.shapes.ShapeRef.TheVariants as lent
 use Rattle.ap_kernel.specs.declared.objects.Ctx.{Ctx}
 use Rattle.ap_kernel.specs.declared.objects.Mode.{Mode}
 use Rattle.ap_kernel.specs.declared.objects.Mode.TheVariants.{Equal, Iff}
-use Rattle.ap_kernel.specs.Standing.{HasGround, KnownFacts, FactsHold, Same, Stands}
-use Rattle.ap_kernel.specs.Shapes.{Shape, constant, choice, negation, other, head_of, call_shape, shape_of, seen, constant_says, is_constant}
+use Rattle.ap_kernel.specs.Standing.{HasGround, Same, Holds}
+use Rattle.ap_kernel.specs.Shapes.{seen}
 use Rattle.ap_kernel.specs.Masks.{MaskHolds}
-use Rattle.ap_kernel.specs.Assume.{parts}
 use Rattle.ap_kernel.specs.Answers.{if_of}
 use Rattle.ap_kernel.specs.Choices.{bare_by, bare_step, bare, test_by, bare_test, means_t, is_t_constant, is_truth, by_branches, if_shape, by_constant, choice_leads, is_choice, choice_made}
 use Rattle.ap_kernel.proofs.Standing.{same_of, stand}
-use Rattle.ap_kernel.proofs.Shaped.{Says, shape_says}
-use Rattle.ap_kernel.proofs.Parts.{parts_smaller}
-use Rattle.ap_kernel.proofs.Typed.{apart}
 use Rattle.ap_kernel.proofs.CallsStand.{known_if}
 
 -- one call of `not` is taken off
@@ -62,10 +62,10 @@ bare_is u = term_ind Goal variable quoted call u
     firsts (t ∷ ts) = ap (λ us. t ∷ us) (firsts ts)
 
     same : (u : Term) (h : Head) (ts : List Term) → bare_by u (call_shape h (map paired ts)) ≡ bare_of u (call_shape h ts)
-    same u head.If (a ∷ b ∷ c ∷ []) = refl
-    same u head.Not (a ∷ []) = refl
-    same u head.Equal (a ∷ b ∷ []) = refl
-    same u head.Cons (a ∷ b ∷ []) = refl
+    same u if_head (a ∷ b ∷ c ∷ []) = refl
+    same u not_head (a ∷ []) = refl
+    same u equal_head (a ∷ b ∷ []) = refl
+    same u cons_head (a ∷ b ∷ []) = refl
     same u h ts = refl
 
     variable : (x : Symbol) → Goal (Var x)
@@ -95,10 +95,10 @@ nots_ind P step u = term_ind P variable quoted call u
         no a k = cc
 
     one : (h : Head) (ts : List Term) → Each P ts → (a : Term) → call_shape h ts ≡ negation a → P a
-    one head.If (x ∷ y ∷ z ∷ []) es a k = cc
-    one head.Not (x ∷ []) es a k = let same : x ≡ a = cc in subst P same es.0
-    one head.Equal (x ∷ y ∷ []) es a k = cc
-    one head.Cons (x ∷ y ∷ []) es a k = cc
+    one if_head (x ∷ y ∷ z ∷ []) es a k = cc
+    one not_head (x ∷ []) es a k = let same : x ≡ a = cc in subst P same es.0
+    one equal_head (x ∷ y ∷ []) es a k = cc
+    one cons_head (x ∷ y ∷ []) es a k = cc
     one h ts es a k = cc
 
     call : (f : Symbol) (ts : List Term) → Each P ts → P (Call f ts)
@@ -219,7 +219,7 @@ not_truth_type (cons a b) h k = go (is_true_list b)
 not_truth_type (symbol j s) h k = rw (h, k) refl
 
 -- where the value is as good as a truth, so is the `if` of it with the branches t and nil
-truth_same : (m : Mode) (k : Mask) (v : V) → is_truth m k ≡ true → Has k v → Same m (cond (value_eq v nil) nil t) v
+pub truth_same : (m : Mode) (k : Mask) (v : V) → is_truth m k ≡ true → Has k v → Same m (cond (value_eq v nil) nil t) v
 truth_same m k v h has = go m (value_eq v nil) refl h
   where
     is_t : value_eq v nil ≡ false → bit_and k.0 999 ≡ 0 → (b : Bool) → value_eq v t ≡ b → t ≡ v
@@ -322,7 +322,7 @@ module _ (D : Defs) (A : Apply) (ms : Models D A) (ground : HasGround D) (e : En
       go y l = same_shape a b c has
 
 pub choice_stands : (D : Defs) → Total D → HasGround D → (c : Ctx) (m : Mode) (u : Term) (k : Mask) → KnownFacts D c.0 → known D u ≡ true → is_choice (shape_of u) ≡ true
-    → MaskHolds D c.0 (bare_test u) k → Stands D (choice_made c m u k)
+    → MaskHolds D c.0 (bare_test u) k → Holds D (choice_made c m u k)
 choice_stands D total ground c m u k facts u_known is holds =
     let (A, ms) = models D total in
     stand D A ms (choice_made c m u k) facts u_known (known_choice D ground (is_truth m k) u (shape_of u) (shape_says u) u_known) (agrees A ms)

@@ -13,16 +13,17 @@ use Rattle.ap_world.specs.Primitives.{nil, t, truth}
 use Rattle.ap_world.specs.Meaning.{Env, Defs, Total, FactHolds}
 use Rattle.ap_world.specs.Sound.{known}
 use Rattle.ap_world.specs.Recursion.{nil_constant, t_constant}
+use Rattle.ap_world.specs.Facts.{Facts, KnownFacts, FactsHold}
+use Rattle.ap_world.specs.Shapes.{Shape, constant, equation, pair, shape_of}
 use Rattle.ap_world.proofs.Knowing.{known_by, known_quote, known_args, each_true, true_each}
 use Rattle.ap_world.proofs.TotalMeaning.{Apply, Models, models, val, val_quote}
 use Rattle.ap_world.proofs.Equations.{val_if, val_equal, val_cons, val_of_nil, val_of_t, t-not_nil, t_isnt_nil, prim_of_equal}
+use Rattle.ap_world.proofs.Shaped.{Says, shape_says}
+use Rattle.ap_world.proofs.Assumed.{Signed, fact_says}
 use Rattle.ap_kernel.specs.declared.objects.Ctx.{Ctx}
-use Rattle.ap_kernel.specs.Standing.{Facts, KnownFacts, FactsHold, Stands}
-use Rattle.ap_kernel.specs.Shapes.{Shape, constant, equation, pair, shape_of}
+use Rattle.ap_kernel.specs.Standing.{Holds}
 use Rattle.ap_kernel.specs.Equations.{equal_of, truth_constant, constant_parts, parts_by, cons_parts, apart, both_apart, by_sign, sides_lead, shape_leads, equation_leads, equation_made}
 use Rattle.ap_kernel.proofs.Standing.{stand}
-use Rattle.ap_kernel.proofs.Shaped.{Says, shape_says}
-use Rattle.ap_kernel.proofs.Assumed.{Signed, fact_says}
 use Rattle.ap_kernel.proofs.CallsStand.{known_if}
 
 pub value_eq-turned : (v w : V) → value_eq v w ≡ value_eq w v
@@ -171,7 +172,7 @@ same_leads : (D : Defs) (A : Apply) → Models D A → (e : Env) (fs : Facts) �
 same_leads D A ms e fs hs u (equation a b) h = subst (λ x. SameEnd A e x (sides_lead fs a b)) (sym h) (same_sides D A ms e fs hs a b)
 same_leads D A ms e fs hs u y h = tt
 
-pub equation_stands : (D : Defs) → Total D → (c : Ctx) (u r : Term) → KnownFacts D c.0 → known D u ≡ true → equation_leads c.0 u ≡ Some r → Stands D (equation_made c u r)
+pub equation_stands : (D : Defs) → Total D → (c : Ctx) (u r : Term) → KnownFacts D c.0 → known D u ≡ true → equation_leads c.0 u ≡ Some r → Holds D (equation_made c u r)
 equation_stands D total c u r facts u_known leads =
     let (A, ms) = models D total in
     stand D A ms (equation_made c u r) facts u_known

@@ -1,8 +1,5 @@
 pub mod Standing
 pub mod Symbols
-pub mod Shaped
-pub mod Parts
-pub mod Assumed
 pub mod CallsStand
 pub mod Typed
 pub mod EquationsStand
@@ -12,3 +9,4 @@ pub mod Reduced
 pub mod Splitting
 pub mod Tidied
 pub mod Solved
+pub mod OpeningStands

@@ -1,24 +1,26 @@
 -- Clauses with one literal replaced, and reductions of one after another.
-use Rattle.std.proofs.Common.{◌≡◌, ◌≢◌, ℕ, zero, suc, ◌+◌, Bool, true, false, List, [], ◌∷◌, ◌++◌, map, take, drop, Some, None, slice_get, ◌⊎◌, inl, inr, refl, ap, sym, ◌∙◌, subst, append_assoc}
-use Rattle.ap_list.specs.Lists.{Each, AnyOf, joined}
+use Rattle.std.proofs.Common.{◌≡◌, ◌≢◌, ℕ, zero, suc, ◌+◌, Bool, true, false, List, [], ◌∷◌, ◌++◌, take, drop, Some, None, slice_get, ◌⊎◌, inl, inr, refl, ap, sym, ◌∙◌, subst, append_assoc, append-nil}
+use Rattle.ap_list.specs.Lists.{Each, AnyOf}
 use Rattle.ap_value.specs.Values.{value_eq}
 use Rattle.ap_term.specs.declared.term.Term.{Term}
 use Rattle.ap_term.specs.declared.term.Clause.{Clause}
 use Rattle.ap_world.specs.Primitives.{nil}
 use Rattle.ap_world.specs.Meaning.{Env, Defs, Total, FactHolds, Valid}
 use Rattle.ap_world.specs.Sound.{known}
+use Rattle.ap_world.specs.Facts.{KnownFacts, FactsHold}
+use Rattle.ap_world.specs.Assume.{assumed}
 use Rattle.ap_world.proofs.Knowing.{true_each}
 use Rattle.ap_world.proofs.TotalMeaning.{Apply, Models, models, val, AnyTrue, valid_is, valid_of}
 use Rattle.ap_world.proofs.Equations.{nil-eq, eq-not_nil}
-use Rattle.ap_kernel.specs.declared.objects.Equiv.{Equiv}
+use Rattle.ap_world.specs.World.{Shown, function_of}
+use Rattle.ap_world.proofs.Assumed.{both_each, assumed_known, assumed_holds}
+use Rattle.ap_kernel.specs.declared.objects.Sequent.{Sequent}
+use Rattle.ap_kernel.specs.declared.reductions.Inference.{Inference}
 use Rattle.ap_kernel.specs.declared.reductions.Reduction.{Reduction}
-use Rattle.ap_kernel.specs.Standing.{HasGround, FactsHold, Stands}
-use Rattle.ap_kernel.specs.Assume.{assumed}
-use Rattle.ap_kernel.specs.Answers.{turned}
-use Rattle.ap_kernel.specs.Reductions.{KnownClause, Reduces, put_at, others, all_false, to_one, dropped, rewritten, chained}
+use Rattle.ap_kernel.specs.Standing.{HasGround, Holds}
+use Rattle.ap_kernel.specs.Reductions.{KnownClause, Follows, Reduces, put_at, others, all_false, to_one, dropped, rewritten, claims, all_from, all_to, chained}
 use Rattle.ap_kernel.proofs.Standing.{agree}
-use Rattle.ap_kernel.proofs.Assumed.{both_each, assumed_holds}
-use Rattle.ap_kernel.proofs.CallsStand.{both_nil, turned_end}
+use Rattle.ap_kernel.proofs.CallsStand.{both_nil}
 
 -- lists in parts: what holds of some element, and of each
 pub any_left : {A : Type 0} (P : A → Type 0) (xs ys : List A) → AnyOf P xs → AnyOf P (xs ++ ys)
@@ -39,13 +41,13 @@ any_either P (x ∷ xs) ys (inr h) = later (any_either P xs ys h)
     later (inl k) = inl (inr k)
     later (inr k) = inr k
 
-any_take : {A : Type 0} (P : A → Type 0) (i : ℕ) (xs : List A) → AnyOf P (take i xs) → AnyOf P xs
+pub any_take : {A : Type 0} (P : A → Type 0) (i : ℕ) (xs : List A) → AnyOf P (take i xs) → AnyOf P xs
 any_take P zero xs h = absurd h
 any_take P (suc i) [] h = absurd h
 any_take P (suc i) (x ∷ xs) (inl h) = inl h
 any_take P (suc i) (x ∷ xs) (inr h) = inr (any_take P i xs h)
 
-any_drop : {A : Type 0} (P : A → Type 0) (i : ℕ) (xs : List A) → AnyOf P (drop i xs) → AnyOf P xs
+pub any_drop : {A : Type 0} (P : A → Type 0) (i : ℕ) (xs : List A) → AnyOf P (drop i xs) → AnyOf P xs
 any_drop P zero xs h = h
 any_drop P (suc i) [] h = absurd h
 any_drop P (suc i) (x ∷ xs) h = inr (any_drop P i xs h)
@@ -77,12 +79,12 @@ any_at P [] i x h p = absurd (no_value h)
 any_at P (y ∷ ys) zero x h p = let same : y ≡ x = cc in inl (subst P (sym same) p)
 any_at P (y ∷ ys) (suc i) x h p = inr (any_at P ys i x h p)
 
-each_take : {A : Type 0} (P : A → Type 0) (i : ℕ) (xs : List A) → Each P xs → Each P (take i xs)
+pub each_take : {A : Type 0} (P : A → Type 0) (i : ℕ) (xs : List A) → Each P xs → Each P (take i xs)
 each_take P zero xs h = tt
 each_take P (suc i) [] h = tt
 each_take P (suc i) (x ∷ xs) h = (h.0, each_take P i xs h.1)
 
-each_drop : {A : Type 0} (P : A → Type 0) (i : ℕ) (xs : List A) → Each P xs → Each P (drop i xs)
+pub each_drop : {A : Type 0} (P : A → Type 0) (i : ℕ) (xs : List A) → Each P xs → Each P (drop i xs)
 each_drop P zero xs h = h
 each_drop P (suc i) [] h = tt
 each_drop P (suc i) (x ∷ xs) h = each_drop P i xs h.1
@@ -114,19 +116,35 @@ all_false_hold D A ms ground e [] ks hs = tt
 all_false_hold D A ms ground e (t ∷ ts) ks hs =
     both_each (FactHolds D e) (assumed t false) (all_false ts) (assumed_holds D A ms ground e t false ks.0 hs.0) (all_false_hold D A ms ground e ts ks.1 hs.1)
 
+-- the facts of a list in parts, and those of all but one
+false_appended : (xs ys : List Term) → all_false (xs ++ ys) ≡ all_false xs ++ all_false ys
+false_appended [] ys = refl
+false_appended (x ∷ xs) ys = ap (λ fs. assumed x false ++ fs) (false_appended xs ys) ∙ sym (append_assoc (assumed x false) (all_false xs) (all_false ys))
+
+pub others_are_false : (i : ℕ) (ts : List Term) → all_false (take i ts) ++ all_false (drop (i + 1) ts) ≡ all_false (others i ts)
+others_are_false i ts = sym (false_appended (take i ts) (drop (i + 1) ts))
+
+-- they are known where the literals are
+pub all_false_known : (D : Defs) (ts : List Term) → Each (λ u. known D u ≡ true) ts → KnownFacts D (all_false ts)
+all_false_known D [] ks = tt
+all_false_known D (t ∷ ts) ks = each_append (λ (f : Term × Bool). known D f.0 ≡ true) (assumed t false) (all_false ts) (assumed_known D t false ks.0) (all_false_known D ts ks.1)
+
+pub others_false_known : (D : Defs) (c : Clause) (i : ℕ) → KnownClause D c → KnownFacts D (all_false (others i c.0))
+others_false_known D c i k = all_false_known D (others i c.0) (each_put (λ u. known D u ≡ true) i [] c.0 tt k)
+
 -- a clause is reduced to one of known literals where under each assignment that one's being held is the clause's
 pub to_one_reduces : (D : Defs) → Total D → (c : Clause) (ts : List Term) → KnownClause D c → Each (λ u. known D u ≡ true) ts
-    → ((A : Apply) → Models D A → (e : Env) → AnyTrue A e ts → AnyTrue A e c.0) → Reduces D (to_one c ts)
+    → ((A : Apply) → Models D A → (e : Env) → AnyTrue A e ts → AnyTrue A e c.0) → Follows D (to_one c ts)
 to_one_reduces D total c ts k ks h =
     let (A, ms) = models D total in
     record { start = k; goals = (ks, tt); valid = λ valid. valid_of D A ms c.0 (true_each (known D) c.0 k) (λ e. h A ms e (valid_is D A ms ts valid.0 e)) }
 
-pub dropped_reduces : (D : Defs) → Total D → (c : Clause) (i : ℕ) → KnownClause D c → Reduces D (dropped c i)
+pub dropped_reduces : (D : Defs) → Total D → (c : Clause) (i : ℕ) → KnownClause D c → Follows D (dropped c i)
 dropped_reduces D total c i k =
     to_one_reduces D total c (others i c.0) k (each_put (λ u. known D u ≡ true) i [] c.0 tt k) (λ A ms e h. any_others (λ u. val A u e ≢ nil) i c.0 h)
 
-pub rewritten_reduces : (D : Defs) → Total D → HasGround D → (c : Clause) (i : ℕ) (q : Equiv) → KnownClause D c → Stands D q → slice_get c.0 i ≡ Some q.lhs
-    → q.ctx.0 ≡ all_false (others i c.0) → Reduces D (rewritten c i q.rhs)
+pub rewritten_reduces : (D : Defs) → Total D → HasGround D → (c : Clause) (i : ℕ) (q : Sequent) → KnownClause D c → Holds D q → slice_get c.0 i ≡ Some q.lhs
+    → q.ctx.0 ≡ all_false (others i c.0) → Follows D (rewritten c i q.rhs)
 rewritten_reduces D total ground c i q k s at facts =
     to_one_reduces D total c (put_at i (q.rhs ∷ []) c.0) k (each_put (λ u. known D u ≡ true) i (q.rhs ∷ []) c.0 (s.right, tt) k)
     (λ A ms e h. go A ms e (any_or A e (others i c.0)) (any_put (λ u. val A u e ≢ nil) i (q.rhs ∷ []) c.0 h))
@@ -141,27 +159,33 @@ rewritten_reduces D total ground c i q k s at facts =
         (all_false_hold D A ms ground e (others i c.0) (each_put (λ u. known D u ≡ true) i [] c.0 tt k) nils) in
         any_at (λ u. val A u e ≢ nil) c.0 i q.lhs at (λ isnil. h ((both_nil q.mode (val A q.lhs e) (val A q.rhs e) (agree D A ms q s e held)).0 isnil))
 
-pub chained_reduces : (D : Defs) (a : Reduction) (rs : List Reduction) → Reduces D a → Each (Reduces D) rs → map (λ (r : Reduction). r.from) rs ≡ a.to → Reduces D (chained a rs)
+pub chained_reduces : (D : Defs) (a : Inference) (rs : List Inference) → Follows D a → Each (Follows D) rs → all_from rs ≡ a.to → Follows D (chained a rs)
 chained_reduces D a rs s es e = record {
   start = s.start;
   goals = all_known rs es;
   valid = λ h. s.valid (subst (Each (λ (c : Clause). Valid D c.0)) e (all_valid rs es h));
 }
   where
-    all_known : (rs : List Reduction) → Each (Reduces D) rs → Each (KnownClause D) (joined (map (λ (r : Reduction). r.to) rs))
+    all_known : (rs : List Inference) → Each (Follows D) rs → Each (KnownClause D) (all_to rs)
     all_known [] es = tt
-    all_known (r ∷ rs) es = each_append (KnownClause D) r.to (joined (map (λ (r : Reduction). r.to) rs)) es.0.goals (all_known rs es.1)
+    all_known (r ∷ rs) es = each_append (KnownClause D) r.to (all_to rs) es.0.goals (all_known rs es.1)
 
-    all_valid : (rs : List Reduction) → Each (Reduces D) rs → Each (λ (c : Clause). Valid D c.0) (joined (map (λ (r : Reduction). r.to) rs))
-        → Each (λ (c : Clause). Valid D c.0) (map (λ (r : Reduction). r.from) rs)
+    all_valid : (rs : List Inference) → Each (Follows D) rs → Each (λ (c : Clause). Valid D c.0) (all_to rs) → Each (λ (c : Clause). Valid D c.0) (all_from rs)
     all_valid [] es h = tt
     all_valid (r ∷ rs) es h =
-        let p = each_parts (λ (c : Clause). Valid D c.0) r.to (joined (map (λ (r : Reduction). r.to) rs)) h in
+        let p = each_parts (λ (c : Clause). Valid D c.0) r.to (all_to rs) h in
         (es.0.valid p.0, all_valid rs es.1 p.1)
 
--- one reduction more is taken from the end
-pub join_step : (out : List Clause) (old new : List Reduction) (r : Reduction) (all : List Clause) → out ++ joined (map (λ (r : Reduction). r.to) (turned old)) ≡ all → old ≡ new ++ r ∷ []
-    → (out ++ r.to) ++ joined (map (λ (r : Reduction). r.to) (turned new)) ≡ all
-join_step out old new r all h e =
-    append_assoc out r.to (joined (map (λ (r : Reduction). r.to) (turned new)))
-    ∙ ap (λ xs. out ++ joined (map (λ (r : Reduction). r.to) xs)) (sym (ap turned e ∙ turned_end new r)) ∙ h
+-- a reduction stands where what it says is known to follow
+pub reduces_by : (w : Shown) (r : Reduction) (i : Inference) → r.says ≡ i → Follows (function_of w.entries) i → Reduces w r
+reduces_by w r i e h = record { says = subst (Follows (function_of w.entries)) (sym e) h }
+
+-- what each of a list says follows
+pub all_follow : (w : Shown) (rs : List Reduction) → Each (Reduces w) rs → Each (Follows (function_of w.entries)) (claims rs)
+all_follow w [] es = tt
+all_follow w (r ∷ rs) es = (es.0.says, all_follow w rs es.1)
+
+-- one reduction more
+pub all_to_end : (rs : List Reduction) (r : Reduction) → all_to (claims (rs ++ r ∷ [])) ≡ all_to (claims rs) ++ r.says.to
+all_to_end [] r = append-nil r.says.to
+all_to_end (x ∷ rs) r = ap (λ cs. x.says.to ++ cs) (all_to_end rs r) ∙ sym (append_assoc x.says.to (all_to (claims rs)) r.says.to)

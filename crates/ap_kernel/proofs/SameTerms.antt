@@ -5,13 +5,13 @@ use Rattle.ap_term.specs.declared.term.Term.{Term}
 use Rattle.ap_term.specs.Equal.{term_eq}
 use Rattle.ap_term.proofs.Equals.{term_eq-true, term_eq-same}
 use Rattle.ap_world.specs.Names.{equal_name}
+use Rattle.ap_world.specs.Shapes.{Shape, constant, choice, negation, equation, pair, other, head_of, call_shape, shape_of, equal_head}
 use Rattle.ap_world.proofs.Equations.{names_open}
-use Rattle.ap_kernel.specs.declared.shapes.Head.TheVariants as head
+use Rattle.ap_world.proofs.Shaped.{Says, shape_says, shape_call}
 use Rattle.ap_kernel.specs.declared.shapes.ShapeRef.{ShapeRef}
 use Rattle.ap_kernel.specs.declared.shapes.ShapeRef.TheVariants as lent
-use Rattle.ap_kernel.specs.Shapes.{Shape, constant, choice, negation, equation, pair, other, head_of, call_shape, shape_of, seen}
+use Rattle.ap_kernel.specs.Shapes.{seen}
 use Rattle.ap_kernel.specs.Equations.{equal_of}
-use Rattle.ap_kernel.proofs.Shaped.{Says, shape_says, shape_call}
 
 -- two tests are one where each is true with the other
 pub tests_same : (p q : Bool) → (p ≡ true → q ≡ true) → (q ≡ true → p ≡ true) → p ≡ q
@@ -26,7 +26,7 @@ term_eq-is a b h = subst (λ c. term_eq a c ≡ true) h (term_eq-same a)
 pub same_is : (r : Bool) (a b : Term) → (IsTrue r ↔ (a ≡ b)) → r ≡ term_eq a b
 same_is r a b h = tests_same r (term_eq a b) (λ p. term_eq-is a b (h.0 p)) (λ q. h.1 (term_eq-true a b q))
 
-head_equal : head_of equal_name ≡ head.Equal
+head_equal : head_of equal_name ≡ equal_head
 unfolding head_of names_open
 head_equal = refl
 

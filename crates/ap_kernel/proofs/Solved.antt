@@ -17,21 +17,22 @@ use Rattle.ap_world.specs.Primitives.{nil, truth, prim_of}
 use Rattle.ap_world.specs.Meaning.{Env, value_at, Defs, Total}
 use Rattle.ap_world.specs.Clauses.{not_of}
 use Rattle.ap_world.specs.Sound.{known}
+use Rattle.ap_world.specs.Shapes.{Shape, negation, equation, shape_of}
 use Rattle.ap_world.proofs.Knowing.{known_var, known_quote, known_by, known_args, known_head, each_true, true_each}
 use Rattle.ap_world.proofs.TotalMeaning.{Apply, Models, val, values_of, val_var, val_quote, val_call, head_val, replaced, val_subst, AnyTrue}
 use Rattle.ap_world.proofs.Equations.{val_equal, eq-not_nil, t_isnt_nil}
 use Rattle.ap_world.proofs.Starting.{val_not}
-use Rattle.ap_kernel.specs.declared.reductions.Reduction.{Reduction}
+use Rattle.ap_world.proofs.Shaped.{Says, shape_says}
+use Rattle.ap_kernel.specs.declared.reductions.Inference.{Inference}
 use Rattle.ap_kernel.specs.Standing.{HasGround}
-use Rattle.ap_kernel.specs.Shapes.{Shape, negation, equation, shape_of}
 use Rattle.ap_kernel.specs.Equations.{equal_of}
-use Rattle.ap_kernel.specs.Reductions.{KnownClause, Reduces, others}
+use Rattle.ap_kernel.specs.Reductions.{KnownClause, Follows, others}
 use Rattle.ap_kernel.specs.Splits.{and_then}
 use Rattle.ap_kernel.specs.Solving.{occurs, side_solved, left_first, sides_solved, equation_solved, negated_solved, solved_by, replaced_in, solved_made}
-use Rattle.ap_kernel.proofs.Shaped.{Says, shape_says}
 use Rattle.ap_kernel.proofs.Typed.{each_at}
 use Rattle.ap_kernel.proofs.Reduced.{each_put, any_others, any_at, to_one_reduces}
 use Rattle.ap_kernel.proofs.Splitting.{then_some}
+use Rattle.ap_kernel.proofs.OpeningStands.{known_subst}
 
 -- assignments that give each variable the same value give each term the same value
 alike : (A : Apply) (d e : Env) → ((x : Symbol) → value_at d x ≡ value_at e x) → (u : Term) → val A u d ≡ val A u e
@@ -67,37 +68,9 @@ any_replaced A e x by h (t ∷ ts) (inl k) = inl (λ isnil. k (same_replaced A e
 any_replaced A e x by h (t ∷ ts) (inr k) = inr (any_replaced A e x by h ts k)
 
 -- and it is known
-known_replaced : (D : Defs) (x : Symbol) (by : Term) → known D by ≡ true → (u : Term) → known D u ≡ true → known D (subst_of ((x, by) ∷ []) u) ≡ true
-known_replaced D x by kb u k = term_ind Goal variable quoted call u k
-  where
-    s : List (Symbol × Term)
-    s = (x, by) ∷ []
-
-    Goal : Term → Type 0
-    Goal u = known D u ≡ true → known D (subst_of s u) ≡ true
-
-    variable : (y : Symbol) → Goal (Var y)
-    variable y = λ k. rw (fold_var (subst_step s) y) (go (symbol_eq y x))
-      where
-        go : (b : Bool) → known D (unwrap_or (cond b (Some by) None) (Var y)) ≡ true
-        go true = kb
-        go false = known_var D y
-
-    quoted : (q : Value) → Goal (Quote q)
-    quoted q = λ k. rw (fold_quote (subst_step s) q) (known_quote D q)
-
-    args : (ts : List Term) → Each Goal ts → Each (λ u. known D u ≡ true) ts → Each (λ u. known D u ≡ true) (map (subst_of s) ts)
-    args [] es ks = tt
-    args (t ∷ ts) es ks = (es.0 ks.0, args ts es.1 ks.1)
-
-    call : (f : Symbol) (ts : List Term) → Each Goal ts → Goal (Call f ts)
-    call f ts es = λ k. rw (fold_call (subst_step s) f ts)
-        (known_by D f (map (subst_of s) ts) (rw (length-map ts (subst_of s)) (known_head D f ts k))
-        (true_each (known D) (map (subst_of s) ts) (args ts es (each_true (known D) ts (known_args D f ts k)))))
-
 each_replaced : (D : Defs) (x : Symbol) (by : Term) → known D by ≡ true → (ts : List Term) → Each (λ u. known D u ≡ true) ts → Each (λ u. known D u ≡ true) (map (subst_of ((x, by) ∷ [])) ts)
 each_replaced D x by kb [] ks = tt
-each_replaced D x by kb (t ∷ ts) ks = (known_replaced D x by kb t ks.0, each_replaced D x by kb ts ks.1)
+each_replaced D x by kb (t ∷ ts) ks = (known_subst D ((x, by) ∷ []) (kb, tt) t ks.0, each_replaced D x by kb ts ks.1)
 
 -- a side that is solved is a variable, and the other side replaces it
 abbrev SideIs : Term → Term → Symbol × Term → Type 0
@@ -181,14 +154,14 @@ solved_known D u p s k = go s.sides
     go (inl h) = subst (λ w. known D w ≡ true) h.1 ks.1.0
     go (inr h) = subst (λ w. known D w ≡ true) h.1 ks.0
 
-pub solved_reduces : (D : Defs) → Total D → HasGround D → (c : Clause) (i : ℕ) (r : Reduction) → KnownClause D c → solved_made c i ≡ Some r → Reduces D r
+pub solved_reduces : (D : Defs) → Total D → HasGround D → (c : Clause) (i : ℕ) (r : Inference) → KnownClause D c → solved_made c i ≡ Some r → Follows D r
 solved_reduces D total ground c i r k h =
     let (p, solved, made) = then_some (and_then (slice_get c.0 i) solved_by) (λ p. Some (replaced_in c i p)) r h in
     let (u, at, by) = then_some (slice_get c.0 i) solved_by p solved in
     let same : replaced_in c i p ≡ r = cc in
-    subst (Reduces D) {x = replaced_in c i p} same (reduces u p at (solves u p by))
+    subst (Follows D) {x = replaced_in c i p} same (reduces u p at (solves u p by))
   where
-    reduces : (u : Term) (p : Symbol × Term) → slice_get c.0 i ≡ Some u → Solves u p → Reduces D (replaced_in c i p)
+    reduces : (u : Term) (p : Symbol × Term) → slice_get c.0 i ≡ Some u → Solves u p → Follows D (replaced_in c i p)
     reduces u p at s =
         let ku = each_at (λ w. known D w ≡ true) c.0 i u k at in
         to_one_reduces D total c (map (subst_of (p ∷ [])) (others i c.0)) k

@@ -15,20 +15,20 @@ use Rattle.ap_world.specs.Primitives.{nil, prim_of}
 use Rattle.ap_world.specs.Meaning.{Env, Defs, Total}
 use Rattle.ap_world.specs.Clauses.{not_of, negated_part, negate}
 use Rattle.ap_world.specs.Sound.{known}
+use Rattle.ap_world.specs.Shapes.{Shape, choice, negation, head_by, head_of, call_shape, shape_of, if_head, not_head, equal_head, cons_head, other_head}
 use Rattle.ap_world.proofs.Knowing.{known_by, known_args, known_head, each_true, true_each}
 use Rattle.ap_world.proofs.TotalMeaning.{Apply, Models, models, val, values_of, val_call, head_val, AnyTrue, valid_is, valid_of}
 use Rattle.ap_world.proofs.Equations.{names_open, val_if, nil-eq}
 use Rattle.ap_world.proofs.Starting.{val_not}
-use Rattle.ap_kernel.specs.declared.shapes.Head.TheVariants as head
+use Rattle.ap_world.proofs.Shaped.{Says, shape_says}
 use Rattle.ap_kernel.specs.declared.shapes.ShapeRef.{ShapeRef}
 use Rattle.ap_kernel.specs.declared.shapes.ShapeRef.TheVariants as lent
 use Rattle.ap_kernel.specs.Standing.{HasGround}
-use Rattle.ap_kernel.specs.Shapes.{Shape, choice, negation, head_by, head_of, call_shape, shape_of, seen}
-use Rattle.ap_kernel.specs.declared.reductions.Reduction.{Reduction}
+use Rattle.ap_kernel.specs.Shapes.{seen}
+use Rattle.ap_kernel.specs.declared.reductions.Inference.{Inference}
 use Rattle.ap_kernel.specs.Answers.{if_of}
-use Rattle.ap_kernel.specs.Reductions.{KnownClause, Reduces, put_at, others}
+use Rattle.ap_kernel.specs.Reductions.{KnownClause, Follows, put_at, others}
 use Rattle.ap_kernel.specs.Splits.{and_then, argument, part_at, with_argument, with_part, parts_of, choice_at, choice_in, cases_of, literal_split, split_made}
-use Rattle.ap_kernel.proofs.Shaped.{Says, shape_says}
 use Rattle.ap_kernel.proofs.Typed.{each_at}
 use Rattle.ap_kernel.proofs.ChoicesStand.{not_nil, known_not}
 use Rattle.ap_kernel.proofs.Reduced.{each_put, any_put, any_others, any_at}
@@ -49,24 +49,24 @@ by_head f ts u = go (symbol_eq f if_name) (symbol_eq f not_name) (symbol_eq f eq
     no_both : symbol_eq f if_name ≡ true → symbol_eq f not_name ≡ true → ⊥
     no_both p q = let r : symbol_eq if_name not_name ≡ true = subst (λ g. symbol_eq g not_name ≡ true) (symbol_eq-true f if_name p) q in true≢false (sym r ∙ not_if)
 
-    an_if : (ts : List Term) → not_of u ≡ negated_by (call_shape head.If ts) u
+    an_if : (ts : List Term) → not_of u ≡ negated_by (call_shape if_head ts) u
     an_if (a ∷ b ∷ c ∷ []) = refl
     an_if ts = refl
 
-    a_not : (ts : List Term) → negated_part true ts u ≡ negated_by (call_shape head.Not ts) u
+    a_not : (ts : List Term) → negated_part true ts u ≡ negated_by (call_shape not_head ts) u
     a_not [] = refl
     a_not (a ∷ []) = refl
     a_not (a ∷ b ∷ ts) = refl
 
-    an_equal : (ts : List Term) → not_of u ≡ negated_by (call_shape head.Equal ts) u
+    an_equal : (ts : List Term) → not_of u ≡ negated_by (call_shape equal_head ts) u
     an_equal (a ∷ b ∷ []) = refl
     an_equal ts = refl
 
-    a_cons : (ts : List Term) → not_of u ≡ negated_by (call_shape head.Cons ts) u
+    a_cons : (ts : List Term) → not_of u ≡ negated_by (call_shape cons_head ts) u
     a_cons (a ∷ b ∷ []) = refl
     a_cons ts = refl
 
-    another : (ts : List Term) → not_of u ≡ negated_by (call_shape head.Other ts) u
+    another : (ts : List Term) → not_of u ≡ negated_by (call_shape other_head ts) u
     another ts = refl
 
     go : (i n e c : Bool) → symbol_eq f if_name ≡ i → symbol_eq f not_name ≡ n → negated_part n ts u ≡ negated_by (call_shape (head_by i n e c) ts) u
@@ -277,7 +277,7 @@ can_split c i is h none = literal (slice_get c.0 i) refl h none
         let both : None ≡ Some (cases_of c i p.0 v w) = sym none ∙ made in
         absurd (no_value _ both)
       where
-        no_value : (r : Reduction) → None ≡ Some r → ⊥
+        no_value : (r : Inference) → None ≡ Some r → ⊥
         no_value r l = cc
 
     literal : (o : Option Term) → slice_get c.0 i ≡ o → is_some (and_then o (choice_at is)) ≡ true → and_then o (λ u. and_then (choice_at is u) (literal_split c i is u)) ≡ None → ⊥
@@ -285,17 +285,17 @@ can_split c i is h none = literal (slice_get c.0 i) refl h none
     literal (Some u) e h none = cases u (choice_at is u) refl h none
 
 -- the clause is valid where both cases are
-pub split_reduces : (D : Defs) → Total D → HasGround D → (c : Clause) (i : ℕ) (is : List ℕ) (r : Reduction) → KnownClause D c → split_made c i is ≡ Some r → Reduces D r
+pub split_reduces : (D : Defs) → Total D → HasGround D → (c : Clause) (i : ℕ) (is : List ℕ) (r : Inference) → KnownClause D c → split_made c i is ≡ Some r → Follows D r
 split_reduces D total ground c i is r k h =
     let (u, at, by_choice) = then_some (slice_get c.0 i) (λ u. and_then (choice_at is u) (literal_split c i is u)) r h in
     let (p, there, by_parts) = then_some (choice_at is u) (literal_split c i is u) r by_choice in
     let (v, first, by_yes) = then_some (with_part is p.1 u) (λ v. and_then (with_part is p.2 u) (λ w. Some (cases_of c i p.0 v w))) r by_parts in
     let (w, second, made) = then_some (with_part is p.2 u) (λ w. Some (cases_of c i p.0 v w)) r by_yes in
     let same : cases_of c i p.0 v w ≡ r = cc in
-    subst (Reduces D) {x = cases_of c i p.0 v w} same (reduces u p v w at (choice_there is u p there) first second)
+    subst (Follows D) {x = cases_of c i p.0 v w} same (reduces u p v w at (choice_there is u p there) first second)
   where
     reduces : (u : Term) (p : Term × Term × Term) (v w : Term) → slice_get c.0 i ≡ Some u → part_at is u ≡ Some (if_of p.0 p.1 p.2) → with_part is p.1 u ≡ Some v → with_part is p.2 u ≡ Some w
-        → Reduces D (cases_of c i p.0 v w)
+        → Follows D (cases_of c i p.0 v w)
     reduces u p v w at part first second =
         let (A, ms) = models D total in
         let ku = each_get (λ w. known D w ≡ true) c.0 i u at k in

@@ -4,12 +4,16 @@ use Rattle.ap_value.specs.Values.{V}
 use Rattle.ap_term.specs.declared.term.Term.{Term}
 use Rattle.ap_world.specs.Meaning.{Env, Defs, Total}
 use Rattle.ap_world.specs.Sound.{known}
+use Rattle.ap_world.specs.Facts.{KnownFacts, FactsHold}
 use Rattle.ap_world.proofs.TotalMeaning.{Apply, Models, val, val_is, value_is, models}
 use Rattle.ap_kernel.specs.declared.objects.Ctx.{Ctx}
 use Rattle.ap_kernel.specs.declared.objects.Mode.{Mode}
 use Rattle.ap_kernel.specs.declared.objects.Mode.TheVariants.{Equal, Iff}
+use Rattle.ap_world.specs.World.{Shown, function_of}
+use Rattle.ap_kernel.specs.declared.objects.Sequent.{Sequent}
 use Rattle.ap_kernel.specs.declared.objects.Equiv.{Equiv}
-use Rattle.ap_kernel.specs.Standing.{KnownFacts, FactsHold, Same, Stands}
+use Rattle.ap_kernel.specs.Standing.{Same, Holds, Stands}
+use Rattle.ap_kernel.specs.Answers.{refl_made, trans_made, weakened}
 
 pub same_refl : (m : Mode) (v : V) → Same m v v
 same_refl Equal v = refl
@@ -26,10 +30,10 @@ pub same_of : (m : Mode) (v w : V) → v ≡ w → Same m v w
 same_of m v w p = subst (λ x. Same m v x) p (same_refl m v)
 
 -- the sides agree, as values
-abbrev pub Agree : Apply → Equiv → Env → Type 0
+abbrev pub Agree : Apply → Sequent → Env → Type 0
 Agree A q e = Same q.mode (val A q.lhs e) (val A q.rhs e)
 
-pub agree : (D : Defs) (A : Apply) → Models D A → (q : Equiv) → Stands D q → (e : Env) → FactsHold D e q.ctx.0 → Agree A q e
+pub agree : (D : Defs) (A : Apply) → Models D A → (q : Sequent) → Holds D q → (e : Env) → FactsHold D e q.ctx.0 → Agree A q e
 agree D A m q s e k =
     let h = s.same e k in
     let left = value_is D A m q.lhs e h.0 h.2 in
@@ -37,8 +41,8 @@ agree D A m q s e k =
     subst (λ x. Same q.mode x (val A q.rhs e)) left (subst (λ y. Same q.mode h.0 y) right h.4)
 
 -- it stands where its terms are known and its sides agree wherever the facts hold
-pub stand : (D : Defs) (A : Apply) → Models D A → (q : Equiv) → KnownFacts D q.ctx.0 → IsTrue (known D q.lhs) → IsTrue (known D q.rhs)
-    → ((e : Env) → FactsHold D e q.ctx.0 → Agree A q e) → Stands D q
+pub stand : (D : Defs) (A : Apply) → Models D A → (q : Sequent) → KnownFacts D q.ctx.0 → IsTrue (known D q.lhs) → IsTrue (known D q.rhs)
+    → ((e : Env) → FactsHold D e q.ctx.0 → Agree A q e) → Holds D q
 stand D A m q facts left right h = record {
   facts = facts;
   left = left;
@@ -46,25 +50,29 @@ stand D A m q facts left right h = record {
   same = λ e k. (val A q.lhs e, val A q.rhs e, val_is D A m q.lhs left e, val_is D A m q.rhs right e, h e k);
 }
 
+-- an equivalence stands where what it says is known to hold
+pub stands_by : (w : Shown) (q : Equiv) (s : Sequent) → q.says ≡ s → Holds (function_of w.entries) s → Stands w q
+stands_by w q s e h = record { says = subst (Holds (function_of w.entries)) (sym e) h }
+
 pub refl_stands : (D : Defs) → Total D → (c : Ctx) (m : Mode) (u : Term) → KnownFacts D c.0 → IsTrue (known D u)
-    → Stands D (record { ctx = c; mode = m; lhs = u; rhs = u })
+    → Holds D (refl_made c m u)
 refl_stands D total c m u facts k =
     let (A, models) = models D total in
-    stand D A models (record { ctx = c; mode = m; lhs = u; rhs = u }) facts k k (λ e h. same_refl m (val A u e))
+    stand D A models (refl_made c m u) facts k k (λ e h. same_refl m (val A u e))
 
-pub trans_stands : (D : Defs) → Total D → (a b : Equiv) → Stands D a → Stands D b → a.ctx ≡ b.ctx → a.mode ≡ b.mode → a.rhs ≡ b.lhs
-    → Stands D (record { ctx = a.ctx; mode = a.mode; lhs = a.lhs; rhs = b.rhs })
+pub trans_stands : (D : Defs) → Total D → (a b : Sequent) → Holds D a → Holds D b → a.ctx ≡ b.ctx → a.mode ≡ b.mode → a.rhs ≡ b.lhs
+    → Holds D (trans_made a b)
 trans_stands D total a b s r facts mode middle =
     let (A, models) = models D total in
-    stand D A models (record { ctx = a.ctx; mode = a.mode; lhs = a.lhs; rhs = b.rhs }) s.facts s.left r.right
+    stand D A models (trans_made a b) s.facts s.left r.right
     (λ e h. same_trans a.mode (val A a.lhs e) (val A a.rhs e) (val A b.rhs e) (agree D A models a s e h)
     (subst (λ m. Same m (val A a.rhs e) (val A b.rhs e)) (sym mode)
     (subst (λ u. Same b.mode (val A u e) (val A b.rhs e)) (sym middle)
     (agree D A models b r e (subst (λ (c : Ctx). FactsHold D e c.0) facts h)))))
 
-pub weaken_stands : (D : Defs) → Total D → (a : Equiv) → Stands D a → a.mode ≡ Equal
-    → Stands D (record { ctx = a.ctx; mode = Iff; lhs = a.lhs; rhs = a.rhs })
+pub weaken_stands : (D : Defs) → Total D → (a : Sequent) → Holds D a → a.mode ≡ Equal
+    → Holds D (weakened a)
 weaken_stands D total a s mode =
     let (A, models) = models D total in
-    stand D A models (record { ctx = a.ctx; mode = Iff; lhs = a.lhs; rhs = a.rhs }) s.facts s.left s.right
+    stand D A models (weakened a) s.facts s.left s.right
     (λ e h. same_iff (val A a.lhs e) (val A a.rhs e) (subst (λ m. Same m (val A a.lhs e) (val A a.rhs e)) mode (agree D A models a s e h)))

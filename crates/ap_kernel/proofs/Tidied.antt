@@ -10,18 +10,18 @@ use Rattle.ap_term.proofs.Equals.{term_eq-true}
 use Rattle.ap_world.specs.Primitives.{nil}
 use Rattle.ap_world.specs.Meaning.{Env, Defs, Total}
 use Rattle.ap_world.specs.Sound.{known}
+use Rattle.ap_world.specs.Shapes.{Shape, constant, negation, shape_of, is_constant}
 use Rattle.ap_world.proofs.Knowing.{known_quote, true_each}
 use Rattle.ap_world.proofs.TotalMeaning.{Apply, Models, models, val, val_quote, AnyTrue, valid_is, valid_of}
 use Rattle.ap_world.proofs.Equations.{nil-eq, eq-not_nil}
 use Rattle.ap_world.proofs.Starting.{val_not}
+use Rattle.ap_world.proofs.Shaped.{Says, shape_says}
+use Rattle.ap_world.proofs.Assumed.{constant_signed}
 use Rattle.ap_kernel.specs.Standing.{HasGround}
-use Rattle.ap_kernel.specs.Shapes.{Shape, constant, negation, shape_of, is_constant}
 use Rattle.ap_kernel.specs.Equations.{truth_constant}
 use Rattle.ap_kernel.specs.Choices.{bare}
-use Rattle.ap_kernel.specs.Reductions.{KnownClause, Reduces}
+use Rattle.ap_kernel.specs.Reductions.{KnownClause, Follows}
 use Rattle.ap_kernel.specs.Tidying.{negated_bare, plain, kept, tidied, is_opposed, decides, any_decides, holds_by_itself, tidy_made}
-use Rattle.ap_kernel.proofs.Shaped.{Says, shape_says}
-use Rattle.ap_kernel.proofs.Assumed.{constant_signed}
 use Rattle.ap_kernel.proofs.EquationsStand.{val_truth_constant}
 use Rattle.ap_kernel.proofs.ChoicesStand.{bare_known, turned_by, bare_turns, not_nil, known_not}
 
@@ -151,10 +151,10 @@ module _ (D : Defs) (A : Apply) (ms : Models D A) (ground : HasGround D) (e : En
       go (inl k) = k
       go (inr k) = k
 
-pub tidy_reduces : (D : Defs) → Total D → HasGround D → (c : Clause) → KnownClause D c → Reduces D (tidy_made c)
+pub tidy_reduces : (D : Defs) → Total D → HasGround D → (c : Clause) → KnownClause D c → Follows D (tidy_made c)
 tidy_reduces D total ground c k = go (holds_by_itself (tidied c.0)) refl
   where
-    go : (b : Bool) → holds_by_itself (tidied c.0) ≡ b → Reduces D (record { from = c; to = cond b [] (record { 0 = tidied c.0 } ∷ []) })
+    go : (b : Bool) → holds_by_itself (tidied c.0) ≡ b → Follows D (record { from = c; to = cond b [] (record { 0 = tidied c.0 } ∷ []) })
     go true q =
         let (A, ms) = models D total in
         record { start = k; goals = tt; valid = λ h. valid_of D A ms c.0 (true_each (known D) c.0 k) (λ e. any_tidied D A ms ground e c.0 (holds_true D A ms ground e (tidied c.0) q)) }

@@ -1,8 +1,7 @@
 -- A mask that leaves one value, or excludes nil, and a fact: what they lead to.
-use Rattle.std.proofs.Common.{◌≡◌, ◌≢◌, ◌↔◌, ℕ, zero, suc, Bool, true, false, cond, not, ◌&&◌, ◌||◌, IsTrue, List, [], ◌∷◌, Some, None, slice_get, pos, negsuc, refl, ap, sym, ◌∙◌, subst, eqb-true, arith, min}
+use Rattle.std.proofs.Common.{◌≡◌, ◌≢◌, ◌↔◌, ℕ, zero, suc, Bool, true, false, cond, not, ◌&&◌, ◌||◌, IsTrue, List, [], ◌∷◌, Some, None, slice_get, pos, negsuc, refl, ap, sym, ◌∙◌, subst, eqb-true}
 use Rattle.std.specs.Int.{bit_at}
 use Rattle.std.specs.Int.Bits.{bit_and}
-use Rattle.std.proofs.lemmas.Nat.Bits.{bit_at_and, bit_at-zero}
 use Rattle.ap_list.specs.Lists.{Each}
 use Rattle.ap_value.specs.declared.value.Value.{Value}
 use Rattle.ap_value.specs.Values.{V, int, chr, str, sym as symbol, cons, val_of, value_eq}
@@ -13,23 +12,19 @@ use Rattle.ap_world.specs.Primitives.{nil, t}
 use Rattle.ap_world.specs.Meaning.{Env, Defs, Total, FactHolds}
 use Rattle.ap_world.specs.Types.{is_true_list, type_of, Has}
 use Rattle.ap_world.specs.Sound.{known}
+use Rattle.ap_world.specs.Facts.{KnownFacts, FactsHold}
 use Rattle.ap_world.proofs.Knowing.{known_quote}
 use Rattle.ap_world.proofs.TotalMeaning.{Apply, Models, models, val, val_is, val_quote}
 use Rattle.ap_world.proofs.Equations.{val_of_nil, val_of_t, eq-not_nil, t_isnt_nil, names_open}
 use Rattle.ap_world.proofs.Starting.{has_all}
+use Rattle.ap_world.proofs.Assumed.{fact_says}
+use Rattle.ap_world.proofs.Sets.{apart}
 use Rattle.ap_kernel.specs.declared.objects.Ctx.{Ctx}
 use Rattle.ap_kernel.specs.declared.objects.Mode.TheVariants.{Equal, Iff}
-use Rattle.ap_kernel.specs.Standing.{KnownFacts, FactsHold, Same, Stands}
+use Rattle.ap_kernel.specs.Standing.{Same, Holds}
 use Rattle.ap_kernel.specs.Masks.{MaskHolds, others, has_only, lacks_nil, leads_to, typed_mode, typed_made}
 use Rattle.ap_kernel.specs.Answers.{fact_made}
 use Rattle.ap_kernel.proofs.Standing.{stand}
-use Rattle.ap_kernel.proofs.Assumed.{fact_says}
-
--- two masks that share no type
-pub apart : (m o i : ℕ) → bit_and m o ≡ 0 → bit_at m i ≡ 1 → bit_at o i ≡ 1 → ⊥
-apart m o i h k l =
-    let e : min (bit_at m i) (bit_at o i) ≡ 0 = sym (bit_at_and m o i) ∙ ap (λ n. bit_at n i) h ∙ bit_at-zero i in
-    absurd (omega arith)
 
 nil_type : type_of nil ≡ 3
 unfolding nil value_eq names_open
@@ -132,7 +127,7 @@ lacks_says k w h has e =
     apart k.0 8 3 (eqb-true (bit_and k.0 8) 0 h) three refl
 
 pub typed_stands : (D : Defs) → Total D → (c : Ctx) (u : Term) (k : Mask) (v : Value) → KnownFacts D c.0 → known D u ≡ true → MaskHolds D c.0 u k
-    → leads_to k (val_of v) ≡ true → Stands D (typed_made c u k v)
+    → leads_to k (val_of v) ≡ true → Holds D (typed_made c u k v)
 typed_stands D total c u k v facts u_known holds leads =
     let (A, ms) = models D total in
     stand D A ms (typed_made c u k v) facts u_known (known_quote D v) (λ e h. agrees A ms e h)
@@ -160,14 +155,14 @@ each_at P [] i x ps h = absurd (no h)
 each_at P (y ∷ ys) zero x ps h = let same : y ≡ x = cc in subst P same ps.0
 each_at P (y ∷ ys) (suc i) x ps h = each_at P ys i x ps.1 h
 
-pub fact_stands : (D : Defs) → Total D → (c : Ctx) (i : ℕ) (u : Term) (s : Bool) → KnownFacts D c.0 → slice_get c.0 i ≡ Some (u, s) → Stands D (fact_made c u s)
+pub fact_stands : (D : Defs) → Total D → (c : Ctx) (i : ℕ) (u : Term) (s : Bool) → KnownFacts D c.0 → slice_get c.0 i ≡ Some (u, s) → Holds D (fact_made c u s)
 fact_stands D total c i u s facts at =
     let (A, ms) = models D total in go A ms s at
   where
     u_known : known D u ≡ true
     u_known = each_at (λ (f : Term × Bool). known D f.0 ≡ true) c.0 i (u, s) facts at
 
-    go : (A : Apply) → Models D A → (s : Bool) → slice_get c.0 i ≡ Some (u, s) → Stands D (fact_made c u s)
+    go : (A : Apply) → Models D A → (s : Bool) → slice_get c.0 i ≡ Some (u, s) → Holds D (fact_made c u s)
     go A ms true at = stand D A ms (fact_made c u true) facts u_known (known_quote D _)
         (λ e h. let is_t = val_quote A _ e ∙ val_of_t in
         (λ z. absurd (fact_says D A ms e u true (each_at (FactHolds D e) c.0 i (u, true) h at) z), λ z. absurd (t_isnt_nil (sym is_t ∙ z))))

@@ -7,14 +7,14 @@ use Rattle.ap_term.specs.Equal.{term_eq}
 use Rattle.ap_world.specs.declared.entry.Mask.{Mask}
 use Rattle.ap_world.specs.Primitives.{nil, t}
 use Rattle.ap_world.specs.Clauses.{not_of}
+use Rattle.ap_world.specs.Shapes.{Shape, constant, choice, negation, layer_shape, shape_of, is_constant}
+use Rattle.ap_world.specs.Assume.{whole}
 use Rattle.ap_kernel.specs.declared.objects.Ctx.{Ctx}
 use Rattle.ap_kernel.specs.declared.objects.Mode.{Mode}
 use Rattle.ap_kernel.specs.declared.objects.Mode.TheVariants.{Equal, Iff}
-use Rattle.ap_kernel.specs.declared.objects.Equiv.{Equiv}
+use Rattle.ap_kernel.specs.declared.objects.Sequent.{Sequent}
 use Rattle.ap_kernel.specs.declared.choices.Chosen.{Chosen}
 use Rattle.ap_kernel.specs.declared.choices.Chosen.TheVariants as lent
-use Rattle.ap_kernel.specs.Shapes.{Shape, constant, choice, negation, layer_shape, shape_of, is_constant}
-use Rattle.ap_kernel.specs.Assume.{whole}
 use Rattle.ap_kernel.specs.Answers.{if_of}
 
 -- a term without the calls of `not` around it, and whether their number is odd
@@ -78,7 +78,7 @@ abbrev pub is_choice : Shape Term → Bool
 is_choice (choice a b c) = true
 is_choice y = false
 
-abbrev pub choice_made : Ctx → Mode → Term → Mask → Equiv
+abbrev pub choice_made : Ctx → Mode → Term → Mask → Sequent
 choice_made c o u m = record { ctx = c; mode = o; lhs = u; rhs = choice_leads (is_truth o m) u (shape_of u) }
 
 -- where it leads, as it is lent

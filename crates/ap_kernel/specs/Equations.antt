@@ -7,15 +7,15 @@ use Rattle.ap_term.specs.declared.term.Term.{Term, Quote, Call}
 use Rattle.ap_term.specs.Equal.{term_eq}
 use Rattle.ap_world.specs.Names.{equal_name}
 use Rattle.ap_world.specs.Recursion.{nil_constant, t_constant}
+use Rattle.ap_world.specs.Facts.{Facts}
+use Rattle.ap_world.specs.Shapes.{Shape, constant, equation, pair, shape_of}
 use Rattle.ap_kernel.specs.declared.objects.Ctx.{Ctx}
 use Rattle.ap_kernel.specs.declared.objects.Mode.TheVariants.{Equal}
-use Rattle.ap_kernel.specs.declared.objects.Equiv.{Equiv}
+use Rattle.ap_kernel.specs.declared.objects.Sequent.{Sequent}
 use Rattle.ap_kernel.specs.declared.equations.Parts.{Parts}
 use Rattle.ap_kernel.specs.declared.equations.Parts.TheVariants as part
 use Rattle.ap_kernel.specs.declared.equations.Leads.{Leads}
 use Rattle.ap_kernel.specs.declared.equations.Leads.TheVariants as lead
-use Rattle.ap_kernel.specs.Standing.{Facts}
-use Rattle.ap_kernel.specs.Shapes.{Shape, constant, equation, pair, shape_of}
 use Rattle.ap_kernel.specs.Answers.{if_of}
 
 -- (equal a b)
@@ -67,7 +67,7 @@ shape_leads fs y = None
 abbrev pub equation_leads : Facts → Term → Option Term
 equation_leads fs u = shape_leads fs (shape_of u)
 
-abbrev pub equation_made : Ctx → Term → Term → Equiv
+abbrev pub equation_made : Ctx → Term → Term → Sequent
 equation_made c u r = record { ctx = c; mode = Equal; lhs = u; rhs = r }
 
 -- the parts that are lent

@@ -3,8 +3,9 @@ use Rattle.std.specs.Prelude.{◌≡◌, Bool, true}
 use Rattle.ap_term.specs.declared.term.Term.{Term}
 use Rattle.ap_world.specs.Meaning.{Env, Defs, Total, FactHolds}
 use Rattle.ap_world.specs.Sound.{known}
-use Rattle.ap_kernel.specs.Standing.{Facts, HasGround, KnownFacts, FactsHold}
-use Rattle.ap_kernel.specs.Assume.{assume}
+use Rattle.ap_world.specs.Facts.{Facts, KnownFacts, FactsHold}
+use Rattle.ap_world.specs.Assume.{assume}
+use Rattle.ap_kernel.specs.Standing.{HasGround}
 
 -- what is assumed of a known term in known facts is known
 abbrev pub AssumedIsKnown : Type 0

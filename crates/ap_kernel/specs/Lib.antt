@@ -9,4 +9,5 @@ pub mod Reductions
 pub mod Splits
 pub mod Tidying
 pub mod Solving
+pub mod Opening
 pub mod Laws

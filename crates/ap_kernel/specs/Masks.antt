@@ -8,11 +8,11 @@ use Rattle.ap_world.specs.declared.entry.Mask.{Mask}
 use Rattle.ap_world.specs.Primitives.{nil, t}
 use Rattle.ap_world.specs.Meaning.{Env, Defs, HasValue}
 use Rattle.ap_world.specs.Types.{Has}
+use Rattle.ap_world.specs.Facts.{Facts, FactsHold}
 use Rattle.ap_kernel.specs.declared.objects.Ctx.{Ctx}
 use Rattle.ap_kernel.specs.declared.objects.Mode.{Mode}
 use Rattle.ap_kernel.specs.declared.objects.Mode.TheVariants.{Equal, Iff}
-use Rattle.ap_kernel.specs.declared.objects.Equiv.{Equiv}
-use Rattle.ap_kernel.specs.Standing.{Facts, FactsHold}
+use Rattle.ap_kernel.specs.declared.objects.Sequent.{Sequent}
 
 -- wherever the facts hold, the type of the term's value is in the mask
 abbrev pub MaskHolds : Defs → Facts → Term → Mask → Type 0
@@ -38,7 +38,7 @@ leads_to m v = has_only m v || (not (value_eq v nil) && lacks_nil m)
 abbrev pub typed_mode : Mask → V → Mode
 typed_mode m v = cond (has_only m v) Equal Iff
 
-abbrev pub typed_made : Ctx → Term → Mask → Value → Equiv
+abbrev pub typed_made : Ctx → Term → Mask → Value → Sequent
 typed_made c u m v = record { ctx = c; mode = typed_mode m (val_of v); lhs = u; rhs = Quote v }
 
 -- a call of this function on one argument

@@ -1,48 +1,18 @@
--- A term by what its head is, of those that the kernel looks at.
-use Rattle.std.specs.Prelude.{Bool, true, false, cond, not, List, [], ◌∷◌}
-use Rattle.ap_value.specs.declared.symbol.Symbol.{Symbol}
-use Rattle.ap_value.specs.declared.value.Value.{Value}
-use Rattle.ap_value.specs.Values.{val_of, symbol_eq, value_eq}
-use Rattle.ap_term.specs.declared.term.Term.{Term, out-Term}
-use Rattle.ap_term.specs.declared.term.Term.TheOpen.{Term-F}
-use Rattle.ap_world.specs.Names.{if_name, not_name, equal_name, cons_name}
-use Rattle.ap_world.specs.Primitives.{nil}
-use Rattle.ap_kernel.specs.declared.shapes.Head.{Head}
+-- What is lent of a term's shape, and what a head is, as the program has it.
+use Rattle.ap_term.specs.declared.term.Term.{Term}
+use Rattle.ap_world.specs.Shapes.{Shape, constant, choice, negation, equation, pair, other, Head, if_head, not_head, equal_head, cons_head, other_head}
+use Rattle.ap_kernel.specs.declared.shapes.Head.{Head as Owned}
 use Rattle.ap_kernel.specs.declared.shapes.Head.TheVariants as head
 use Rattle.ap_kernel.specs.declared.shapes.ShapeRef.{ShapeRef}
 use Rattle.ap_kernel.specs.declared.shapes.ShapeRef.TheVariants as lent
 
--- a constant, (if a b c), (not a), (equal a b), (cons a b), or another term
-pub data Shape (A : Type 0) : Type 0 where
-  constant : Value → Shape A
-  choice : A → A → A → Shape A
-  negation : A → Shape A
-  equation : A → A → Shape A
-  pair : A → A → Shape A
-  other : Shape A
-
--- what a head is
-abbrev pub head_by : Bool → Bool → Bool → Bool → Head
-head_by i n e c = cond i head.If (cond n head.Not (cond e head.Equal (cond c head.Cons head.Other)))
-
-unfoldable pub head_of : Symbol → Head
-head_of f = head_by (symbol_eq f if_name) (symbol_eq f not_name) (symbol_eq f equal_name) (symbol_eq f cons_name)
-
--- a call by its head, where it has the head's number of arguments
-abbrev pub call_shape : {A : Type 0} → Head → List A → Shape A
-call_shape head.If (a ∷ b ∷ c ∷ []) = choice a b c
-call_shape head.Not (a ∷ []) = negation a
-call_shape head.Equal (a ∷ b ∷ []) = equation a b
-call_shape head.Cons (a ∷ b ∷ []) = pair a b
-call_shape h ts = other
-
-abbrev pub layer_shape : {A : Type 0} → Term-F A → Shape A
-layer_shape (Term-F.Var x) = other
-layer_shape (Term-F.Quote v) = constant v
-layer_shape (Term-F.Call f ts) = call_shape (head_of f) ts
-
-abbrev pub shape_of : Term → Shape Term
-shape_of u = layer_shape (out-Term u)
+-- a head
+abbrev pub seen_head : Owned → Head
+seen_head head.If = if_head
+seen_head head.Not = not_head
+seen_head head.Equal = equal_head
+seen_head head.Cons = cons_head
+seen_head head.Other = other_head
 
 -- the shape that is lent
 abbrev pub seen : ShapeRef → Shape Term
@@ -52,12 +22,3 @@ seen (lent.Not a) = negation a.now
 seen (lent.Equal a b) = equation a.now b.now
 seen (lent.Cons a b) = pair a.now b.now
 seen lent.Other = other
-
--- a constant that means something else than nil, where the sign is true, or nil, where it is false
-abbrev pub constant_says : Bool → Shape Term → Bool
-constant_says true (constant v) = not (value_eq (val_of v) nil)
-constant_says false (constant v) = value_eq (val_of v) nil
-constant_says s y = false
-
-abbrev pub is_constant : Bool → Term → Bool
-is_constant s u = constant_says s (shape_of u)

@@ -6,8 +6,8 @@ use Rattle.ap_term.specs.declared.term.Term.{Term, fold-Term, out-Term}
 use Rattle.ap_term.specs.declared.term.Term.TheOpen.{Term-F}
 use Rattle.ap_term.specs.declared.term.Clause.{Clause}
 use Rattle.ap_term.specs.Terms.{subst_of}
-use Rattle.ap_kernel.specs.declared.reductions.Reduction.{Reduction}
-use Rattle.ap_kernel.specs.Shapes.{Shape, negation, equation, shape_of}
+use Rattle.ap_world.specs.Shapes.{Shape, negation, equation, shape_of}
+use Rattle.ap_kernel.specs.declared.reductions.Inference.{Inference}
 use Rattle.ap_kernel.specs.Reductions.{others, to_one}
 use Rattle.ap_kernel.specs.Splits.{and_then}
 
@@ -50,8 +50,8 @@ abbrev pub solved_by : Term → Option (Symbol × Term)
 solved_by u = negated_solved (shape_of u)
 
 -- the variable replaced in the other literals
-abbrev pub replaced_in : Clause → ℕ → Symbol × Term → Reduction
+abbrev pub replaced_in : Clause → ℕ → Symbol × Term → Inference
 replaced_in c i p = to_one c (map (subst_of (p ∷ [])) (others i c.0))
 
-abbrev pub solved_made : Clause → ℕ → Option Reduction
+abbrev pub solved_made : Clause → ℕ → Option Inference
 solved_made c i = and_then (and_then (slice_get c.0 i) solved_by) (λ p. Some (replaced_in c i p))

@@ -4,8 +4,8 @@ use Rattle.ap_term.specs.declared.term.Term.{Term, out-Term, Call}
 use Rattle.ap_term.specs.declared.term.Term.TheOpen.{Term-F}
 use Rattle.ap_term.specs.declared.term.Clause.{Clause}
 use Rattle.ap_world.specs.Clauses.{negate}
-use Rattle.ap_kernel.specs.declared.reductions.Reduction.{Reduction}
-use Rattle.ap_kernel.specs.Shapes.{Shape, choice, shape_of}
+use Rattle.ap_world.specs.Shapes.{Shape, choice, shape_of}
+use Rattle.ap_kernel.specs.declared.reductions.Inference.{Inference}
 use Rattle.ap_kernel.specs.Reductions.{put_at}
 
 -- what there is, handed on
@@ -47,11 +47,11 @@ choice_in c i is = and_then (slice_get c.0 i) (choice_at is)
 
 -- the clause with the test's negation before the literal and the first branch in the place of the `if`,
 -- and the clause with the test before it and the second branch there
-abbrev pub cases_of : Clause → ℕ → Term → Term → Term → Reduction
+abbrev pub cases_of : Clause → ℕ → Term → Term → Term → Inference
 cases_of c i a v w = record { from = c; to = record { 0 = put_at i (negate a ∷ v ∷ []) c.0 } ∷ record { 0 = put_at i (a ∷ w ∷ []) c.0 } ∷ [] }
 
-abbrev pub literal_split : Clause → ℕ → List ℕ → Term → Term × Term × Term → Option Reduction
+abbrev pub literal_split : Clause → ℕ → List ℕ → Term → Term × Term × Term → Option Inference
 literal_split c i is u p = and_then (with_part is p.1 u) (λ v. and_then (with_part is p.2 u) (λ w. Some (cases_of c i p.0 v w)))
 
-abbrev pub split_made : Clause → ℕ → List ℕ → Option Reduction
+abbrev pub split_made : Clause → ℕ → List ℕ → Option Inference
 split_made c i is = and_then (slice_get c.0 i) (λ u. and_then (choice_at is u) (literal_split c i is u))

@@ -1,32 +1,21 @@
--- When an equivalence stands in a world: wherever its facts hold, its two sides have values that agree.
-use Rattle.std.specs.Prelude.{◌≡◌, ◌↔◌, Bool, IsTrue, List}
-use Rattle.ap_list.specs.Lists.{Each}
+-- When a sequent holds in a world: wherever its facts hold, its two sides have values that agree.
+use Rattle.std.specs.Prelude.{◌≡◌, ◌↔◌, IsTrue, Some}
 use Rattle.ap_value.specs.Values.{V}
 use Rattle.ap_term.specs.declared.term.Term.{Term}
 use Rattle.ap_world.specs.Names.{not_name}
 use Rattle.ap_world.specs.Primitives.{nil}
-use Rattle.ap_world.specs.Meaning.{Env, Defs, HasValue, FactHolds}
+use Rattle.ap_world.specs.Meaning.{Env, Defs, HasValue}
 use Rattle.ap_world.specs.Sound.{known, not_function}
+use Rattle.ap_world.specs.World.{Shown, function_of}
+use Rattle.ap_world.specs.Facts.{KnownFacts, FactsHold}
 use Rattle.ap_kernel.specs.declared.objects.Mode.{Mode}
 use Rattle.ap_kernel.specs.declared.objects.Mode.TheVariants.{Equal, Iff}
+use Rattle.ap_kernel.specs.declared.objects.Sequent.{Sequent}
 use Rattle.ap_kernel.specs.declared.objects.Equiv.{Equiv}
-use Rattle.std.specs.Prelude.{Some}
-
--- terms, each assumed other than nil or to be nil
-abbrev pub Facts : Type 0
-Facts = List (Term × Bool)
 
 -- the world has the functions of the ground world: for now `not`, as it is given
 abbrev pub HasGround : Defs → Type 0
 HasGround D = D not_name ≡ Some not_function
-
--- each fact's term is a term of the world
-abbrev pub KnownFacts : Defs → Facts → Type 0
-KnownFacts D fs = Each (λ f. IsTrue (known D f.0)) fs
-
--- under an assignment every fact holds
-abbrev pub FactsHold : Defs → Env → Facts → Type 0
-FactsHold D e fs = Each (FactHolds D e) fs
 
 -- two values are equal, or both nil or both not
 abbrev pub Same : Mode → V → V → Type 0
@@ -38,8 +27,12 @@ abbrev pub SameValue : Defs → Env → Mode → Term → Term → Type 0
 SameValue D e m s u = (v : V) × (w : V) × HasValue D s e v × HasValue D u e w × Same m v w
 
 -- its terms are terms of the world, and its sides have the same value wherever its facts hold
-pub record Stands (D : Defs) (q : Equiv) : Type 0 where
-  pub facts : KnownFacts D q.ctx.0
-  pub left : IsTrue (known D q.lhs)
-  pub right : IsTrue (known D q.rhs)
-  pub same : (e : Env) → FactsHold D e q.ctx.0 → SameValue D e q.mode q.lhs q.rhs
+pub record Holds (D : Defs) (s : Sequent) : Type 0 where
+  pub facts : KnownFacts D s.ctx.0
+  pub left : IsTrue (known D s.lhs)
+  pub right : IsTrue (known D s.rhs)
+  pub same : (e : Env) → FactsHold D e s.ctx.0 → SameValue D e s.mode s.lhs s.rhs
+
+-- an equivalence stands in a world where what it says holds there
+pub record Stands (w : Shown) (q : Equiv) : Type 0 where
+  pub says : Holds (function_of w.entries) q.says

@@ -7,8 +7,8 @@ use Rattle.ap_term.specs.declared.term.Clause.{Clause}
 use Rattle.ap_term.specs.Equal.{term_eq}
 use Rattle.ap_world.specs.Primitives.{nil}
 use Rattle.ap_world.specs.Clauses.{not_of}
-use Rattle.ap_kernel.specs.declared.reductions.Reduction.{Reduction}
-use Rattle.ap_kernel.specs.Shapes.{Shape, constant, negation, shape_of, is_constant}
+use Rattle.ap_world.specs.Shapes.{Shape, constant, negation, shape_of, is_constant}
+use Rattle.ap_kernel.specs.declared.reductions.Inference.{Inference}
 use Rattle.ap_kernel.specs.Equations.{truth_constant}
 use Rattle.ap_kernel.specs.Choices.{bare}
 
@@ -53,5 +53,5 @@ holds_by_itself ts = any_decides ts ts
 abbrev pub tidy_goals : List Term → List Clause
 tidy_goals ts = cond (holds_by_itself ts) [] (record { 0 = ts } ∷ [])
 
-abbrev pub tidy_made : Clause → Reduction
+abbrev pub tidy_made : Clause → Inference
 tidy_made c = record { from = c; to = tidy_goals (tidied c.0) }

@@ -1,9 +1,11 @@
-ghost use Rattle.std.specs.Prelude.{◌≡◌, ◌++◌, ◌<◌, IfOk, OnOk, not};
+ghost use Rattle.std.specs.Prelude.{◌≡◌, ◌++◌, ◌<◌, IfOk, OnOk, length, not};
 ghost use Rattle.ap_list.specs.Lists.{Each};
 ghost use Rattle.ap_term.specs.Terms.{term_size};
-ghost use Rattle.ap_kernel.specs.Shapes.{shape_of, choice, is_constant};
+ghost use Rattle.ap_world.specs.Shapes.{shape_of, choice, is_constant};
 ghost use Rattle.ap_kernel.specs.Laws.{AssumedIsKnown, AssumedHolds};
-ghost use Rattle.ap_kernel.specs.Assume.{parts, assumed, assume, seen_halves};
+ghost use Rattle.ap_world.specs.Assume.{parts, assumed, assume};
+ghost use Rattle.ap_kernel.specs.Assume.{seen_halves};
+ghost use Rattle.ap_kernel.specs.Reductions.{others, all_false};
 
 use crate::constants::is_nil;
 use crate::objects::Ctx;
@@ -22,7 +24,7 @@ enum Halves<'a> {
 
 /// Whether a term is a constant that means something else than `nil`, where the sign is true, or `nil`,
 /// where it is false.
-pub(crate) fn is_constant(sign: bool, t: &Term) -> bool
+pub fn is_constant(sign: bool, t: &Term) -> bool
     ensures { result ≡ is_constant sign t.now }
 {
     match shape_of(t) {
@@ -98,6 +100,38 @@ pub fn assume(alloc: Global, ctx: &Ctx, t: &Term, sign: bool) -> Result<Ctx, NoM
     let mut facts = copy_facts(alloc, ctx.facts())?;
     push_assumed(alloc, &mut facts, t, sign)?;
     Ctx::new(alloc, facts)
+}
+
+/// Adds the facts that each of some terms is `nil`, in their order.
+fn push_false(alloc: Global, facts: &mut Seq<(Term, bool)>, ts: &[Term]) -> Result<(), NoMemory>
+    ensures { OnOk result (facts.new ≡ facts.old ++ all_false ts.now) }
+{
+    for t in ts {
+        push_assumed(alloc, facts, t, false)?;
+    }
+    Ok(())
+}
+
+/// The facts that each of some terms is `nil`, in their order: what is assumed where a clause of them fails.
+pub fn all_false(alloc: Global, ts: &[Term]) -> Result<Ctx, NoMemory>
+    ensures { IfOk result (λ c. c.0 ≡ all_false ts.now) }
+{
+    let mut facts = Seq::new(alloc);
+    push_false(alloc, &mut facts, ts)?;
+    Ctx::new(alloc, facts)
+}
+
+/// The facts that each of a clause's literals but the one at a place is `nil`, in clause order: those under
+/// which [`rewrite_literal`](crate::rewrite_literal) takes that literal. The time is linear in the literals.
+pub fn others_false(alloc: Global, literals: &[Term], place: usize) -> Result<Ctx, NoMemory>
+    requires { place < length literals.now }
+    ensures { IfOk result (λ c. c.0 ≡ all_false (others place literals.now)) }
+{
+    let mut facts = Seq::new(alloc);
+    push_false(alloc, &mut facts, &literals[..place])?;
+    push_false(alloc, &mut facts, &literals[place + 1..])?;
+    let ctx = Ctx::new(alloc, facts)?;
+    Ok(ctx)
 }
 
 /// What is assumed of a known term is known, and where the term has the sign's truth, and the facts of the

@@ -3,9 +3,10 @@ ghost use Rattle.ap_list.specs.Lists.{Each};
 ghost use Rattle.ap_world.specs.Primitives.{prim_of};
 ghost use Rattle.ap_world.specs.Sound.{known, is_head};
 ghost use Rattle.ap_world.specs.World.{function_of};
-ghost use Rattle.ap_kernel.specs.Standing.{HasGround, KnownFacts, Stands};
-ghost use Rattle.ap_kernel.specs.Assume.{assume};
-ghost use Rattle.ap_kernel.specs.Answers.{if_of, branch_made, IsArgument, lefts, rights, cong_made, turned};
+ghost use Rattle.ap_world.specs.Facts.{KnownFacts};
+ghost use Rattle.ap_world.specs.Assume.{assume};
+ghost use Rattle.ap_kernel.specs.Standing.{HasGround, Stands};
+ghost use Rattle.ap_kernel.specs.Answers.{if_of, branch_made, IsArgument, said, lefts, rights, cong_made};
 
 use crate::constants::if_symbol;
 use crate::objects::{Ctx, Equiv, Mode};
@@ -15,41 +16,19 @@ use ap_value::{Symbol, copy_symbol};
 use ap_world::World;
 use std::alloc::Global;
 
-/// The list, last first. The elements are moved.
-fn last_first(alloc: Global, args: Seq<Equiv>) -> Result<Seq<Equiv>, NoMemory>
-    ensures { IfOk result (λ out. out ≡ turned args) }
-{
-    let mut rest = args;
-    let mut out = Seq::new(alloc);
-    while let Some(q) = rest.pop() {
-        out.push(q)?;
-    }
-    Ok(out)
-}
-
-/// The left sides and the right sides, of a list that is handed in last first. The terms are moved.
+/// The left sides and the right sides, in order. The terms are moved.
 fn sides(alloc: Global, args: Seq<Equiv>) -> Result<(Seq<Term>, Seq<Term>), NoMemory>
-    ensures left { IfOk result (λ p. p.0 ≡ lefts (turned args)) }
-    ensures right { IfOk result (λ p. p.1 ≡ rights (turned args)) }
+    ensures left { IfOk result (λ p. p.0 ≡ lefts (said args)) }
+    ensures right { IfOk result (λ p. p.1 ≡ rights (said args)) }
 {
-    let mut rest = args;
     let mut left = Seq::new(alloc);
     let mut right = Seq::new(alloc);
-    while let Some(q) = rest.pop() {
+    for q in args.into_vec() {
         let (_, _, lhs, rhs) = q.into_parts();
         left.push(lhs)?;
         right.push(rhs)?;
     }
     Ok((left, right))
-}
-
-/// The left sides and the right sides, in order. The terms are moved.
-fn split(alloc: Global, args: Seq<Equiv>) -> Result<(Seq<Term>, Seq<Term>), NoMemory>
-    ensures left { IfOk result (λ p. p.0 ≡ lefts args) }
-    ensures right { IfOk result (λ p. p.1 ≡ rights args) }
-{
-    let reversed = last_first(alloc, args)?;
-    sides(alloc, reversed)
 }
 
 /// From a call of `f` to the call on what its arguments lead to, under equality. Each argument leads under
@@ -65,26 +44,26 @@ pub fn cong(
     requires ground { HasGround (function_of w.now.entries) }
     requires facts { KnownFacts (function_of w.now.entries) ctx.now.0 }
     requires head { IsTrue (is_head (function_of w.now.entries) f.now (prim_of f.now) (length args)) }
-    requires args { Each (IsArgument (function_of w.now.entries) ctx.now f.now) args }
-    ensures stands { IfOk result (λ q. Stands (function_of w.now.entries) q) }
-    ensures made { IfOk result (λ q. q ≡ cong_made ctx.now f.now args) }
+    requires args { Each (IsArgument w.now ctx.now f.now) args }
+    ensures stands { IfOk result (λ q. Stands w.now q) }
+    ensures made { IfOk result (λ q. q.says ≡ cong_made ctx.now f.now (said args)) }
 {
     w.is_sound();
-    let (left, right) = split(alloc, args)?;
-    let lhs = Term::Call(copy_symbol(alloc, f)?, left);
-    let rhs = Term::Call(copy_symbol(alloc, f)?, right);
+    let (left, right) = sides(alloc, args)?;
+    let lhs = Term::call(alloc, copy_symbol(alloc, f)?, left)?;
+    let rhs = Term::call(alloc, copy_symbol(alloc, f)?, right)?;
     Ok(Equiv::made(ctx.share()?, Mode::Equal, lhs, rhs))
 }
 
 /// `(if a b c)`
-pub(crate) fn if_term(alloc: Global, a: Term, b: Term, c: Term) -> Result<Term, NoMemory>
+pub fn if_term(alloc: Global, a: Term, b: Term, c: Term) -> Result<Term, NoMemory>
     ensures { IfOk result (λ u. u ≡ if_of a b c) }
 {
     let mut parts = Seq::new(alloc);
     parts.push(a)?;
     parts.push(b)?;
     parts.push(c)?;
-    Ok(Term::Call(if_symbol(alloc)?, parts))
+    Term::call(alloc, if_symbol(alloc)?, parts)
 }
 
 /// From an `if` to the `if` of what its parts lead to. The branches lead under what the new test's truth
@@ -97,16 +76,16 @@ pub fn branch(
     yes: Equiv,
     no: Equiv,
 ) -> Result<Equiv, NoMemory>
-    requires test { Stands (function_of w.now.entries) test }
-    requires yes { Stands (function_of w.now.entries) yes }
-    requires no { Stands (function_of w.now.entries) no }
+    requires test { Stands w.now test }
+    requires yes { Stands w.now yes }
+    requires no { Stands w.now no }
     requires ground { HasGround (function_of w.now.entries) }
-    requires yes_mode { yes.mode ≡ mode }
-    requires no_mode { no.mode ≡ mode }
-    requires yes_facts { yes.ctx.0 ≡ assume test.ctx.0 test.rhs true }
-    requires no_facts { no.ctx.0 ≡ assume test.ctx.0 test.rhs false }
-    ensures stands { IfOk result (λ q. Stands (function_of w.now.entries) q) }
-    ensures made { IfOk result (λ q. q ≡ branch_made mode test yes no) }
+    requires yes_mode { yes.says.mode ≡ mode }
+    requires no_mode { no.says.mode ≡ mode }
+    requires yes_facts { yes.says.ctx.0 ≡ assume test.says.ctx.0 test.says.rhs true }
+    requires no_facts { no.says.ctx.0 ≡ assume test.says.ctx.0 test.says.rhs false }
+    ensures stands { IfOk result (λ q. Stands w.now q) }
+    ensures made { IfOk result (λ q. q.says ≡ branch_made mode test.says yes.says no.says) }
 {
     w.is_sound();
     let (ctx, _, test_left, test_right) = test.into_parts();

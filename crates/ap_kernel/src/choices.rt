@@ -3,8 +3,9 @@ ghost use Rattle.ap_world.specs.Meaning.{Defs};
 ghost use Rattle.ap_world.specs.Sound.{known};
 ghost use Rattle.ap_world.specs.World.{function_of};
 ghost use Rattle.ap_world.specs.Clauses.{not_of};
-ghost use Rattle.ap_kernel.specs.Standing.{HasGround, KnownFacts, Stands};
-ghost use Rattle.ap_kernel.specs.Shapes.{shape_of};
+ghost use Rattle.ap_world.specs.Facts.{KnownFacts};
+ghost use Rattle.ap_world.specs.Shapes.{shape_of};
+ghost use Rattle.ap_kernel.specs.Standing.{HasGround, Stands};
 ghost use Rattle.ap_kernel.specs.Masks.{MaskHolds};
 ghost use Rattle.ap_kernel.specs.Choices.{bare, bare_test, is_t_constant, is_truth, by_branches, if_shape, by_constant, choice_leads, is_choice, choice_made, seen_chosen};
 
@@ -129,12 +130,12 @@ fn choice_of(truth: bool, t: &Term) -> Chosen<'_>
 }
 
 /// `(not a)`
-pub(crate) fn not_term(alloc: Global, a: Term) -> Result<Term, NoMemory>
+pub fn not_term(alloc: Global, a: Term) -> Result<Term, NoMemory>
     ensures { IfOk result (λ u. u ≡ not_of a) }
 {
     let mut parts = Seq::new(alloc);
     parts.push(a)?;
-    Ok(Term::Call(not_symbol(alloc)?, parts))
+    Term::call(alloc, not_symbol(alloc)?, parts)
 }
 
 /// What an `if` leads to, built.
@@ -172,8 +173,8 @@ pub fn if_shape(
     requires term { IsTrue (known (function_of w.now.entries) t.now) }
     requires choice { IsTrue (is_choice (shape_of t.now)) }
     requires mask { MaskHolds (function_of w.now.entries) ctx.now.0 (bare_test t.now) mask }
-    ensures stands { IfOk result (λ q. Stands (function_of w.now.entries) q) }
-    ensures made { IfOk result (λ q. q ≡ choice_made ctx.now mode t.now mask) }
+    ensures stands { IfOk result (λ q. Stands w.now q) }
+    ensures made { IfOk result (λ q. q.says ≡ choice_made ctx.now mode t.now mask) }
 {
     w.is_sound();
     let lhs = copy_term(alloc, t)?;

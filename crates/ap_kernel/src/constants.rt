@@ -4,6 +4,7 @@ ghost use Rattle.ap_term.specs.declared.term.Term.TheVariants.{Quote, Call};
 ghost use Rattle.ap_world.specs.Primitives.{symbol_value, nil, t};
 ghost use Rattle.ap_world.specs.Names.{if_name, not_name, equal_name};
 ghost use Rattle.ap_world.specs.Recursion.{nil_constant, t_constant};
+ghost use Rattle.ap_world.specs.Clauses.{is_nil};
 
 use ap_list::NoMemory;
 use ap_term::Term;
@@ -18,7 +19,7 @@ fn are_bytes(bytes: &[u8])
 }
 
 /// Whether a value is the symbol of package `ACL2` with this name. Takes no memory.
-fn is_symbol(v: &Value, name: &[u8]) -> bool
+pub fn is_acl2(v: &Value, name: &[u8]) -> bool
     ensures { result ≡ value_eq (val_of v.now) (symbol_value (acl2 name.now)) }
 {
     match v {
@@ -36,23 +37,34 @@ fn is_symbol(v: &Value, name: &[u8]) -> bool
 
 /// Whether a value is `nil`. Takes no memory.
 #[tactic(auto, unfolding(ap_world::specs::Primitives::nil, ap_world::specs::Names::nil_name))]
-pub(crate) fn is_nil(v: &Value) -> bool
+pub fn is_nil(v: &Value) -> bool
     ensures { result ≡ value_eq (val_of v.now) nil }
 {
-    is_symbol(v, b"NIL")
+    is_acl2(v, b"NIL")
 }
 
 /// Whether a value is `t`. Takes no memory.
 #[tactic(auto, unfolding(ap_world::specs::Primitives::t, ap_world::specs::Names::t_name))]
-pub(crate) fn is_t(v: &Value) -> bool
+pub fn is_t(v: &Value) -> bool
     ensures { result ≡ value_eq (val_of v.now) t }
 {
-    is_symbol(v, b"T")
+    is_acl2(v, b"T")
+}
+
+/// Whether a term is a constant that means `nil`. Takes no memory.
+pub fn is_nil_term(t: &Term) -> bool
+    ensures { result ≡ is_nil t.now }
+{
+    match t {
+        Term::Quote(v) => is_nil(v),
+        Term::Var(_) => false,
+        Term::Call(_, _) => false,
+    }
 }
 
 /// The constant `'NIL`.
 #[tactic(auto, unfolding(ap_world::specs::Names::nil_name))]
-pub(crate) fn nil_term(alloc: Global) -> Result<Term, NoMemory>
+pub fn nil_term(alloc: Global) -> Result<Term, NoMemory>
     ensures { IfOk result (λ u. u ≡ nil_constant) }
 {
     Ok(Term::Quote(Value::Sym(acl2(alloc, b"NIL")?)))
@@ -60,7 +72,7 @@ pub(crate) fn nil_term(alloc: Global) -> Result<Term, NoMemory>
 
 /// The constant `'T`.
 #[tactic(auto, unfolding(ap_world::specs::Names::t_name))]
-pub(crate) fn t_term(alloc: Global) -> Result<Term, NoMemory>
+pub fn t_term(alloc: Global) -> Result<Term, NoMemory>
     ensures { IfOk result (λ u. u ≡ t_constant) }
 {
     Ok(Term::Quote(Value::Sym(acl2(alloc, b"T")?)))
@@ -68,7 +80,7 @@ pub(crate) fn t_term(alloc: Global) -> Result<Term, NoMemory>
 
 /// The symbol `equal`.
 #[tactic(auto, unfolding(ap_world::specs::Names::equal_name))]
-pub(crate) fn equal_symbol(alloc: Global) -> Result<Symbol, NoMemory>
+pub fn equal_symbol(alloc: Global) -> Result<Symbol, NoMemory>
     ensures { IfOk result (λ s. s ≡ equal_name) }
 {
     acl2(alloc, b"EQUAL")
@@ -76,7 +88,7 @@ pub(crate) fn equal_symbol(alloc: Global) -> Result<Symbol, NoMemory>
 
 /// The symbol `not`.
 #[tactic(auto, unfolding(ap_world::specs::Names::not_name))]
-pub(crate) fn not_symbol(alloc: Global) -> Result<Symbol, NoMemory>
+pub fn not_symbol(alloc: Global) -> Result<Symbol, NoMemory>
     ensures { IfOk result (λ s. s ≡ not_name) }
 {
     acl2(alloc, b"NOT")
@@ -84,7 +96,7 @@ pub(crate) fn not_symbol(alloc: Global) -> Result<Symbol, NoMemory>
 
 /// The symbol `if`.
 #[tactic(auto, unfolding(ap_world::specs::Names::if_name))]
-pub(crate) fn if_symbol(alloc: Global) -> Result<Symbol, NoMemory>
+pub fn if_symbol(alloc: Global) -> Result<Symbol, NoMemory>
     ensures { IfOk result (λ s. s ≡ if_name) }
 {
     acl2(alloc, b"IF")

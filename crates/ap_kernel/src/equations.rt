@@ -4,7 +4,8 @@ ghost use Rattle.ap_list.specs.Lists.{lookup_by};
 ghost use Rattle.ap_term.specs.Equal.{term_eq};
 ghost use Rattle.ap_world.specs.Sound.{known};
 ghost use Rattle.ap_world.specs.World.{function_of};
-ghost use Rattle.ap_kernel.specs.Standing.{KnownFacts, Stands};
+ghost use Rattle.ap_world.specs.Facts.{KnownFacts};
+ghost use Rattle.ap_kernel.specs.Standing.{Stands};
 ghost use Rattle.ap_kernel.specs.Equations.{equal_of, truth_constant, cons_parts, apart, sides_lead, equation_leads, equation_made, seen_parts, seen_leads};
 
 use crate::calls::if_term;
@@ -32,7 +33,7 @@ enum Leads<'a> {
 }
 
 /// Whether two terms are one, as the test that definitions choose by. Takes no memory.
-pub(crate) fn is_same(a: &Term, b: &Term) -> bool
+pub fn is_same(a: &Term, b: &Term) -> bool
     ensures { result ≡ term_eq a.now b.now }
 {
     same_term(a, b)
@@ -97,17 +98,17 @@ fn leads_of<'a>(facts: &[(Term, bool)], t: &'a Term) -> Option<Leads<'a>>
 }
 
 /// `(equal a b)`
-fn equal_term(alloc: Global, a: Term, b: Term) -> Result<Term, NoMemory>
+pub fn equal_term(alloc: Global, a: Term, b: Term) -> Result<Term, NoMemory>
     ensures { IfOk result (λ u. u ≡ equal_of a b) }
 {
     let mut sides = Seq::new(alloc);
     sides.push(a)?;
     sides.push(b)?;
-    Ok(Term::Call(equal_symbol(alloc)?, sides))
+    Term::call(alloc, equal_symbol(alloc)?, sides)
 }
 
 /// `'T` or `'NIL`
-pub(crate) fn truth_term(alloc: Global, sign: bool) -> Result<Term, NoMemory>
+pub fn truth_term(alloc: Global, sign: bool) -> Result<Term, NoMemory>
     ensures { IfOk result (λ u. u ≡ truth_constant sign) }
 {
     if sign { t_term(alloc) } else { nil_term(alloc) }
@@ -165,8 +166,8 @@ pub fn cons_equal(alloc: Global, w: &World, ctx: &Ctx, t: &Term) -> Result<Equiv
     requires facts { KnownFacts (function_of w.now.entries) ctx.now.0 }
     requires term { IsTrue (known (function_of w.now.entries) t.now) }
     requires leads { IsTrue (is_some (equation_leads ctx.now.0 t.now)) }
-    ensures stands { IfOk result (λ q. Stands (function_of w.now.entries) q) }
-    ensures made { IfOk result (λ q. IfSome (equation_leads ctx.now.0 t.now) (λ u. q ≡ equation_made ctx.now t.now u)) }
+    ensures stands { IfOk result (λ q. Stands w.now q) }
+    ensures made { IfOk result (λ q. IfSome (equation_leads ctx.now.0 t.now) (λ u. q.says ≡ equation_made ctx.now t.now u)) }
 {
     w.is_sound();
     let Some(leads) = leads_of(ctx.facts(), t) else {

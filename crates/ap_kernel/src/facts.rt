@@ -1,6 +1,7 @@
 ghost use Rattle.std.specs.Prelude.{◌≡◌, ◌<◌, IfOk, IfSome, length, slice_get, Some};
 ghost use Rattle.ap_world.specs.World.{function_of};
-ghost use Rattle.ap_kernel.specs.Standing.{KnownFacts, Stands};
+ghost use Rattle.ap_world.specs.Facts.{KnownFacts};
+ghost use Rattle.ap_kernel.specs.Standing.{Stands};
 ghost use Rattle.ap_kernel.specs.Answers.{fact_made};
 
 use crate::constants::{nil_term, t_term};
@@ -20,7 +21,7 @@ fn fact_at(facts: &[(Term, bool)], index: usize) -> &(Term, bool)
 
 /// A fact as an equivalence.
 fn fact_equiv(alloc: Global, ctx: &Ctx, t: &Term, sign: bool) -> Result<Equiv, NoMemory>
-    ensures { IfOk result (λ q. q ≡ fact_made ctx.now t.now sign) }
+    ensures { IfOk result (λ q. q.says ≡ fact_made ctx.now t.now sign) }
 {
     let lhs = copy_term(alloc, t)?;
     if sign {
@@ -36,8 +37,8 @@ fn fact_equiv(alloc: Global, ctx: &Ctx, t: &Term, sign: bool) -> Result<Equiv, N
 pub fn by_fact(alloc: Global, w: &World, ctx: &Ctx, index: usize) -> Result<Equiv, NoMemory>
     requires facts { KnownFacts (function_of w.now.entries) ctx.now.0 }
     requires place { index < length ctx.now.0 }
-    ensures stands { IfOk result (λ q. Stands (function_of w.now.entries) q) }
-    ensures made { IfOk result (λ q. IfSome (slice_get ctx.now.0 index) (λ f. q ≡ fact_made ctx.now f.0 f.1)) }
+    ensures stands { IfOk result (λ q. Stands w.now q) }
+    ensures made { IfOk result (λ q. IfSome (slice_get ctx.now.0 index) (λ f. q.says ≡ fact_made ctx.now f.0 f.1)) }
 {
     w.is_sound();
     let fact = fact_at(ctx.facts(), index);

@@ -20,9 +20,9 @@
 //! | [`by_type`] | a term to the one value that its mask leaves | the term |
 //! | [`cons_equal`] | an equation to what its sides, a fact or the parts of conses say | the equation, and the conses' parts |
 //! | [`if_shape`] | an `if` to the branch that is chosen, or to its simplest shape | the `if`, and what the right side has of it |
-//! | `open_def` | a call of a defined function to its body's instance | not built yet |
+//! | [`open_def`] | a call of a defined function to its body's instance | the formals' names |
 //! | `apply_theorem` | the instance of a theorem's left side to that of its right side | not built yet |
-//! | `fold` | a call on constants to its value | not built yet |
+//! | [`fold`] | a call on constants to its value | nothing |
 //! | `by_certificate`, `both_not_less` | an inequality or an equation to `'T` or `'NIL` | not built yet |
 //!
 //! An equivalence owns its sides, so that it can be taken apart and its terms moved into the next one: so a
@@ -63,33 +63,39 @@ mod choices;
 mod constants;
 mod equations;
 mod facts;
+mod instance;
 mod literals;
 mod objects;
+mod opening;
 mod plain;
 mod reductions;
 mod shapes;
-mod shared;
 mod solving;
 mod splits;
 mod tidying;
 mod types;
 
-pub use ap_list::{NoMemory, Seq};
+pub use ap_list::{NoMemory, Seq, Shared};
 pub use ap_term::{Clause, Term};
 pub use ap_value::{Symbol, Value};
 pub use ap_world::{Mask, World};
-pub use assuming::{assume, assumed_facts_hold};
-pub use calls::{branch, cong};
+pub use assuming::{all_false, assume, assumed_facts_hold, is_constant, others_false};
+pub use calls::{branch, cong, if_term};
 pub use chaining::chain;
-pub use choices::{bare_test, if_shape, is_choice};
-pub use equations::{cons_equal, equation_leads};
+pub use choices::{bare_test, if_shape, is_choice, not_term};
+pub use constants::{
+    equal_symbol, if_symbol, is_acl2, is_nil, is_nil_term, is_t, nil_term, not_symbol, t_term,
+};
+pub use equations::{cons_equal, equal_term, equation_leads, is_same, truth_term};
 pub use facts::by_fact;
-pub use literals::{drop_literal, rewrite_literal};
-pub use objects::{Ctx, Equiv, Mode};
+pub use instance::{pairs_of, subst, subst_all};
+pub use literals::{drop_literal, put_at, rewrite_literal};
+pub use objects::{Ctx, Equiv, Mode, Sequent};
+pub use opening::{can_open, fold, is_constant_call, open_def};
 pub use plain::{refl, trans, weaken_mode};
-pub use reductions::Reduction;
-pub use shared::Shared;
-pub use solving::{is_solvable, use_equality};
-pub use splits::{is_choice_in, split_if};
-pub use tidying::tidy;
+pub use reductions::{Inference, Reduction};
+pub use shapes::{Head, ShapeRef, head_of, is_equal, is_if, is_implies, is_not, shape_of};
+pub use solving::{is_solvable, is_symbol, use_equality};
+pub use splits::{is_choice_in, negated, split_if};
+pub use tidying::{is_among, tidy};
 pub use types::{TypeOracle, by_type};

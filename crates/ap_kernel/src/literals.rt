@@ -12,7 +12,7 @@ use ap_world::World;
 use std::alloc::Global;
 
 /// A copy of a list of terms in which the term at a place is replaced by a list, which is moved.
-pub(crate) fn put_at(
+pub fn put_at(
     alloc: Global,
     terms: &[Term],
     place: usize,
@@ -29,7 +29,7 @@ pub(crate) fn put_at(
 
 /// A reduction to one clause.
 pub(crate) fn to_one(alloc: Global, from: Clause, to: Seq<Term>) -> Result<Reduction, NoMemory>
-    ensures { IfOk result (λ r. r ≡ to_one from to) }
+    ensures { IfOk result (λ r. r.says ≡ to_one from to) }
 {
     let mut goals = Seq::new(alloc);
     goals.push(Clause(to))?;
@@ -46,8 +46,8 @@ pub fn drop_literal(
 ) -> Result<Reduction, NoMemory>
     requires clause { KnownClause (function_of w.now.entries) c }
     requires place { index < length c.0 }
-    ensures stands { IfOk result (λ r. Reduces (function_of w.now.entries) r) }
-    ensures made { IfOk result (λ r. r ≡ dropped c index) }
+    ensures stands { IfOk result (λ r. Reduces w.now r) }
+    ensures made { IfOk result (λ r. r.says ≡ dropped c index) }
 {
     w.is_sound();
     let left = put_at(alloc, c.0.as_slice(), index, Seq::new(alloc))?;
@@ -67,11 +67,11 @@ pub fn rewrite_literal(
 ) -> Result<Reduction, NoMemory>
     requires ground { HasGround (function_of w.now.entries) }
     requires clause { KnownClause (function_of w.now.entries) c }
-    requires leads { Stands (function_of w.now.entries) e }
-    requires place { slice_get c.0 index ≡ Some e.lhs }
-    requires facts { e.ctx.0 ≡ all_false (others index c.0) }
-    ensures stands { IfOk result (λ r. Reduces (function_of w.now.entries) r) }
-    ensures made { IfOk result (λ r. r ≡ rewritten c index e.rhs) }
+    requires leads { Stands w.now e }
+    requires place { slice_get c.0 index ≡ Some e.says.lhs }
+    requires facts { e.says.ctx.0 ≡ all_false (others index c.0) }
+    ensures stands { IfOk result (λ r. Reduces w.now r) }
+    ensures made { IfOk result (λ r. r.says ≡ rewritten c index e.says.rhs) }
 {
     w.is_sound();
     let (_, _, _, rhs) = e.into_parts();

@@ -1,7 +1,6 @@
 ghost use Rattle.std.specs.Prelude.{◌≡◌, IfOk};
 
-use crate::shared::Shared;
-use ap_list::{NoMemory, Seq};
+use ap_list::{NoMemory, Seq, Shared};
 use ap_term::Term;
 use std::alloc::Global;
 
@@ -18,14 +17,20 @@ pub enum Mode {
     Iff,
 }
 
-/// Both sides mean the same, or are both `nil` or both not, wherever the facts hold. The fields are
-/// private, so that the kernel's calls alone make one.
+/// What an equivalence says: under these facts the two sides mean the same, or are both `nil` or both not.
+/// Anyone can write one down; that it holds is what an [`Equiv`] adds.
+#[derive(Drop)]
+pub struct Sequent {
+    pub ctx: Ctx,
+    pub mode: Mode,
+    pub lhs: Term,
+    pub rhs: Term,
+}
+
+/// A sequent that holds. The field is private, so that the kernel's calls alone make one.
 #[derive(Drop)]
 pub struct Equiv {
-    ctx: Ctx,
-    mode: Mode,
-    lhs: Term,
-    rhs: Term,
+    says: Sequent,
 }
 
 impl Ctx {
@@ -54,54 +59,71 @@ impl Ctx {
 impl Equiv {
     /// Each row makes its answer by this call, having shown that it stands.
     pub(crate) fn made(ctx: Ctx, mode: Mode, lhs: Term, rhs: Term) -> Equiv
-        ensures { result ≡ record { ctx = ctx; mode = mode; lhs = lhs; rhs = rhs } }
+        ensures { result.says ≡ record { ctx = ctx; mode = mode; lhs = lhs; rhs = rhs } }
     {
         Equiv {
-            ctx,
-            mode,
-            lhs,
-            rhs,
+            says: Sequent {
+                ctx,
+                mode,
+                lhs,
+                rhs,
+            },
         }
     }
 
-    /// The parts, moved.
-    pub(crate) fn into_parts(self) -> (Ctx, Mode, Term, Term)
-        ensures { result ≡ record { 0 = self.ctx; 1 = self.mode; 2 = self.lhs; 3 = self.rhs } }
+    /// What it says, moved. Takes no memory.
+    pub fn into_sequent(self) -> Sequent
+        ensures { result ≡ self.says }
     {
-        let Equiv {
+        let Equiv { says } = self;
+        says
+    }
+
+    /// The parts of what it says, moved. Takes no memory.
+    pub fn into_parts(self) -> (Ctx, Mode, Term, Term)
+        ensures { result ≡ record { 0 = self.says.ctx; 1 = self.says.mode; 2 = self.says.lhs; 3 = self.says.rhs } }
+    {
+        let Sequent {
             ctx,
             mode,
             lhs,
             rhs,
-        } = self;
+        } = self.into_sequent();
         (ctx, mode, lhs, rhs)
+    }
+
+    /// What it says, lent. Takes no memory.
+    pub fn says(&self) -> &Sequent
+        ensures { result.now ≡ self.now.says }
+    {
+        &self.says
     }
 
     /// The facts. Takes no memory.
     pub fn ctx(&self) -> &Ctx
-        ensures { result.now ≡ self.now.ctx }
+        ensures { result.now ≡ self.now.says.ctx }
     {
-        &self.ctx
+        &self.says.ctx
     }
 
     /// How the sides agree. Takes no memory.
     pub fn mode(&self) -> Mode
-        ensures { result ≡ self.now.mode }
+        ensures { result ≡ self.now.says.mode }
     {
-        self.mode
+        self.says.mode
     }
 
     /// The left side. Takes no memory.
     pub fn lhs(&self) -> &Term
-        ensures { result.now ≡ self.now.lhs }
+        ensures { result.now ≡ self.now.says.lhs }
     {
-        &self.lhs
+        &self.says.lhs
     }
 
     /// The right side. Takes no memory.
     pub fn rhs(&self) -> &Term
-        ensures { result.now ≡ self.now.rhs }
+        ensures { result.now ≡ self.now.says.rhs }
     {
-        &self.rhs
+        &self.says.rhs
     }
 }

@@ -1,8 +1,10 @@
 ghost use Rattle.std.specs.Prelude.{◌≡◌, IsTrue, IfOk, IsOkAnd};
 ghost use Rattle.ap_world.specs.Sound.{known};
 ghost use Rattle.ap_world.specs.World.{function_of};
-ghost use Rattle.ap_kernel.specs.Standing.{KnownFacts, Stands};
-ghost use Rattle.ap_kernel.specs.declared.objects.Mode.TheVariants.{Equal, Iff};
+ghost use Rattle.ap_world.specs.Facts.{KnownFacts};
+ghost use Rattle.ap_kernel.specs.Standing.{Stands};
+ghost use Rattle.ap_kernel.specs.declared.objects.Mode.TheVariants.{Equal};
+ghost use Rattle.ap_kernel.specs.Answers.{refl_made, trans_made, weakened};
 
 use crate::objects::{Ctx, Equiv, Mode};
 use ap_list::NoMemory;
@@ -14,8 +16,8 @@ use std::alloc::Global;
 pub fn refl(alloc: Global, w: &World, ctx: &Ctx, mode: Mode, t: &Term) -> Result<Equiv, NoMemory>
     requires facts { KnownFacts (function_of w.now.entries) ctx.now.0 }
     requires term { IsTrue (known (function_of w.now.entries) t.now) }
-    ensures stands { IfOk result (λ q. Stands (function_of w.now.entries) q) }
-    ensures made { IfOk result (λ q. q ≡ record { ctx = ctx.now; mode = mode; lhs = t.now; rhs = t.now }) }
+    ensures stands { IfOk result (λ q. Stands w.now q) }
+    ensures made { IfOk result (λ q. q.says ≡ refl_made ctx.now mode t.now) }
 {
     w.is_sound();
     let lhs = copy_term(alloc, t)?;
@@ -25,14 +27,14 @@ pub fn refl(alloc: Global, w: &World, ctx: &Ctx, mode: Mode, t: &Term) -> Result
 
 /// From the left side of the first to the right side of the second, where the first leads to what the
 /// second begins with. It copies nothing, and always has an answer.
-pub fn trans(w: &World, a: Equiv, b: Equiv) -> Result<Equiv, NoMemory>
-    requires a { Stands (function_of w.now.entries) a }
-    requires b { Stands (function_of w.now.entries) b }
-    requires facts { a.ctx ≡ b.ctx }
-    requires mode { a.mode ≡ b.mode }
-    requires middle { a.rhs ≡ b.lhs }
-    ensures stands { IfOk result (λ q. Stands (function_of w.now.entries) q) }
-    ensures made { IsOkAnd result (λ q. q ≡ record { ctx = a.ctx; mode = a.mode; lhs = a.lhs; rhs = b.rhs }) }
+pub fn trans(alloc: Global, w: &World, a: Equiv, b: Equiv) -> Result<Equiv, NoMemory>
+    requires a { Stands w.now a }
+    requires b { Stands w.now b }
+    requires facts { a.says.ctx ≡ b.says.ctx }
+    requires mode { a.says.mode ≡ b.says.mode }
+    requires middle { a.says.rhs ≡ b.says.lhs }
+    ensures stands { IfOk result (λ q. Stands w.now q) }
+    ensures made { IsOkAnd result (λ q. q.says ≡ trans_made a.says b.says) }
 {
     w.is_sound();
     let (ctx, mode, lhs, _) = a.into_parts();
@@ -41,11 +43,11 @@ pub fn trans(w: &World, a: Equiv, b: Equiv) -> Result<Equiv, NoMemory>
 }
 
 /// Equality as equivalence under `iff`. It copies nothing, and always has an answer.
-pub fn weaken_mode(w: &World, a: Equiv) -> Result<Equiv, NoMemory>
-    requires a { Stands (function_of w.now.entries) a }
-    requires mode { a.mode ≡ Equal }
-    ensures stands { IfOk result (λ q. Stands (function_of w.now.entries) q) }
-    ensures made { IsOkAnd result (λ q. q ≡ record { ctx = a.ctx; mode = Iff; lhs = a.lhs; rhs = a.rhs }) }
+pub fn weaken_mode(alloc: Global, w: &World, a: Equiv) -> Result<Equiv, NoMemory>
+    requires a { Stands w.now a }
+    requires mode { a.says.mode ≡ Equal }
+    ensures stands { IfOk result (λ q. Stands w.now q) }
+    ensures made { IsOkAnd result (λ q. q.says ≡ weakened a.says) }
 {
     w.is_sound();
     let (ctx, _, lhs, rhs) = a.into_parts();

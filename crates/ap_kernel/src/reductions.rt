@@ -3,41 +3,57 @@ ghost use Rattle.std.specs.Prelude.{◌≡◌};
 use ap_list::Seq;
 use ap_term::Clause;
 
-/// The clause `from` is valid where all clauses of `to` are. The fields are private, so that the kernel's
-/// calls alone make one.
+/// What a reduction says: the clause `from` is valid where all clauses of `to` are. Anyone can write one
+/// down; that it follows is what a [`Reduction`] adds.
+#[derive(Drop)]
+pub struct Inference {
+    pub from: Clause,
+    pub to: Seq<Clause>,
+}
+
+/// An inference that is right. The field is private, so that the kernel's calls alone make one.
 #[derive(Drop)]
 pub struct Reduction {
-    from: Clause,
-    to: Seq<Clause>,
+    says: Inference,
 }
 
 impl Reduction {
     /// Each row on a clause makes its answer by this call, having shown that it stands.
     pub(crate) fn made(from: Clause, to: Seq<Clause>) -> Reduction
-        ensures { result ≡ record { from = from; to = to } }
+        ensures { result.says ≡ record { from = from; to = to } }
     {
-        Reduction { from, to }
+        Reduction {
+            says: Inference { from, to },
+        }
     }
 
-    /// The parts, moved. Takes no memory.
+    /// The parts of what it says, moved. Takes no memory.
     pub fn into_parts(self) -> (Clause, Seq<Clause>)
-        ensures { result ≡ record { 0 = self.from; 1 = self.to } }
+        ensures { result ≡ record { 0 = self.says.from; 1 = self.says.to } }
     {
-        let Reduction { from, to } = self;
+        let Reduction { says } = self;
+        let Inference { from, to } = says;
         (from, to)
+    }
+
+    /// What it says, lent. Takes no memory.
+    pub fn says(&self) -> &Inference
+        ensures { result.now ≡ self.now.says }
+    {
+        &self.says
     }
 
     /// The clause that is reduced. Takes no memory.
     pub fn from(&self) -> &Clause
-        ensures { result.now ≡ self.now.from }
+        ensures { result.now ≡ self.now.says.from }
     {
-        &self.from
+        &self.says.from
     }
 
     /// The clauses that it is reduced to. Takes no memory.
     pub fn to(&self) -> &Seq<Clause>
-        ensures { result.now ≡ self.now.to }
+        ensures { result.now ≡ self.now.says.to }
     {
-        &self.to
+        &self.says.to
     }
 }

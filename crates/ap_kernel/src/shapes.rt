@@ -1,14 +1,15 @@
 ghost use Rattle.std.specs.Prelude.{◌≡◌, IfOk, [], ◌∷◌};
-ghost use Rattle.ap_value.specs.Values.{acl2, symbol_eq, val_of, value_eq};
-ghost use Rattle.ap_world.specs.Primitives.{symbol_value, nil, t};
-ghost use Rattle.ap_kernel.specs.Shapes.{head_of, shape_of, seen, constant_says};
+ghost use Rattle.ap_value.specs.Values.{acl2, symbol_eq};
+ghost use Rattle.ap_world.specs.Names.{if_name, not_name, equal_name, cons_name, implies_name};
+ghost use Rattle.ap_world.specs.Shapes.{head_of, shape_of, constant_says};
+ghost use Rattle.ap_kernel.specs.Shapes.{seen, seen_head};
 
 use ap_term::Term;
 use ap_value::{Symbol, Value, is_named};
 
 /// What the head of a call is, of those that the kernel looks at.
 #[derive(Clone, Copy, Debug)]
-pub(crate) enum Head {
+pub enum Head {
     If,
     Not,
     Equal,
@@ -18,7 +19,7 @@ pub(crate) enum Head {
 
 /// A term by what its head is, its parts lent.
 #[derive(Clone, Copy)]
-pub(crate) enum ShapeRef<'a> {
+pub enum ShapeRef<'a> {
     Constant(&'a Value),
     If(&'a Term, &'a Term, &'a Term),
     Not(&'a Term),
@@ -27,28 +28,68 @@ pub(crate) enum ShapeRef<'a> {
     Other,
 }
 
-/// What a head is.
-#[tactic(auto, unfolding(crate::specs::Shapes::head_of, ap_world::specs::Names::if_name, ap_world::specs::Names::not_name, ap_world::specs::Names::equal_name, ap_world::specs::Names::cons_name))]
-pub(crate) fn head_of(symbol: &Symbol) -> Head
-    ensures { result ≡ head_of symbol.now }
+/// Whether a symbol is `if`. Takes no memory.
+#[tactic(auto, unfolding(ap_world::specs::Names::if_name))]
+pub fn is_if(symbol: &Symbol) -> bool
+    ensures { result ≡ symbol_eq symbol.now if_name }
 {
-    if is_named(symbol, b"IF") {
+    is_named(symbol, b"IF")
+}
+
+/// Whether a symbol is `not`. Takes no memory.
+#[tactic(auto, unfolding(ap_world::specs::Names::not_name))]
+pub fn is_not(symbol: &Symbol) -> bool
+    ensures { result ≡ symbol_eq symbol.now not_name }
+{
+    is_named(symbol, b"NOT")
+}
+
+/// Whether a symbol is `equal`. Takes no memory.
+#[tactic(auto, unfolding(ap_world::specs::Names::equal_name))]
+pub fn is_equal(symbol: &Symbol) -> bool
+    ensures { result ≡ symbol_eq symbol.now equal_name }
+{
+    is_named(symbol, b"EQUAL")
+}
+
+/// Whether a symbol is `cons`. Takes no memory.
+#[tactic(auto, unfolding(ap_world::specs::Names::cons_name))]
+fn is_cons(symbol: &Symbol) -> bool
+    ensures { result ≡ symbol_eq symbol.now cons_name }
+{
+    is_named(symbol, b"CONS")
+}
+
+/// Whether a symbol is `implies`. Takes no memory.
+#[tactic(auto, unfolding(ap_world::specs::Names::implies_name))]
+pub fn is_implies(symbol: &Symbol) -> bool
+    ensures { result ≡ symbol_eq symbol.now implies_name }
+{
+    is_named(symbol, b"IMPLIES")
+}
+
+/// What a head is. Takes no memory.
+#[tactic(auto, unfolding(ap_world::specs::Shapes::head_of))]
+pub fn head_of(symbol: &Symbol) -> Head
+    ensures { seen_head result ≡ head_of symbol.now }
+{
+    if is_if(symbol) {
         return Head::If;
     }
-    if is_named(symbol, b"NOT") {
+    if is_not(symbol) {
         return Head::Not;
     }
-    if is_named(symbol, b"EQUAL") {
+    if is_equal(symbol) {
         return Head::Equal;
     }
-    if is_named(symbol, b"CONS") {
+    if is_cons(symbol) {
         return Head::Cons;
     }
     Head::Other
 }
 
-/// A term by what its head is.
-pub(crate) fn shape_of(t: &Term) -> ShapeRef<'_>
+/// A term by what its head is, its parts lent. Takes no memory.
+pub fn shape_of(t: &Term) -> ShapeRef<'_>
     ensures { seen result ≡ shape_of t.now }
 {
     match t {

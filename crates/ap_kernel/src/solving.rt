@@ -1,13 +1,13 @@
-ghost use Rattle.std.specs.Prelude.{◌≡◌, ◌∷◌, [], IfOk, IsTrue, is_some, map, Some};
+ghost use Rattle.std.specs.Prelude.{◌≡◌, IfOk, IsTrue, is_some, map, Some};
 ghost use Rattle.std.specs.Option.{option_map};
 ghost use Rattle.ap_value.specs.Values.{symbol_eq};
 ghost use Rattle.ap_term.specs.declared.term.Term.{out-Term};
-ghost use Rattle.ap_term.specs.Terms.{subst_of};
 ghost use Rattle.ap_world.specs.World.{function_of};
 ghost use Rattle.ap_kernel.specs.Standing.{HasGround};
 ghost use Rattle.ap_kernel.specs.Reductions.{KnownClause, Reduces, to_one};
 ghost use Rattle.ap_kernel.specs.Solving.{any_true, occurs, side_solved, sides_solved, solved_by, solved_made};
 
+use crate::instance::subst_all;
 use crate::literals::{put_at, to_one};
 use crate::reductions::Reduction;
 use crate::shapes::{ShapeRef, shape_of};
@@ -18,7 +18,7 @@ use ap_world::World;
 use std::alloc::Global;
 
 /// Whether two symbols are one, as the test that definitions choose by. Takes no memory.
-fn is_symbol(a: &Symbol, b: &Symbol) -> bool
+pub fn is_symbol(a: &Symbol, b: &Symbol) -> bool
     ensures { result ≡ symbol_eq a.now b.now }
 {
     a.keyword == b.keyword && a.name.as_slice() == b.name.as_slice()
@@ -46,38 +46,6 @@ fn occurs_in(x: &Symbol, ts: &[Term]) -> bool
         }
     }
     false
-}
-
-/// A copy of a term in which a variable is replaced.
-#[cycle(replacing)]
-fn replaced(alloc: Global, t: &Term, x: &Symbol, by: &Term) -> Result<Term, NoMemory>
-    ensures { IfOk result (λ u. u ≡ subst_of ((x.now, by.now) ∷ []) t.now) }
-{
-    match t {
-        Term::Var(y) => {
-            if is_symbol(y, x) {
-                return copy_term(alloc, by);
-            }
-            Ok(Term::Var(copy_symbol(alloc, y)?))
-        }
-        Term::Quote(_) => copy_term(alloc, t),
-        Term::Call(f, ts) => Ok(Term::Call(
-            copy_symbol(alloc, f)?,
-            replaced_in(alloc, ts.as_slice(), x, by)?,
-        )),
-    }
-}
-
-/// A copy of terms in which a variable is replaced.
-#[cycle(replacing)]
-fn replaced_in(alloc: Global, ts: &[Term], x: &Symbol, by: &Term) -> Result<Seq<Term>, NoMemory>
-    ensures { IfOk result (λ us. us ≡ map (subst_of ((x.now, by.now) ∷ [])) ts.now) }
-{
-    let mut out = Seq::new(alloc);
-    for t in ts {
-        out.push(replaced(alloc, t, x, by)?)?;
-    }
-    Ok(out)
 }
 
 /// A side that is a variable, with the other side, where it doesn't occur in that. Takes no memory.
@@ -141,7 +109,9 @@ fn solved_literals(alloc: Global, c: &Clause, index: usize) -> Result<Option<Seq
         return Ok(None);
     };
     let others = put_at(alloc, c.0.as_slice(), index, Seq::new(alloc))?;
-    Ok(Some(replaced_in(alloc, others.as_slice(), x, by)?))
+    let mut pair = Seq::new(alloc);
+    pair.push((copy_symbol(alloc, x)?, copy_term(alloc, by)?))?;
+    Ok(Some(subst_all(alloc, others.as_slice(), pair.as_slice())?))
 }
 
 /// From a clause to the clause without the literal at a place, the negation of an equation, and with a
@@ -157,8 +127,8 @@ pub fn use_equality(
     requires ground { HasGround (function_of w.now.entries) }
     requires clause { KnownClause (function_of w.now.entries) c }
     requires solved { IsTrue (is_some (solved_made c index)) }
-    ensures stands { IfOk result (λ r. Reduces (function_of w.now.entries) r) }
-    ensures made { IfOk result (λ r. solved_made c index ≡ Some r) }
+    ensures stands { IfOk result (λ r. Reduces w.now r) }
+    ensures made { IfOk result (λ r. solved_made c index ≡ Some r.says) }
 {
     w.is_sound();
     let Some(literals) = solved_literals(alloc, &c, index)? else {

@@ -2,8 +2,8 @@ ghost use Rattle.std.specs.Prelude.{◌≡◌, ◌∷◌, [], ◌<◌, IfOk, IsT
 ghost use Rattle.std.specs.Option.{option_map, option_copied};
 ghost use Rattle.ap_world.specs.Clauses.{negate};
 ghost use Rattle.ap_world.specs.World.{function_of};
+ghost use Rattle.ap_world.specs.Shapes.{shape_of};
 ghost use Rattle.ap_kernel.specs.Standing.{HasGround};
-ghost use Rattle.ap_kernel.specs.Shapes.{shape_of};
 ghost use Rattle.ap_kernel.specs.Reductions.{KnownClause, Reduces, put_at};
 ghost use Rattle.ap_kernel.specs.Splits.{part_at, with_part, choice_at, choice_in, split_made};
 
@@ -60,11 +60,12 @@ fn with_part(alloc: Global, t: &Term, at: &[u32], put: Term) -> Result<Option<Te
     let mut one = Seq::new(alloc);
     one.push(changed)?;
     let arguments = put_at(alloc, arguments.as_slice(), place, one)?;
-    Ok(Some(Term::Call(copy_symbol(alloc, f)?, arguments)))
+    let whole = Term::call(alloc, copy_symbol(alloc, f)?, arguments)?;
+    Ok(Some(whole))
 }
 
 /// The negation: of `(not a)` it is `a`, of another term the call of `not` on it.
-pub(crate) fn negated(alloc: Global, t: &Term) -> Result<Term, NoMemory>
+pub fn negated(alloc: Global, t: &Term) -> Result<Term, NoMemory>
     ensures { IfOk result (λ u. u ≡ negate t.now) }
 {
     match shape_of(t) {
@@ -159,8 +160,8 @@ pub fn split_if(
     requires ground { HasGround (function_of w.now.entries) }
     requires clause { KnownClause (function_of w.now.entries) c }
     requires choice { IsTrue (is_some (choice_in c index at.now)) }
-    ensures stands { IfOk result (λ r. Reduces (function_of w.now.entries) r) }
-    ensures made { IfOk result (λ r. split_made c index at.now ≡ Some r) }
+    ensures stands { IfOk result (λ r. Reduces w.now r) }
+    ensures made { IfOk result (λ r. split_made c index at.now ≡ Some r.says) }
 {
     w.is_sound();
     let Some(cases) = cases_at(alloc, &c, index, at.as_slice())? else {

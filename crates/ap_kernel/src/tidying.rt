@@ -2,8 +2,8 @@ ghost use Rattle.std.specs.Prelude.{◌≡◌, IfOk};
 ghost use Rattle.ap_list.specs.Lists.{is_among};
 ghost use Rattle.ap_term.specs.Equal.{term_eq};
 ghost use Rattle.ap_world.specs.World.{function_of};
+ghost use Rattle.ap_world.specs.Shapes.{shape_of};
 ghost use Rattle.ap_kernel.specs.Standing.{HasGround};
-ghost use Rattle.ap_kernel.specs.Shapes.{shape_of};
 ghost use Rattle.ap_kernel.specs.Reductions.{KnownClause, Reduces};
 ghost use Rattle.ap_kernel.specs.Tidying.{negated_bare, plain, tidied, is_opposed, decides, holds_by_itself, tidy_goals, tidy_made};
 
@@ -41,7 +41,7 @@ fn plain(alloc: Global, t: &Term) -> Result<Term, NoMemory>
 }
 
 /// Whether a term is one of a list. Takes no memory.
-fn is_among(t: &Term, terms: &[Term]) -> bool
+pub fn is_among(t: &Term, terms: &[Term]) -> bool
     ensures { result ≡ is_among term_eq t.now terms.now }
 {
     for u in terms {
@@ -106,8 +106,8 @@ fn tidy_goals(alloc: Global, terms: Seq<Term>) -> Result<Seq<Clause>, NoMemory>
 pub fn tidy(alloc: Global, w: &World, c: Clause) -> Result<Reduction, NoMemory>
     requires ground { HasGround (function_of w.now.entries) }
     requires clause { KnownClause (function_of w.now.entries) c }
-    ensures stands { IfOk result (λ r. Reduces (function_of w.now.entries) r) }
-    ensures made { IfOk result (λ r. r ≡ tidy_made c) }
+    ensures stands { IfOk result (λ r. Reduces w.now r) }
+    ensures made { IfOk result (λ r. r.says ≡ tidy_made c) }
 {
     w.is_sound();
     let literals = tidied(alloc, c.0.as_slice())?;

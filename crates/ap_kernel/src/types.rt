@@ -2,7 +2,9 @@ ghost use Rattle.std.specs.Prelude.{◌≡◌, IsTrue, IfOk, pos};
 ghost use Rattle.ap_value.specs.Values.{val_of, value_eq, int};
 ghost use Rattle.ap_world.specs.Sound.{known};
 ghost use Rattle.ap_world.specs.World.{function_of};
-ghost use Rattle.ap_kernel.specs.Standing.{HasGround, KnownFacts, Stands};
+ghost use Rattle.ap_world.specs.Facts.{KnownFacts};
+ghost use Rattle.ap_world.specs.Typing.{types};
+ghost use Rattle.ap_kernel.specs.Standing.{HasGround, Stands};
 ghost use Rattle.ap_kernel.specs.Masks.{MaskHolds, others, has_only, leads_to, typed_mode, typed_made};
 
 use crate::constants::{is_nil, is_t};
@@ -16,11 +18,13 @@ use std::alloc::Global;
 /// What says which types a term's value can have. The kernel doesn't trust it: what it answers is proved
 /// by whoever implements it.
 pub trait TypeOracle {
-    /// A mask that holds of the term: wherever the facts hold, the type of its value is in the mask.
+    /// The mask that the definition of types gives the term under the facts in the world, with the world's
+    /// current theory. It holds of the term: wherever the facts hold, the type of its value is in the mask.
     fn mask(&self, alloc: Global, w: &World, ctx: &Ctx, t: &Term) -> Result<Mask, NoMemory>
         requires ground { HasGround (function_of w.now.entries) }
         requires facts { KnownFacts (function_of w.now.entries) ctx.now.0 }
         requires term { IsTrue (known (function_of w.now.entries) t.now) }
+        ensures made { IfOk result (λ m. m ≡ record { 0 = types w.now ctx.now.0 t.now }) }
         ensures holds { IfOk result (λ m. MaskHolds (function_of w.now.entries) ctx.now.0 t.now m) };
 }
 
@@ -73,8 +77,8 @@ pub fn by_type(
     requires term { IsTrue (known (function_of w.now.entries) t.now) }
     requires mask { MaskHolds (function_of w.now.entries) ctx.now.0 t.now mask }
     requires value { IsTrue (leads_to mask (val_of value)) }
-    ensures stands { IfOk result (λ q. Stands (function_of w.now.entries) q) }
-    ensures made { IfOk result (λ q. q ≡ typed_made ctx.now t.now mask value) }
+    ensures stands { IfOk result (λ q. Stands w.now q) }
+    ensures made { IfOk result (λ q. q.says ≡ typed_made ctx.now t.now mask value) }
 {
     w.is_sound();
     let mode = typed_mode(mask, &value);

@@ -20,3 +20,6 @@ pub type NoMemory = std::alloc::AllocError;
 
 /// A list of bytes: a text of a book, a name, what is printed.
 pub type Bytes = Seq<u8>;
+
+/// A list of bytes that copies share: a symbol's name, a string's codes.
+pub type Text = SharedSeq<u8>;

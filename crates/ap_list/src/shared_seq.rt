@@ -1,4 +1,5 @@
-ghost use Rattle.std.specs.Prelude.{◌≡◌, IfOk, IfErr};
+ghost use Rattle.std.specs.Prelude.{◌≡◌, [], ◌<◌, ◌↔◌, length, slice_get, IsTrue, IfOk, IfErr, OnSome};
+ghost use Rattle.std.specs.Option.{option_copied};
 
 use crate::seq::Seq;
 use crate::shared::Shared;
@@ -26,6 +27,35 @@ impl<T> Model for SharedSeq<T> {
 }
 
 impl<T> SharedSeq<T> {
+    /// The elements, lent.
+    pub fn as_slice(&self) -> &[T]
+        ensures { result.now ≡ self.now }
+    {
+        self.inner.get().items().as_slice()
+    }
+
+    /// The number of elements.
+    pub fn len(&self) -> usize
+        ensures { result ≡ length self.now }
+    {
+        self.inner.get().items().len()
+    }
+
+    /// Whether there is no element.
+    pub fn is_empty(&self) -> bool
+        ensures { IsTrue result ↔ (self.now ≡ []) }
+    {
+        self.inner.get().items().is_empty()
+    }
+
+    /// The element at a place, or `None` past the end.
+    pub fn get(&self, place: usize) -> Option<&T>
+        ensures value { option_copied result ≡ slice_get self.now place }
+        ensures within { OnSome result (place < length self.now) }
+    {
+        self.inner.get().items().get(place)
+    }
+
     /// The same list for one more owner: a count and not the elements is copied. It takes no memory, and
     /// fails only where the count of owners is full.
     pub fn share(&self) -> Result<SharedSeq<T>, AllocError>
@@ -54,8 +84,15 @@ impl<T> SharedSeq<T> {
 }
 
 impl<T: Drop> SharedSeq<T> {
-    /// Moves a list to where it can be shared, and a number beside it.
-    pub fn new(alloc: Global, items: Seq<T>, tag: u64) -> Result<SharedSeq<T>, AllocError>
+    /// Moves a list to where it can be shared, with 0 beside it.
+    pub fn new(alloc: Global, items: Seq<T>) -> Result<SharedSeq<T>, AllocError>
+        ensures { IfOk result (λ s. s ≡ items) }
+    {
+        SharedSeq::tagged(alloc, items, 0)
+    }
+
+    /// Moves a list to where it can be shared, with a number beside it.
+    pub fn tagged(alloc: Global, items: Seq<T>, tag: u64) -> Result<SharedSeq<T>, AllocError>
         ensures { IfOk result (λ s. s ≡ items) }
     {
         let inner = Shared::new(alloc, Tagged::new(items, tag))?;

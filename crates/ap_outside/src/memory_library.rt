@@ -125,6 +125,9 @@ impl Library for MemoryLibrary {
         ensures stores { self.new.store_faults ≡ self.old.store_faults }
         ensures failed { result ≡ Err ReadFault.Failed → Rose self.old.read_faults self.new.read_faults }
 
+        // no other answer raises the count
+        ensures blameless { (IsErrOf result ReadFault.Failed → ⊥) → self.new.read_faults ≡ self.old.read_faults }
+
         // the calls of these numbers fail, and no others
         ensures counted { self.new.calls ≡ min (self.old.calls + 1) (2 ^ 64 - 1) }
         ensures failing { self.new.failing ≡ self.old.failing }
@@ -143,6 +146,9 @@ impl Library for MemoryLibrary {
         ensures reads { self.new.read_faults ≡ self.old.read_faults }
         ensures later { self.old.store_faults ≤ self.new.store_faults }
         ensures failed { result ≡ Err WriteFault.Failed → Rose self.old.store_faults self.new.store_faults }
+
+        // no other answer raises the count
+        ensures blameless { (IsErrOf result WriteFault.Failed → ⊥) → self.new.store_faults ≡ self.old.store_faults }
 
         // the calls of these numbers fail, and no others
         ensures counted { self.new.calls ≡ min (self.old.calls + 1) (2 ^ 64 - 1) }

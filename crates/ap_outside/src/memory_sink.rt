@@ -104,6 +104,9 @@ impl Sink for MemorySink {
         ensures later { self.old.faults ≤ self.new.faults }
         ensures failed { result ≡ Err WriteFault.Failed → Rose self.old.faults self.new.faults }
 
+        // no other answer raises the count
+        ensures blameless { (IsErrOf result WriteFault.Failed → ⊥) → self.new.faults ≡ self.old.faults }
+
         // the calls of these numbers fail, and no others
         ensures counted { self.new.calls ≡ min (self.old.calls + 1) (2 ^ 64 - 1) }
         ensures failing { self.new.failing ≡ self.old.failing }

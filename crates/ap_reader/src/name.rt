@@ -3,7 +3,7 @@ ghost use Rattle.ap_reader.specs.Faults.{Gives, at_place};
 ghost use Rattle.ap_reader.specs.Names.{plain, letters_of, is_plain, is_keyword, has_package, has_colon, package_of, HasRoom, named, symbol_by, symbol_of};
 
 use crate::fault::{ReadError, ReadKind, fault_at};
-use ap_value::{Bytes, NoMemory, Seq, Shared, Symbol};
+use ap_value::{Bytes, NoMemory, Seq, Symbol, Text};
 use std::alloc::Global;
 
 /// A byte of a name, and whether a bar or a backslash escaped it.
@@ -143,7 +143,7 @@ fn name_from(
     if has_colon(letters) {
         return Err(fault_at(place, ReadKind::BadPackage));
     }
-    let name = Shared::new(alloc, bytes_of(alloc, letters)?)?;
+    let name = Text::new(alloc, bytes_of(alloc, letters)?)?;
     Ok(Symbol { keyword, name })
 }
 

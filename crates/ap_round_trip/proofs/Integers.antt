@@ -13,7 +13,7 @@ use Rattle.ap_reader.specs.declared.form.Body.TheVariants as body
 use Rattle.ap_reader.specs.declared.leaf.Leaf.TheVariants as leaves
 use Rattle.ap_reader.specs.Leaves.{fitted, atom_of, leaf_of}
 use Rattle.ap_reader.specs.Numbers.{is_digit, past_digits, is_digits, past_sign, is_number, is_dots, shape_by, shape_of, worth, value_after, signed, integer_of}
-use Rattle.ap_round_trip.specs.ReadBack.{fits}
+use Rattle.ap_value.specs.Fits.{fits}
 use Rattle.ap_round_trip.proofs.Tokens.{IsLeaf}
 use Rattle.ap_round_trip.proofs.Bytes.{Inner, starts, atom_spelled}
 

@@ -7,7 +7,6 @@ pub mod Integers
 pub mod Names
 pub mod Shapes
 pub mod Symbols
-pub mod Folds
 pub mod Stands
 pub mod Values
 pub mod Read

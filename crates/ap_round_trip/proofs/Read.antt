@@ -17,8 +17,9 @@ use Rattle.ap_reader.specs.Grammar as spells
 use Rattle.ap_term.specs.declared.term.Term.{Quote}
 use Rattle.ap_term.specs.Printed.{written_step, value_text, term_text}
 use Rattle.ap_term.proofs.Folds.{constant_text}
-use Rattle.ap_round_trip.specs.ReadBack.{fits, all_fit, nesting, IsReadAs, IsReadQuoted}
-use Rattle.ap_round_trip.proofs.Folds.{fold_int, fold_chr, fold_str, fold_sym}
+use Rattle.ap_value.specs.Fits.{fits, all_fit}
+use Rattle.ap_round_trip.specs.ReadBack.{nesting, IsReadAs, IsReadQuoted}
+use Rattle.ap_value.proofs.Induction.{fold_int, fold_chr, fold_str, fold_sym}
 use Rattle.ap_round_trip.proofs.Tokens.{over, reads_leaf, token_here}
 use Rattle.ap_round_trip.proofs.Strings.{string_leaf}
 use Rattle.ap_round_trip.proofs.Characters.{character_leaf}

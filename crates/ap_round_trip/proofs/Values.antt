@@ -11,9 +11,10 @@ use Rattle.ap_tokens.proofs.Sound.{and_both}
 use Rattle.ap_reader.specs.declared.form.Body.{Body}
 use Rattle.ap_reader.specs.declared.form.Body.TheVariants as body
 use Rattle.ap_term.specs.Printed.{quoted, symbol_text, character_text, is_nil, dotted_rest, atom_written, written_step, written, value_text, rest_text}
-use Rattle.ap_round_trip.specs.ReadBack.{fit_step, all_fit, nested_step, nested, nesting}
+use Rattle.ap_value.specs.Fits.{fit_step, all_fit}
+use Rattle.ap_round_trip.specs.ReadBack.{nested_step, nested, nesting}
 use Rattle.ap_round_trip.proofs.Meant.{value_of, int_value, chr_value, str_value, sym_value}
-use Rattle.ap_round_trip.proofs.Folds.{value_ind, fold_int, fold_chr, fold_str, fold_sym, fold_cons}
+use Rattle.ap_value.proofs.Induction.{value_ind, fold_int, fold_chr, fold_str, fold_sym, fold_cons}
 use Rattle.ap_round_trip.proofs.Tokens.{Ends, space, close, IsLeaf}
 use Rattle.ap_round_trip.proofs.Strings.{string_leaf}
 use Rattle.ap_round_trip.proofs.Characters.{character_leaf}

@@ -1,5 +1,5 @@
 -- The value that a form is within a quote, and the limits within which a printed value is read.
-use Rattle.std.specs.Prelude.{◌≡◌, ℕ, ◌+◌, ◌^◌, max, Bool, true, ◌&&◌, nat_lt, List, [], ◌∷◌, Option, Some, None, codes, ℤ, pos, negsuc}
+use Rattle.std.specs.Prelude.{◌≡◌, ℕ, ◌+◌, max, List, [], ◌∷◌, Option, Some, None, codes}
 use Rattle.ap_value.specs.declared.value.Value.{Value, fold-Value, Int, Chr, Str, Sym, Cons}
 use Rattle.ap_value.specs.declared.value.Value.TheOpen.{Value-F}
 use Rattle.ap_value.specs.Values.{acl2}
@@ -44,22 +44,6 @@ form_value f = f.body
 -- the value of a form within a quote
 abbrev pub quoted_value : Form → Option Value
 quoted_value = fold-Form (Option Value) (Option Value) body_value form_value
-
--- the integer has 128 bits
-abbrev pub fits : ℤ → Bool
-fits (pos n) = nat_lt n (2 ^ 127)
-fits (negsuc n) = nat_lt n (2 ^ 127)
-
-abbrev pub fit_step : Value-F Bool → Bool
-fit_step (Value-F.Int n) = fits n
-fit_step (Value-F.Chr c) = true
-fit_step (Value-F.Str s) = true
-fit_step (Value-F.Sym s) = true
-fit_step (Value-F.Cons a b) = a && b
-
--- every integer in a value has 128 bits
-abbrev pub all_fit : Value → Bool
-all_fit = fold-Value Bool fit_step
 
 -- how many lists stand within each other in a value's text, and in its text as the rest of a list
 pub record Nested : Type 0 where

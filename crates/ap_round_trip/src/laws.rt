@@ -1,13 +1,14 @@
 ghost use Rattle.std.specs.Prelude.{ℕ, ◌<◌, ◌≤◌, IsTrue, List, [], ◌∷◌, ℤ};
 ghost use Rattle.ap_value.specs.declared.symbol.Symbol.{Symbol};
 ghost use Rattle.ap_value.specs.declared.value.Value.{Value, Int, Chr, Str, Sym};
+ghost use Rattle.ap_value.specs.Fits.{fits, all_fit};
 ghost use Rattle.ap_tokens.specs.Gaps.{at};
 ghost use Rattle.ap_reader.specs.declared.form.Body.TheVariants as body;
 ghost use Rattle.ap_reader.specs.Heads.{made};
 ghost use Rattle.ap_reader.specs.Grammar.{Reads};
 ghost use Rattle.ap_term.specs.declared.term.Term.{Quote};
 ghost use Rattle.ap_term.specs.Printed.{value_text, term_text};
-ghost use Rattle.ap_round_trip.specs.ReadBack.{fits, all_fit, nesting, IsReadAs, IsReadQuoted};
+ghost use Rattle.ap_round_trip.specs.ReadBack.{nesting, IsReadAs, IsReadQuoted};
 
 /// What is printed is read back as itself, by the printed bytes of values and terms and the grammar of
 /// forms. The text of a symbol, a string, a character or an integer of 128 bits is that one form, at the

@@ -2,7 +2,7 @@
 -- by itself.
 use Rattle.std.proofs.Common.{◌≡◌, ℕ, zero, suc, ◌+◌, Bool, true, false, true≢false, cond, ◌||◌, not, List, [], ◌∷◌, ◌++◌, map, take, drop, length, Some, IsTrue, IfSome, get_or, ◌⊎◌, inl, inr, refl, ap, sym, ◌∙◌, subst, append_assoc, arith}
 use Rattle.std.specs.Prelude.{slice_get, IsSomeAnd}
-use Rattle.ap_list.specs.Lists.{Each, AnyOf, is_among}
+use Rattle.ap_list.specs.Lists.{AnyOf, is_among}
 use Rattle.ap_value.specs.Values.{val_of, value_eq}
 use Rattle.ap_value.specs.declared.value.Value.TheVariants.{Sym}
 use Rattle.ap_term.specs.declared.term.Term.{Term}
@@ -12,36 +12,19 @@ use Rattle.ap_term.specs.Equal.{term_eq}
 use Rattle.ap_term.proofs.Equals.{term_eq-true}
 use Rattle.ap_world.specs.Names.{t_name}
 use Rattle.ap_world.specs.Primitives.{nil}
-use Rattle.ap_world.specs.Meaning.{Defs}
 use Rattle.ap_world.specs.Recursion.{t_constant}
-use Rattle.ap_world.specs.Sound.{known}
+use Rattle.ap_world.specs.Facts.{Facts}
+use Rattle.ap_world.specs.Shapes.{Shape, constant, equation, shape_of, constant_says, is_constant}
 use Rattle.ap_world.proofs.Equations.{val_of_t, t-not_nil}
-use Rattle.ap_kernel.specs.declared.reductions.Reduction.{Reduction}
+use Rattle.ap_kernel.specs.declared.reductions.Inference.{Inference}
 use Rattle.ap_kernel.specs.declared.objects.Ctx.{Ctx}
-use Rattle.ap_kernel.specs.declared.objects.Equiv.{Equiv}
-use Rattle.ap_kernel.specs.Standing.{Facts, KnownFacts}
-use Rattle.ap_kernel.specs.Assume.{assumed}
-use Rattle.ap_kernel.specs.Shapes.{Shape, constant, equation, shape_of, constant_says, is_constant}
+use Rattle.ap_kernel.specs.declared.objects.Sequent.{Sequent}
 use Rattle.ap_kernel.specs.Equations.{equation_leads, equation_made}
-use Rattle.ap_kernel.specs.Reductions.{KnownClause, put_at, others, all_false, rewritten, chained}
+use Rattle.ap_kernel.specs.Reductions.{put_at, rewritten, chained}
 use Rattle.ap_kernel.specs.Tidying.{plain_by, plain, kept, tidied, decides, any_decides, holds_by_itself, tidy_goals, tidy_made}
 use Rattle.ap_kernel.proofs.ChoicesStand.{bare_of, bare_is}
-use Rattle.ap_kernel.proofs.Reduced.{each_put, any_right, any_either}
-use Rattle.ap_clausify.proofs.FalseFacts.{all_false_known}
+use Rattle.ap_kernel.proofs.Reduced.{any_right, any_either}
 use Rattle.ap_strategy.specs.Steps.{is_reflexive, any_reflexive, tidied_clause, settled, settled_made}
-
--- the facts of the other literals
-false_appended : (xs ys : List Term) → all_false (xs ++ ys) ≡ all_false xs ++ all_false ys
-false_appended [] ys = refl
-false_appended (x ∷ xs) ys = ap (λ fs. assumed x false ++ fs) (false_appended xs ys) ∙ sym (append_assoc (assumed x false) (all_false xs) (all_false ys))
-
-pub others_are_false : (i : ℕ) (ts : List Term) → all_false (take i ts) ++ all_false (drop (i + 1) ts) ≡ all_false (others i ts)
-others_are_false i ts = sym (false_appended (take i ts) (drop (i + 1) ts))
-
-pub others_false_known : (D : Defs) (c : Clause) (ts : List Term) (i : ℕ) (fs : Facts) → KnownClause D c → ts ≡ c.0 → fs ≡ all_false (others i ts) → KnownFacts D fs
-others_false_known D c ts i fs k e h =
-    let ks : Each (λ u. IsTrue (known D u)) ts = subst (Each (λ u. IsTrue (known D u))) (sym e) k in
-    subst (KnownFacts D) (sym h) (all_false_known D (others i ts) (each_put (λ u. IsTrue (known D u)) i [] ts tt ks))
 
 -- the equation leads to 'T
 pub reflexive_leads : (fs : Facts) (u : Term) → is_reflexive (shape_of u) ≡ true → equation_leads fs u ≡ Some t_constant
@@ -137,15 +120,15 @@ found P (y ∷ xs) zero x h e = (ap Some (sym e), subst P (sym e) h)
 found P (y ∷ xs) (suc i) x h e = found P xs i x h e
 
 -- where the equation leads, as the kernel's row makes it
-pub holds_is : (ctx : Ctx) (u : Term) (q : Equiv) → is_reflexive (shape_of u) ≡ true → IfSome (equation_leads ctx.0 u) (λ r. q ≡ equation_made ctx u r) → q ≡ equation_made ctx u t_constant
+pub holds_is : (ctx : Ctx) (u : Term) (q : Sequent) → is_reflexive (shape_of u) ≡ true → IfSome (equation_leads ctx.0 u) (λ r. q ≡ equation_made ctx u r) → q ≡ equation_made ctx u t_constant
 holds_is ctx u q h made = subst (λ o. IfSome o (λ r. q ≡ equation_made ctx u r)) (reflexive_leads ctx.0 u h) made
 
 t_sure : Sure t_constant
 t_sure = rw (outs-Quote (Sym t_name)) (ap (λ v. not (value_eq v nil)) val_of_t ∙ ap not t-not_nil)
 
 -- so the clause is reduced to none
-pub closing : (c : Clause) (i : ℕ) (r a : Reduction) (rs : List Reduction) (cs : List Clause) → r ≡ rewritten c i t_constant → cs ≡ r.to → rs ≡ map tidy_made cs → a ≡ chained r rs → a ≡ record { from = c; to = [] }
-closing c i r a rs cs h g l e = e ∙ ap (chained r) (l ∙ ap (map tidy_made) g) ∙ ap (λ (q : Reduction). chained q (map tidy_made q.to)) h ∙ made
+pub closing : (c : Clause) (i : ℕ) (r a : Inference) (rs : List Inference) (cs : List Clause) → r ≡ rewritten c i t_constant → cs ≡ r.to → rs ≡ map tidy_made cs → a ≡ chained r rs → a ≡ record { from = c; to = [] }
+closing c i r a rs cs h g l e = e ∙ ap (chained r) (l ∙ ap (map tidy_made) g) ∙ ap (λ (q : Inference). chained q (map tidy_made q.to)) h ∙ made
   where
     there : AnyOf Sure (put_at i (t_constant ∷ []) c.0)
     there = any_right Sure (take i c.0) ((t_constant ∷ []) ++ drop (i + 1) c.0) (inl t_sure)
@@ -176,11 +159,11 @@ settled_none c d i h k = go (holds_by_itself (tidied c.0)) h
         let same : tidied c.0 ≡ d.0 = ap first q in
         ap (λ b. cond b [] (tidied_clause c ∷ [])) (subst (λ ts. any_reflexive ts ≡ true) (sym same) (any_reflexive_at d.0 i k))
 
-pub settled_is : (c d : Clause) (t s : Reduction) (xs : List Clause) (i : ℕ) → t ≡ tidy_made c → xs ≡ t.to → length xs ≡ 1 → d ≡ get_or xs 0 d → IsSomeAnd (slice_get d.0 i) (λ u. is_reflexive (shape_of u) ≡ true)
+pub settled_is : (c d : Clause) (t s : Inference) (xs : List Clause) (i : ℕ) → t ≡ tidy_made c → xs ≡ t.to → length xs ≡ 1 → d ≡ get_or xs 0 d → IsSomeAnd (slice_get d.0 i) (λ u. is_reflexive (shape_of u) ≡ true)
     → s ≡ record { from = t.from; to = [] } → s ≡ settled_made c
 settled_is c d t s xs i h e one at k made =
-    let to : tidy_goals (tidied c.0) ≡ d ∷ [] = ap (λ (r : Reduction). r.to) (sym h) ∙ sym e ∙ alone xs one at in
-    made ∙ ap (λ (r : Reduction). record { from = r.from; to = [] }) h ∙ ap (λ cs. record { from = c; to = cs }) (sym (settled_none c d i to k))
+    let to : tidy_goals (tidied c.0) ≡ d ∷ [] = ap (λ (r : Inference). r.to) (sym h) ∙ sym e ∙ alone xs one at in
+    made ∙ ap (λ (r : Inference). record { from = r.from; to = [] }) h ∙ ap (λ cs. record { from = c; to = cs }) (sym (settled_none c d i to k))
   where
     alone : (xs : List Clause) → length xs ≡ 1 → d ≡ get_or xs 0 d → xs ≡ d ∷ []
     alone [] l k = absurd (omega arith)

@@ -2,7 +2,7 @@
 use Rattle.std.proofs.Common.{◌≡◌, ◌≤◌, ℕ, ◌+◌, Bool, true, false, cond, List, [], ◌∷◌, ◌++◌, map, length, length-append, Option, Some, None, option_map, refl, ap, sym, ◌∙◌, arith}
 use Rattle.ap_list.specs.Lists.{joined}
 use Rattle.ap_term.specs.declared.term.Clause.{Clause}
-use Rattle.ap_kernel.specs.declared.reductions.Reduction.{Reduction}
+use Rattle.ap_kernel.specs.declared.reductions.Inference.{Inference}
 use Rattle.ap_kernel.specs.Tidying.{tidied}
 use Rattle.ap_clausify.specs.Splitting.{split_of}
 use Rattle.ap_clausify.proofs.SplitStands.{split_few}
@@ -27,7 +27,7 @@ length_is o xs ys h k = let e : Some xs ≡ Some ys = sym h ∙ k in ap length (
     some_is : (xs ys : List Clause) → Some xs ≡ Some ys → xs ≡ ys
     some_is xs ys e = cc
 
-opened_few : (n b : ℕ) (c : Clause) (o : Option Reduction) (ds : List Clause) → first_solved c 0 c.0 ≡ o → opened n c o ≡ Some ds → n ≤ b → 1 ≤ b → length ds ≤ b
+opened_few : (n b : ℕ) (c : Clause) (o : Option Inference) (ds : List Clause) → first_solved c 0 c.0 ≡ o → opened n c o ≡ Some ds → n ≤ b → 1 ≤ b → length ds ≤ b
 opened_few n b c (Some r) ds q h below one =
     let a : length r.to ≡ 1 = first_to c 0 c.0 r q in
     let e : length r.to ≡ length ds = length_is (Some r.to) r.to ds refl h in

@@ -1,5 +1,5 @@
 -- The goal that an attempt starts from keeps what tasks keep.
-use Rattle.std.proofs.Common.{◌≡◌, ◌≤◌, length, true, true≢false, IsTrue, refl, sym, subst, arith}
+use Rattle.std.proofs.Common.{◌≡◌, ◌≤◌, true, true≢false, IsTrue, refl, sym, subst, arith}
 use Rattle.ap_list.specs.Lists.{Each}
 use Rattle.ap_term.specs.declared.term.Term.{Term}
 use Rattle.ap_term.specs.declared.term.Clause.{Clause}
@@ -10,10 +10,9 @@ use Rattle.ap_strategy.specs.declared.plan.Settings.{Settings}
 use Rattle.ap_strategy.specs.Laws.{kernel_ground}
 use Rattle.ap_strategy.specs.Goals.{IsGoal, defs_of, first_settings, root_goal}
 
-pub root_is_goal : (plan : Plan) (u : Term) (c : Clause) (s : Settings) → length plan.world.entries ≤ 18446744073709551615 → Sound plan.world.entries → HasFunctions (defs_of plan) → known (defs_of plan) u ≡ true
+pub root_is_goal : (plan : Plan) (u : Term) (c : Clause) (s : Settings) → Sound plan.world.entries → HasFunctions (defs_of plan) → known (defs_of plan) u ≡ true
     → Clausifies u c → s ≡ first_settings plan → IsGoal (record (root_goal plan u) { clause = c; settings = s })
-root_is_goal plan u c s few sound functions k stands h = record {
-  few = few;
+root_is_goal plan u c s sound functions k stands h = record {
   functions = functions;
   clause = (stands plan.world.entries sound (kernel_ground (defs_of plan) functions) k).0;
   expand = subst (λ (s : Settings). Each (λ u. IsTrue (known (defs_of plan) u)) s.expand) (sym h) tt;

@@ -31,7 +31,6 @@ defs_of plan = function_of plan.world.entries
 
 -- what each task keeps
 pub record IsGoal (g : Goal) : Type 0 where
-  pub few : length g.plan.world.entries ≤ 18446744073709551615
   pub functions : HasFunctions (defs_of g.plan)
   pub clause : KnownClause (defs_of g.plan) g.clause
   pub expand : Each (λ u. IsTrue (known (defs_of g.plan) u)) g.settings.expand

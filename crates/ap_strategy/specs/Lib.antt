@@ -3,3 +3,4 @@ pub mod Steps
 pub mod Repeats
 pub mod Reduced
 pub mod Laws
+pub mod Ranks

@@ -8,13 +8,13 @@ use Rattle.ap_term.specs.Equal.{term_eq}
 use Rattle.ap_world.specs.Meaning.{Total, Valid}
 use Rattle.ap_world.specs.Recursion.{args_eq}
 use Rattle.ap_world.specs.Sound.{HasFunctions}
+use Rattle.ap_world.specs.Shapes.{Shape, equation, shape_of}
 use Rattle.ap_names.specs.Names.{Name, child_of, primed_of}
 use Rattle.ap_walk.specs.declared.act.Reason.{Reason}
 use Rattle.ap_walk.specs.declared.act.Process.{Process}
 use Rattle.ap_walk.specs.declared.act.Out.{Out}
 use Rattle.ap_walk.specs.declared.act.Stepped.{Stepped}
-use Rattle.ap_kernel.specs.declared.reductions.Reduction.{Reduction}
-use Rattle.ap_kernel.specs.Shapes.{Shape, equation, shape_of}
+use Rattle.ap_kernel.specs.declared.reductions.Inference.{Inference}
 use Rattle.ap_kernel.specs.Reductions.{KnownClause}
 use Rattle.ap_kernel.specs.Tidying.{tidied, holds_by_itself}
 use Rattle.ap_kernel.specs.Solving.{solved_made}
@@ -47,7 +47,7 @@ or_later (Some a) o = Some a
 or_later None o = o
 
 -- the first literal that solves a variable, counted from this number on: the variable is replaced in the others
-abbrev pub first_solved : Clause → ℕ → List Term → Option Reduction
+abbrev pub first_solved : Clause → ℕ → List Term → Option Inference
 first_solved c i [] = None
 first_solved c i (u ∷ us) = or_later (solved_made c i) (first_solved c (i + 1) us)
 
@@ -56,7 +56,7 @@ abbrev pub settled_all : List Clause × ℕ → List Clause
 settled_all p = joined (map settled p.0)
 
 -- a tidied clause with a variable solved, else split; None where the steps ran out
-abbrev pub opened : ℕ → Clause → Option Reduction → Option (List Clause)
+abbrev pub opened : ℕ → Clause → Option Inference → Option (List Clause)
 opened steps c (Some r) = Some r.to
 opened steps c None = option_map settled_all (split_of steps c)
 
@@ -130,9 +130,9 @@ depth_of g = 250 - g.depth
 abbrev pub IsGood : Goal → Type 0
 IsGood g = HasFunctions (defs_of g.plan) → Total (defs_of g.plan) → KnownClause (defs_of g.plan) g.clause → Valid (defs_of g.plan) g.clause.0
 
--- as reductions of the kernel
-abbrev pub settled_made : Clause → Reduction
+-- as inferences of the kernel
+abbrev pub settled_made : Clause → Inference
 settled_made c = record { from = c; to = settled c }
 
-abbrev pub reduced_to : Clause → List Clause → Reduction
+abbrev pub reduced_to : Clause → List Clause → Inference
 reduced_to c ds = record { from = c; to = ds }

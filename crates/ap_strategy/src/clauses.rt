@@ -1,18 +1,10 @@
 ghost use Rattle.std.specs.Prelude.{◌≡◌, ◌↔◌, [], IfOk, IsTrue};
-ghost use Rattle.ap_term.specs.Equal.{term_eq};
 ghost use Rattle.ap_world.specs.Recursion.{args_eq};
 ghost use Rattle.ap_strategy.specs.Steps.{is_repeated, unrepeated, is_alone};
 
 use ap_list::{NoMemory, Seq};
 use ap_term::{Clause, Term, copy_terms, same_term};
 use std::alloc::Global;
-
-/// Whether two terms are one, as the test that definitions choose by. Takes no memory.
-pub(crate) fn is_same(a: &Term, b: &Term) -> bool
-    ensures { result ≡ term_eq a.now b.now }
-{
-    same_term(a, b)
-}
 
 /// Whether two lists of terms are one. Takes no memory.
 pub(crate) fn same_terms(a: &[Term], b: &[Term]) -> bool

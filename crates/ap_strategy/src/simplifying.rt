@@ -3,7 +3,7 @@ ghost use Rattle.std.specs.Option.{option_map};
 ghost use Rattle.ap_list.specs.Lists.{Each, joined};
 ghost use Rattle.ap_world.specs.World.{function_of};
 ghost use Rattle.ap_kernel.specs.Standing.{HasGround};
-ghost use Rattle.ap_kernel.specs.Reductions.{KnownClause, Reduces};
+ghost use Rattle.ap_kernel.specs.Reductions.{KnownClause, Reduces, claims};
 ghost use Rattle.ap_kernel.specs.Solving.{solved_made};
 ghost use Rattle.ap_clausify.specs.Splitting.{split_of};
 ghost use Rattle.ap_strategy.specs.Steps.{settled, settled_made, settled_all, first_solved, opened, reduced, simplified, reduced_to};
@@ -21,8 +21,8 @@ use std::alloc::Global;
 fn settle(alloc: Global, w: &World, c: Clause) -> Result<Reduction, NoMemory>
     requires ground { HasGround (function_of w.now.entries) }
     requires clause { KnownClause (function_of w.now.entries) c }
-    ensures stands { IfOk result (λ r. Reduces (function_of w.now.entries) r) }
-    ensures made { IfOk result (λ r. r ≡ settled_made c) }
+    ensures stands { IfOk result (λ r. Reduces w.now r) }
+    ensures made { IfOk result (λ r. r.says ≡ settled_made c) }
 {
     let tidied = tidy(alloc, w, c)?;
     let [plain] = tidied.to().as_slice() else {
@@ -38,11 +38,11 @@ fn settle(alloc: Global, w: &World, c: Clause) -> Result<Reduction, NoMemory>
 
 /// From a clause to what its one clause is reduced to.
 fn then(alloc: Global, w: &World, first: Reduction, next: Reduction) -> Result<Reduction, NoMemory>
-    requires first { Reduces (function_of w.now.entries) first }
-    requires next { Reduces (function_of w.now.entries) next }
-    requires one { first.to ≡ next.from ∷ [] }
-    ensures stands { IfOk result (λ r. Reduces (function_of w.now.entries) r) }
-    ensures made { IfOk result (λ r. r ≡ record { from = first.from; to = next.to }) }
+    requires first { Reduces w.now first }
+    requires next { Reduces w.now next }
+    requires one { first.says.to ≡ next.says.from ∷ [] }
+    ensures stands { IfOk result (λ r. Reduces w.now r) }
+    ensures made { IfOk result (λ r. r.says ≡ record { from = first.says.from; to = next.says.to }) }
 {
     let mut rest = Seq::new(alloc);
     rest.push(next)?;
@@ -54,8 +54,8 @@ fn then(alloc: Global, w: &World, first: Reduction, next: Reduction) -> Result<R
 fn settle_all(alloc: Global, w: &World, cs: &[Clause]) -> Result<Seq<Reduction>, NoMemory>
     requires ground { HasGround (function_of w.now.entries) }
     requires clauses { Each (KnownClause (function_of w.now.entries)) cs.now }
-    ensures made { IfOk result (λ rs. rs ≡ map settled_made cs.now) }
-    ensures stand { IfOk result (λ rs. Each (Reduces (function_of w.now.entries)) rs) }
+    ensures made { IfOk result (λ rs. claims rs ≡ map settled_made cs.now) }
+    ensures stand { IfOk result (λ rs. Each (Reduces w.now) rs) }
 {
     let mut out = Seq::new(alloc);
     for c in cs {
@@ -79,9 +79,9 @@ fn solvable_place(c: &Clause) -> Option<usize>
 /// From a clause to what the clauses that it is reduced to are settled to.
 fn settle_cases(alloc: Global, w: &World, cases: Reduction) -> Result<Reduction, NoMemory>
     requires ground { HasGround (function_of w.now.entries) }
-    requires stands { Reduces (function_of w.now.entries) cases }
-    ensures stands { IfOk result (λ r. Reduces (function_of w.now.entries) r) }
-    ensures made { IfOk result (λ r. r ≡ reduced_to cases.from (joined (map settled cases.to))) }
+    requires stands { Reduces w.now cases }
+    ensures stands { IfOk result (λ r. Reduces w.now r) }
+    ensures made { IfOk result (λ r. r.says ≡ reduced_to cases.says.from (joined (map settled cases.says.to))) }
 {
     let settled = settle_all(alloc, w, cases.to().as_slice())?;
     let answer = chain(alloc, w, cases, settled)?;
@@ -97,8 +97,8 @@ fn split_settled(
 ) -> Result<Option<Reduction>, NoMemory>
     requires ground { HasGround (function_of w.now.entries) }
     requires clause { KnownClause (function_of w.now.entries) c }
-    ensures stands { IfOk result (λ o. IfSome o (Reduces (function_of w.now.entries))) }
-    ensures made { IfOk result (λ o. o ≡ option_map (reduced_to c) (option_map settled_all (split_of limit c))) }
+    ensures stands { IfOk result (λ o. IfSome o (Reduces w.now)) }
+    ensures made { IfOk result (λ o. option_map (λ r. r.says) o ≡ option_map (reduced_to c) (option_map settled_all (split_of limit c))) }
 {
     let mut steps = Steps { left: limit };
     let Some(cases) = split(alloc, w, c, &mut steps)?.reduction else {
@@ -112,8 +112,8 @@ fn split_settled(
 fn open(alloc: Global, w: &World, limit: u32, c: Clause) -> Result<Option<Reduction>, NoMemory>
     requires ground { HasGround (function_of w.now.entries) }
     requires clause { KnownClause (function_of w.now.entries) c }
-    ensures stands { IfOk result (λ o. IfSome o (Reduces (function_of w.now.entries))) }
-    ensures made { IfOk result (λ o. o ≡ option_map (reduced_to c) (opened limit c (first_solved c 0 c.0))) }
+    ensures stands { IfOk result (λ o. IfSome o (Reduces w.now)) }
+    ensures made { IfOk result (λ o. option_map (λ r. r.says) o ≡ option_map (reduced_to c) (opened limit c (first_solved c 0 c.0))) }
 {
     match solvable_place(&c) {
         Some(place) => Ok(Some(use_equality(alloc, w, c, place)?)),
@@ -125,8 +125,8 @@ fn open(alloc: Global, w: &World, limit: u32, c: Clause) -> Result<Option<Reduct
 fn reduce(alloc: Global, w: &World, limit: u32, c: Clause) -> Result<Option<Reduction>, NoMemory>
     requires ground { HasGround (function_of w.now.entries) }
     requires clause { KnownClause (function_of w.now.entries) c }
-    ensures stands { IfOk result (λ o. IfSome o (Reduces (function_of w.now.entries))) }
-    ensures made { IfOk result (λ o. o ≡ option_map (reduced_to c) (reduced limit c)) }
+    ensures stands { IfOk result (λ o. IfSome o (Reduces w.now)) }
+    ensures made { IfOk result (λ o. option_map (λ r. r.says) o ≡ option_map (reduced_to c) (reduced limit c)) }
 {
     let settled = settle(alloc, w, c)?;
     let [plain] = settled.to().as_slice() else {

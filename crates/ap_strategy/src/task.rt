@@ -5,12 +5,12 @@ ghost use Rattle.ap_strategy.specs.Goals.{IsGoal, defs_of, root_goal, inducted};
 
 use crate::clauses::same_terms;
 use crate::plan::{Plan, Settings, copy_settings, first_settings};
-use crate::same::{has_entry, same_plan, same_settings};
+use crate::same::{same_plan, same_settings};
 use ap_clausify::flat;
 use ap_list::{NoMemory, Seq};
 use ap_names::{GoalName, same_name};
 use ap_term::{Clause, Term, copy_term, copy_terms, same_term};
-use std::alloc::{AllocError, Global};
+use std::alloc::Global;
 use std::marker::Model;
 
 /// A goal of the waterfall, with all that its step depends on: the plan that it is worked by; its name and
@@ -18,8 +18,7 @@ use std::marker::Model;
 /// whether it is the induction of a pushed goal; and the call that it is by, where one is given.
 ///
 /// Its type keeps what its step needs. The plan's world has the functions of the ground world, and each call
-/// in the task's terms is of a primitive or of a function of that world, with its number of arguments; the
-/// world has fewer than 2^64 entries, so that two tasks can be compared.
+/// in the task's terms is of a primitive or of a function of that world, with its number of arguments.
 /// `depth` is at most 250, and the name has no more primes than that. Where `induct` is true the name is a
 /// pushed goal's, and `depth` is 0; where it is false the name is none.
 #[derive(Drop)]
@@ -81,16 +80,13 @@ fn root_name(alloc: Global) -> GoalName
 }
 
 /// The task that the attempt on a term starts from: its name is `Goal`, and its clause the term's. The only
-/// error is want of memory, which a world of 2^64 entries or more is taken for.
+/// error is want of memory.
 pub fn root_task<'a>(alloc: Global, plan: &'a Plan, term: &Term) -> Result<Task<'a>, NoMemory>
     requires functions { HasFunctions (defs_of plan.now) }
     requires term { IsTrue (known (defs_of plan.now) term.now) }
     ensures { IfOk result (λ t. t ≡ root_goal plan.now term.now) }
 {
     plan.world.is_sound();
-    if has_entry(&plan.world, usize::MAX) {
-        return Err(AllocError);
-    }
     let name = root_name(alloc);
     let clause = flat(alloc, term)?;
     let settings = first_settings(alloc, plan)?;
@@ -159,12 +155,11 @@ fn same_scheme(a: &Option<Term>, b: &Option<Term>) -> bool
     }
 }
 
-/// Whether two tasks are one, in all that they hold, their plans' worlds too. Takes no memory.
+/// Whether two tasks are one, in all that they hold, their plans' worlds too. The plans are compared last.
+/// Takes no memory.
 pub fn same_task(a: &Task<'_>, b: &Task<'_>) -> bool
     ensures { IsTrue result ↔ (a.now ≡ b.now) }
 {
-    a.is_goal();
-    b.is_goal();
     a.depth == b.depth
         && a.under == b.under
         && a.induct == b.induct

@@ -218,7 +218,7 @@ bars_atom cs s e = skip-escaped 124 cs s (λ k. omega arith)
 pub plain_other : (k d : ℕ) → is_plain k ≡ false → is_plain d ≡ true → (d == k) ≡ false
 plain_other k d h p = ne_eqb d k (λ e. let f : is_plain k ≡ true = ap is_plain (sym e) ∙ p in let g : false ≡ true = sym h ∙ f in cc)
 
-special : (is_plain 34 ≡ false) × ((is_plain 58 ≡ false) × (is_plain 124 ≡ false))
+pub special : (is_plain 34 ≡ false) × ((is_plain 58 ≡ false) × (is_plain 124 ≡ false))
 unfolding is_plain ends_atom
 special = (refl, (refl, refl))
 

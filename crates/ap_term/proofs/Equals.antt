@@ -1,10 +1,9 @@
 -- The test of equality on terms says what it says.
-use Rattle.std.proofs.Common.{◌≡◌, Bool, true, false, List, [], ◌∷◌, map, refl, sym, ap, ◌∙◌}
+use Rattle.std.proofs.Common.{◌≡◌, Bool, true, List, [], ◌∷◌, map, refl, sym, ap, ◌∙◌}
 use Rattle.ap_list.specs.Lists.{Each}
 use Rattle.ap_value.specs.declared.symbol.Symbol.{Symbol}
 use Rattle.ap_value.specs.declared.value.Value.{Value}
 use Rattle.ap_value.specs.Values.{symbol_eq}
-use Rattle.ap_value.specs.Equal.{constant_eq}
 use Rattle.ap_value.proofs.Equals.{both, and_true, symbol_eq-true, symbol_eq-same}
 use Rattle.ap_value.proofs.Constants.{constant_eq-true, constant_eq-same}
 use Rattle.ap_term.specs.declared.term.Term.{Term, out-Term, Var, Quote, Call}

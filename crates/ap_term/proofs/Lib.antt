@@ -1,9 +1,11 @@
 pub mod Arguments
+pub mod AtomTexts
 pub mod Compares
 pub mod Equals
 pub mod Folds
 pub mod Induction
 pub mod Less
 pub mod Parts
+pub mod PrintedApart
 pub mod StrictOrder
 pub mod Wholes

@@ -66,7 +66,7 @@ parts_apart r p (c' ∷ p') q (d' ∷ q') c d x y h f g ne =
     (λ s t. through r p c' p' q d' q' c d h f g (follow x s) (follow y t) ∙ sym (then-kept r (bytes_order (p' ++ follow x s) (q' ++ follow y t)) ne))
 
 -- a text that is an atom, or is told by its opening byte
-abbrev Unopened : List ℕ → Type 0
+abbrev pub Unopened : List ℕ → Type 0
 Unopened [] = ⊥
 Unopened (c ∷ cs) = (c ≡ 39 → ⊥) × (c ≡ 40 → ⊥)
 
@@ -74,7 +74,7 @@ abbrev IsPart : Option ℕ → List ℕ → Type 0
 IsPart None p = IsAtom p × Unopened p
 IsPart (Some c) p = ((c ≡ 39) ⊎ (c ≡ 40)) × FirstIs c p
 
-alone_unopened : (p : List ℕ) → stands_alone p ≡ true → Unopened p
+pub alone_unopened : (p : List ℕ) → stands_alone p ≡ true → Unopened p
 alone_unopened [] h = absurd (cc)
 alone_unopened (c ∷ cs) h = (λ e. by c (is_empty cs) (inl e) h, λ e. by c (is_empty cs) (inr e) h)
   where

@@ -3,7 +3,7 @@ use Rattle.std.proofs.Common.{◌≡◌, ℕ, ◌<◌, ◌⊎◌, inl, inr, Bool
 use Rattle.std.proofs.lemmas.Bool.Decides.{nat_tests}
 use Rattle.ap_term.specs.declared.term.Term.{Term}
 use Rattle.ap_term.specs.Printed.{term_text}
-use Rattle.ap_term.specs.Order.{number_first, bytes_less, variables_in, functions_in, constants_in, counted, term_less}
+use Rattle.ap_term.specs.Order.{number_first, bytes_less, variables_in, functions_in, constants_in, term_less}
 
 -- no number stands before itself
 first-same : (m : ℕ) (b : Bool) → number_first m m b ≡ true → b ≡ true
@@ -64,20 +64,20 @@ pub less-same : (a : Term) → term_less a a ≡ true → ⊥
 unfolding term_less
 less-same a h =
     bytes-same (term_text a)
-    (first-same (counted (constants_in a)) _ (first-same (counted (functions_in a)) _ (first-same (counted (variables_in a)) _ h)))
+    (first-same (constants_in a) _ (first-same (functions_in a) _ (first-same (variables_in a) _ h)))
 
 pub less-neither : (a b : Term) → term_less a b ≡ false → term_less b a ≡ false → term_text a ≡ term_text b
 unfolding term_less
 less-neither a b h k =
-    let variables = first-neither (counted (variables_in a)) (counted (variables_in b)) _ _ h k in
-    let functions = first-neither (counted (functions_in a)) (counted (functions_in b)) _ _ variables.1.0 variables.1.1 in
-    let constants = first-neither (counted (constants_in a)) (counted (constants_in b)) _ _ functions.1.0 functions.1.1 in
+    let variables = first-neither (variables_in a) (variables_in b) _ _ h k in
+    let functions = first-neither (functions_in a) (functions_in b) _ _ variables.1.0 variables.1.1 in
+    let constants = first-neither (constants_in a) (constants_in b) _ _ functions.1.0 functions.1.1 in
     bytes-neither (term_text a) (term_text b) constants.1.0 constants.1.1
 
 pub less-transitive : (a b c : Term) → term_less a b ≡ true → term_less b c ≡ true → term_less a c ≡ true
 unfolding term_less
 less-transitive a b c =
-    first-transitive (counted (variables_in a)) (counted (variables_in b)) (counted (variables_in c)) _ _ _
-    (first-transitive (counted (functions_in a)) (counted (functions_in b)) (counted (functions_in c)) _ _ _
-    (first-transitive (counted (constants_in a)) (counted (constants_in b)) (counted (constants_in c)) _ _ _
+    first-transitive (variables_in a) (variables_in b) (variables_in c) _ _ _
+    (first-transitive (functions_in a) (functions_in b) (functions_in c) _ _ _
+    (first-transitive (constants_in a) (constants_in b) (constants_in c) _ _ _
     (bytes-transitive (term_text a) (term_text b) (term_text c))))

@@ -1,5 +1,5 @@
 -- The order of terms, by which rules that permute are kept from looping and polynomials are sorted.
-use Rattle.std.specs.Prelude.{ℕ, ◌+◌, ◌-◌, ◌^◌, min, Bool, true, false, ◌==◌, ◌&&◌, ◌||◌, nat_lt, List, [], ◌∷◌}
+use Rattle.std.specs.Prelude.{ℕ, ◌+◌, Bool, true, false, ◌==◌, ◌&&◌, ◌||◌, nat_lt, List, [], ◌∷◌}
 use Rattle.ap_list.specs.Lists.{sum_of}
 use Rattle.ap_value.specs.Counts.{node_count}
 use Rattle.ap_term.specs.Printed.{term_text}
@@ -33,10 +33,6 @@ constant_step (Term-F.Call f ns) = sum_of ns
 abbrev pub constants_in : Term → ℕ
 constants_in = fold-Term ℕ constant_step
 
--- a count past 2 ^ 64 - 1 counts as 2 ^ 64 - 1: no term that a machine holds has as many
-abbrev pub counted : ℕ → ℕ
-counted n = min n (2 ^ 64 - 1)
-
 -- the smaller number comes first; between equal ones the next test decides
 abbrev pub number_first : ℕ → ℕ → Bool → Bool
 number_first m n next = nat_lt m n || (m == n && next)
@@ -50,7 +46,7 @@ bytes_less (x ∷ xs) (y ∷ ys) = number_first x y (bytes_less xs ys)
 -- the order compares, in turn: variable occurrences, function symbols, nodes in constants, printed bytes
 unfoldable pub term_less : Term → Term → Bool
 term_less a b =
-    number_first (counted (variables_in a)) (counted (variables_in b))
-    (number_first (counted (functions_in a)) (counted (functions_in b))
-    (number_first (counted (constants_in a)) (counted (constants_in b))
+    number_first (variables_in a) (variables_in b)
+    (number_first (functions_in a) (functions_in b)
+    (number_first (constants_in a) (constants_in b)
     (bytes_less (term_text a) (term_text b))))

@@ -1,12 +1,13 @@
-ghost use Rattle.std.specs.Prelude.{◌≡◌, map};
+ghost use Rattle.std.specs.Prelude.{◌≡◌, ◌+◌, ◌-◌, ◌^◌, ◌<◌, IfSome, IfNone, map};
 ghost use Rattle.ap_list.specs.Lists.{sum_of};
-ghost use Rattle.ap_term.specs.Order.{counted, variables_in, functions_in, constants_in};
+ghost use Rattle.ap_term.specs.Order.{variables_in, functions_in, constants_in};
+ghost use Rattle.ap_term.specs.Terms.{term_size};
 
 use crate::term::Term;
 use ap_value::nodes;
 
 /// The counts by which terms are ordered first: variable occurrences, function symbols and the nodes in
-/// constants. One past 64 bits counts as the greatest of 64 bits.
+/// constants. Together they are the term's nodes.
 #[derive(Clone, Copy)]
 pub struct TermCounts {
     pub variables: u64,
@@ -14,54 +15,58 @@ pub struct TermCounts {
     pub constants: u64,
 }
 
-/// The counts of a term.
+/// The counts of a term. `None` only where its nodes pass 64 bits.
 #[cycle(counting)]
-pub fn counts(t: &Term) -> TermCounts
-    ensures variables { result.variables ≡ counted (variables_in t.now) }
-    ensures functions { result.functions ≡ counted (functions_in t.now) }
-    ensures constants { result.constants ≡ counted (constants_in t.now) }
+pub fn counts(t: &Term) -> Option<TermCounts>
+    ensures variables { IfSome result (λ c. c.variables ≡ variables_in t.now) }
+    ensures functions { IfSome result (λ c. c.functions ≡ functions_in t.now) }
+    ensures constants { IfSome result (λ c. c.constants ≡ constants_in t.now) }
+    ensures nodes { IfSome result (λ c. c.variables + c.functions + c.constants ≡ term_size t.now) }
+    ensures past { IfNone result (2 ^ 64 - 1 < term_size t.now) }
 {
     match t {
-        Term::Var(_) => TermCounts {
+        Term::Var(_) => Some(TermCounts {
             variables: 1,
             functions: 0,
             constants: 0,
-        },
-        Term::Quote(v) => TermCounts {
+        }),
+        Term::Quote(v) => Some(TermCounts {
             variables: 0,
             functions: 0,
-            constants: nodes(v).unwrap_or(u64::MAX),
-        },
+            constants: nodes(v)?,
+        }),
         Term::Call(_, xs) => {
-            let parts = counts_of(xs.as_slice());
-            TermCounts {
+            let parts = counts_of(xs.as_slice())?;
+            Some(TermCounts {
                 variables: parts.variables,
-                functions: parts.functions.saturating_add(1),
+                functions: parts.functions.checked_add(1)?,
                 constants: parts.constants,
-            }
+            })
         }
     }
 }
 
 /// The counts of terms together.
 #[cycle(counting)]
-fn counts_of(xs: &[Term]) -> TermCounts
-    ensures variables { result.variables ≡ counted (sum_of (map variables_in xs.now)) }
-    ensures functions { result.functions ≡ counted (sum_of (map functions_in xs.now)) }
-    ensures constants { result.constants ≡ counted (sum_of (map constants_in xs.now)) }
+fn counts_of(xs: &[Term]) -> Option<TermCounts>
+    ensures variables { IfSome result (λ c. c.variables ≡ sum_of (map variables_in xs.now)) }
+    ensures functions { IfSome result (λ c. c.functions ≡ sum_of (map functions_in xs.now)) }
+    ensures constants { IfSome result (λ c. c.constants ≡ sum_of (map constants_in xs.now)) }
+    ensures nodes { IfSome result (λ c. c.variables + c.functions + c.constants ≡ sum_of (map term_size xs.now)) }
+    ensures past { IfNone result (2 ^ 64 - 1 < sum_of (map term_size xs.now)) }
 {
     let mut variables = 0u64;
     let mut functions = 0u64;
     let mut constants = 0u64;
     for x in xs {
-        let more = counts(x);
-        variables = variables.saturating_add(more.variables);
-        functions = functions.saturating_add(more.functions);
-        constants = constants.saturating_add(more.constants);
+        let more = counts(x)?;
+        variables = variables.checked_add(more.variables)?;
+        functions = functions.checked_add(more.functions)?;
+        constants = constants.checked_add(more.constants)?;
     }
-    TermCounts {
+    Some(TermCounts {
         variables,
         functions,
         constants,
-    }
+    })
 }

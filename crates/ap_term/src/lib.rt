@@ -12,9 +12,9 @@ mod steps;
 mod term;
 
 pub use ap_list::SharedSeq;
-pub use ap_value::{Boxed, Bytes, NoMemory, Seq, Shared, Symbol, Value};
+pub use ap_value::{Boxed, Bytes, NoMemory, Seq, Shared, Symbol, Text, Value};
 pub use atoms::reads_back;
-pub use order::{term_less, term_order_is_total};
+pub use order::{term_less, term_order_is_total, terms_print_apart};
 pub use steps::{Spent, Steps};
 pub use term::{
     Clause, Subst, Term, copy_symbols, copy_term, copy_terms, equality_of_terms, owned, same_term,

@@ -22,7 +22,7 @@ impl Term {
     pub fn call(alloc: Global, head: Symbol, arguments: Seq<Term>) -> Result<Term, NoMemory>
         ensures { IfOk result (λ t. t ≡ Call head arguments) }
     {
-        let arguments = SharedSeq::new(alloc, arguments, 0)?;
+        let arguments = SharedSeq::new(alloc, arguments)?;
         Ok(Term::Call(head, arguments))
     }
 }

@@ -104,6 +104,7 @@ impl Step for Given {
 
 impl Prover for Given {
     ghost use Rattle.std.specs.Prelude.{ℕ, refl};
+    ghost use Rattle.std.proofs.Common.{arith};
     ghost use Rattle.ap_names.specs.Names.{pushed_of};
     ghost use Rattle.ap_tests.specs.declared.attempts.Kind.{Kind};
     ghost use Rattle.ap_tests.specs.declared.attempts.Kind.TheVariants.{Easy, Stuck, Lone, Late, Nest, Twice, Pair};
@@ -112,11 +113,18 @@ impl Prover for Given {
 
     ghost original_of = { λ root. record { name = root.name; kind = Late } };
 
+    // An induction of a nest pushes late goals, whose inductions push nothing.
+    ghost rank = { λ goal. elim goal.kind as (λ _. ℕ) [ Easy ↦ 0 | Stuck ↦ 0 | Lone ↦ 1 | Late ↦ 1 | Nest ↦ 2 | Twice ↦ 1 | Pair ↦ 2 ] };
+
     ghost refuses_induction = { λ given. given.refuses };
 
     ghost named = { λ _ _ _. refl };
 
     ghost original_named = { λ _. refl };
+
+    ghost ranked = { λ goal. Prim.grind arith };
+
+    ghost falling = { λ goal k some pushed. Prim.grind arith };
 
     ghost by_induction = { λ _ _ _ _. tt };
 

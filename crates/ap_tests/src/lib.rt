@@ -1,5 +1,5 @@
 //! The tests of the libraries that stand on no world: lists, values, outside, tokens, names, forms, terms,
-//! printing, walks and attempts, a module each. They stand above the libraries, so that none of these is
+//! printing, walks, attempts and words, a module each. They stand above the libraries, so that none of these is
 //! proved a second time for its tests.
 #![tactic(auto)]
 
@@ -25,3 +25,5 @@ mod tokens;
 mod values;
 #[cfg(test)]
 mod walks;
+#[cfg(test)]
+mod words;

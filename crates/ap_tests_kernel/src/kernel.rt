@@ -1,21 +1,18 @@
 //! The rows that answer an equivalence, by tables.
-ghost use Rattle.std.specs.Prelude.{IsTrue};
-ghost use Rattle.ap_world.specs.Names.{consp_name};
-ghost use Rattle.ap_world.specs.Sound.{known};
 ghost use Rattle.ap_world.specs.World.{function_of};
 ghost use Rattle.ap_kernel.specs.Standing.{HasGround};
-ghost use Rattle.ap_kernel.specs.Masks.{MaskHolds, IsCallOf};
 
 use crate::known::are_facts;
 use crate::tables::{Rows, expect_count, expect_rows};
 use crate::written::term;
 use ap_eval::is_known;
 use ap_kernel::{
-    Ctx, Equiv, Mask, Mode, NoMemory, Seq, Term, TypeOracle, World, assume, bare_test, by_fact,
+    Ctx, Equiv, Mode, NoMemory, Seq, Term, TypeOracle, World, assume, bare_test, by_fact,
     cons_equal, equation_leads, if_shape, is_choice, refl, weaken_mode,
 };
 use ap_list::Boxed;
 use ap_term::{copy_term, same_term};
+use ap_types::Types;
 use ap_value::is_named;
 use std::alloc::{AllocError, Global};
 use std::process::Abort;
@@ -25,30 +22,6 @@ fn context(alloc: Global, t: &Term, sign: bool) -> Result<Ctx, NoMemory> {
     let mut facts = Seq::new(alloc);
     facts.push((copy_term(alloc, t)?, sign))?;
     Ctx::new(alloc, facts)
-}
-
-/// Whether a term is a call of `consp`.
-#[tactic(auto, unfolding(ap_world::specs::Names::consp_name))]
-fn is_consp(t: &Term) -> bool
-    ensures { IsTrue result → IsCallOf consp_name t.now }
-{
-    match t {
-        Term::Call(f, ts) => ts.len() == 1 && is_named(f, b"CONSP"),
-        _ => false,
-    }
-}
-
-/// The type of each call of `consp` is that of `t` or of `nil`; of another term nothing is known.
-struct OfConsp;
-
-impl TypeOracle for OfConsp {
-    fn mask(&self, _alloc: Global, w: &World, _ctx: &Ctx, t: &Term) -> Result<Mask, NoMemory> {
-        w.is_sound();
-        if is_consp(t) {
-            return Ok(Mask(24));
-        }
-        Ok(Mask(1023))
-    }
 }
 
 /// The fact at place 0, where there is one.
@@ -76,7 +49,7 @@ fn shaped(alloc: Global, w: &World, mode: Mode, t: &Term) -> Result<Equiv, NoMem
     if !is_known(w, t) || !is_choice(t) || !are_facts(w, ctx.facts()) {
         return Err(AllocError);
     }
-    let mask = OfConsp.mask(alloc, w, &ctx, bare_test(t))?;
+    let mask = Types.mask(alloc, w, &ctx, bare_test(t))?;
     if_shape(alloc, w, &ctx, mode, t, mask)
 }
 

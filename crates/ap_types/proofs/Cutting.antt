@@ -18,19 +18,20 @@ use Rattle.ap_world.specs.Primitives.{nil, truth, int_of, prim_of}
 use Rattle.ap_world.specs.Meaning.{Env, Defs}
 use Rattle.ap_world.specs.Types.{type_of, positive_bit, negative_bit, nil_bit}
 use Rattle.ap_world.specs.Sound.{known}
+use Rattle.ap_world.specs.Facts.{Facts, KnownFacts, FactsHold}
+use Rattle.ap_world.specs.Shapes.{Shape, constant, shape_of}
+use Rattle.ap_world.specs.Kinds.{bit, kind_of, all, without}
+use Rattle.ap_world.specs.Rows.{recognised, is_single}
+use Rattle.ap_world.specs.Narrowing.{signed, by_itself, by_recogniser, by_kind, by_constant, by_equation, is_zero, by_bound, by_pair, by_parts, leaves, cut}
 use Rattle.ap_world.proofs.TotalMeaning.{Apply, Models, val, val_quote}
 use Rattle.ap_world.proofs.Equations.{val_prim, not_nil-eq, t_isnt_nil}
-use Rattle.ap_kernel.specs.Standing.{Facts, HasGround, KnownFacts, FactsHold}
-use Rattle.ap_kernel.specs.Shapes.{Shape, constant, shape_of}
-use Rattle.ap_kernel.proofs.Shaped.{Says, shape_says}
-use Rattle.ap_kernel.proofs.Assumed.{Signed, fact_says}
+use Rattle.ap_world.proofs.Shaped.{Says, shape_says}
+use Rattle.ap_world.proofs.Assumed.{Signed, fact_says}
+use Rattle.ap_world.proofs.Sets.{In, in_own, all_in, in_both, in_without, one_or_none, meets_own, recognises, nil_recognised, without_recognised, signed_in}
+use Rattle.ap_world.proofs.Recognising.{TrueLists, tests, recognised_tested, negatives_recognised, positives_recognised}
+use Rattle.ap_kernel.specs.Standing.{HasGround}
 use Rattle.ap_kernel.proofs.SameTerms.{tests_same}
-use Rattle.ap_types.specs.Kinds.{bit, kind_of, all, without}
-use Rattle.ap_types.specs.Rows.{recognised, is_single}
-use Rattle.ap_types.specs.Narrowing.{signed, by_itself, by_recogniser, by_kind, by_constant, by_equation, is_zero, by_bound, by_pair, by_parts, leaves, cut}
-use Rattle.ap_types.proofs.Sets.{In, in_own, all_in, in_both, in_without, one_or_none, meets_own, recognises, nil_recognised, without_recognised, signed_in}
 use Rattle.ap_types.proofs.RowsHold.{same_kind, kinds_apart}
-use Rattle.ap_types.proofs.Recognising.{TrueLists, tests, recognised_tested, negatives_recognised, positives_recognised}
 
 -- the sign of a test's value
 truth_sign : (s b : Bool) → Signed s (truth b) → b ≡ s

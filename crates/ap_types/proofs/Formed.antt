@@ -10,11 +10,11 @@ use Rattle.ap_term.proofs.Induction.{para_var, para_quote, para_call}
 use Rattle.ap_world.specs.declared.primitive.Primitive.{Primitive as Prim}
 use Rattle.ap_world.specs.declared.primitive.Primitive.TheVariants.{If}
 use Rattle.ap_world.specs.Primitives.{prim_of}
-use Rattle.ap_kernel.specs.Assume.{assume}
-use Rattle.ap_kernel.specs.Standing.{Facts}
-use Rattle.ap_types.specs.Kinds.{bit, kind_of, all}
-use Rattle.ap_types.specs.Narrowing.{cut}
-use Rattle.ap_types.specs.Typing.{if_parts, call_types, chosen_types, split_types, head_types, types_step, types_by}
+use Rattle.ap_world.specs.Assume.{assume}
+use Rattle.ap_world.specs.Facts.{Facts}
+use Rattle.ap_world.specs.Kinds.{bit, kind_of, all}
+use Rattle.ap_world.specs.Narrowing.{cut}
+use Rattle.ap_world.specs.Typing.{if_parts, call_types, chosen_types, split_types, head_types, types_step, types_by}
 
 same_parts : (p q : Term × Term × Term) → Some p ≡ Some q → p ≡ q
 same_parts p q h = cc

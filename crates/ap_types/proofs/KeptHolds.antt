@@ -13,20 +13,21 @@ use Rattle.ap_world.specs.Meaning.{Env, Defs, meaning, body_value, calls, HasVal
 use Rattle.ap_world.specs.Sound.{known, given_function, DefinedAlike, Sound}
 use Rattle.ap_world.specs.Ground.{ground_functions, not_function, implies_function, iff_function, atom_function, endp_function, null_function, eq_function, eql_function, numeric_equal_function, acl2_numberp_function, rationalp_function, booleanp_function, fix_function, ifix_function, natp_function, posp_function, nfix_function, zp_function, zip_function, zerop_function, plusp_function, minusp_function, max_function, min_function, abs_function, integer_abs_function, true_listp_function}
 use Rattle.ap_world.specs.World.{Shown, as_function, function_of, has_name}
+use Rattle.ap_world.specs.Facts.{Facts, KnownFacts, FactsHold}
+use Rattle.ap_world.specs.Kinds.{all}
+use Rattle.ap_world.specs.Typing.{function_types, types}
+use Rattle.ap_world.specs.KeptTypes.{types_with, body_types, settled, kept_types}
 use Rattle.ap_world.proofs.Fuel.{call_unique}
 use Rattle.ap_world.proofs.TotalMeaning.{models, value_is}
 use Rattle.ap_world.proofs.Equations.{names_open}
 use Rattle.ap_world.proofs.Extending.{Extends, call_extend, extends-append, function_of-here, function_of-other, not_taken}
 use Rattle.ap_world.proofs.Adding.{call_defined}
 use Rattle.ap_world.proofs.Looking.{good_of}
-use Rattle.ap_kernel.specs.Standing.{Facts, HasGround, KnownFacts, FactsHold}
+use Rattle.ap_world.proofs.Sets.{In, all_in}
+use Rattle.ap_world.proofs.Recognising.{TrueLists}
+use Rattle.ap_kernel.specs.Standing.{HasGround}
 use Rattle.ap_kernel.specs.Masks.{MaskHolds}
-use Rattle.ap_types.specs.Kinds.{all}
-use Rattle.ap_types.specs.Typing.{function_types, types_with, types}
-use Rattle.ap_types.specs.Kept.{body_types, settled, kept_types}
 use Rattle.ap_types.specs.Laws.{KeptMaskHolds}
-use Rattle.ap_types.proofs.Sets.{In, all_in}
-use Rattle.ap_types.proofs.Recognising.{TrueLists}
 use Rattle.ap_types.proofs.TypesHold.{types_hold}
 use Rattle.ap_types.proofs.RulesHold.{function_in}
 

@@ -1,9 +1,7 @@
 pub mod Listing
 pub mod Formed
 pub mod Scoped
-pub mod Sets
 pub mod RowsHold
-pub mod Recognising
 pub mod Cutting
 pub mod TypesHold
 pub mod RulesHold

@@ -1,37 +1,55 @@
--- The rules of a world, entry by entry.
-use Rattle.std.proofs.Common.{◌≡◌, ℕ, zero, suc, ◌+◌, List, [], ◌∷◌, ◌++◌, drop, Option, Some, None, slice_get, refl, ap, sym, ◌∙◌, append_assoc, arith}
-use Rattle.std.proofs.lemmas.List.{append-nil}
+-- The theorems about a function, one by one.
+use Rattle.std.proofs.Common.{◌≡◌, ◌≤◌, ℕ, zero, suc, ◌+◌, Bool, true, false, cond, List, [], ◌∷◌, drop, length, Some, None, slice_get, refl, ap, sym, ◌∙◌, arith}
+use Rattle.std.specs.Int.Bits.{bit_and}
+use Rattle.ap_value.specs.declared.symbol.Symbol.{Symbol}
+use Rattle.ap_world.specs.declared.entry.Theorem.{Theorem}
 use Rattle.ap_world.specs.declared.entry.Entry.{Entry}
+use Rattle.ap_world.specs.declared.entry.Entry.TheVariants as entry
 use Rattle.ap_world.specs.declared.theory.Theory.{Theory}
-use Rattle.ap_types.specs.Typing.{TypeRule, rule_in, with_rule, rules_in}
+use Rattle.ap_world.specs.Prescribing.{prescribed, is_name, theorems_about}
+use Rattle.ap_world.specs.Typing.{left_by, narrowed}
+
+-- no more theorems are about a function than there are entries
+fewer : (f : Symbol) (W : List Entry) → length (theorems_about f W) ≤ length W
+fewer f [] = omega arith
+fewer f (entry.Theorem u ∷ W) = go (is_name f (prescribed u)) (fewer f W)
+  where
+    go : (b : Bool) → length (theorems_about f W) ≤ length W → length (cond b (u ∷ theorems_about f W) (theorems_about f W)) ≤ suc (length W)
+    go true h = omega arith
+    go false h = omega arith
+fewer f (entry.Function g ∷ W) = let h = fewer f W in omega arith
+fewer f (entry.Constant c v ∷ W) = let h = fewer f W in omega arith
+
+narrowed_past : (h : Theory) (us : List Theorem) (i m : ℕ) → length us ≤ i → narrowed h (drop i us) m ≡ m
+narrowed_past h [] zero m l = refl
+narrowed_past h [] (suc i) m l = refl
+narrowed_past h (u ∷ us) zero m l = absurd (omega arith)
+narrowed_past h (u ∷ us) (suc i) m l = narrowed_past h us i m (omega arith)
+
+narrowed_none : (h : Theory) (us : List Theorem) (i m : ℕ) → slice_get us i ≡ None → narrowed h (drop i us) m ≡ m
+narrowed_none h [] zero m l = refl
+narrowed_none h [] (suc i) m l = refl
+narrowed_none h (u ∷ us) zero m l = cc
+narrowed_none h (u ∷ us) (suc i) m l = narrowed_none h us i m l
+
+narrowed_some : (h : Theory) (us : List Theorem) (i : ℕ) (u : Theorem) (m : ℕ) → slice_get us i ≡ Some u
+    → narrowed h (drop (suc i) us) (bit_and m (left_by h u)) ≡ narrowed h (drop i us) m
+narrowed_some h [] i u m l = cc
+narrowed_some h (v ∷ us) zero u m l = let e : u ≡ v = cc in rw e refl
+narrowed_some h (v ∷ us) (suc i) u m l = narrowed_some h us i u m l
 
 add_one : (i : ℕ) → i + 1 ≡ suc i
 add_one i = omega arith
 
-drop_none : (ys : List Entry) (i : ℕ) → slice_get ys i ≡ None → drop i ys ≡ []
-drop_none [] zero h = refl
-drop_none [] (suc i) h = refl
-drop_none (y ∷ ys) zero h = cc
-drop_none (y ∷ ys) (suc i) h = drop_none ys i h
+-- where no number is left, and where no theorem is
+pub all_cut : (h : Theory) (f : Symbol) (W : List Entry) (i m n : ℕ) → length W ≤ i → narrowed h (drop i (theorems_about f W)) n ≡ narrowed h (theorems_about f W) m
+    → n ≡ narrowed h (theorems_about f W) m
+all_cut h f W i m n l k = let few = fewer f W in sym (narrowed_past h (theorems_about f W) i n (omega arith)) ∙ k
 
-drop_some : (ys : List Entry) (i : ℕ) (y : Entry) → slice_get ys i ≡ Some y → drop i ys ≡ y ∷ drop (suc i) ys
-drop_some [] i y h = cc
-drop_some (z ∷ zs) zero y h = let e : z ≡ y = cc in ap (λ x. x ∷ zs) e
-drop_some (z ∷ zs) (suc i) y h = drop_some zs i y h
+pub none_left : (h : Theory) (us : List Theorem) (i m n : ℕ) → slice_get us i ≡ None → narrowed h (drop i us) n ≡ narrowed h us m → n ≡ narrowed h us m
+none_left h us i m n none k = sym (narrowed_none h us i n none) ∙ k
 
-with_more : (o : Option TypeRule) (rs : List TypeRule) → with_rule o rs ≡ with_rule o [] ++ rs
-with_more None rs = refl
-with_more (Some r) rs = refl
-
-pub rules_end : (h : Theory) (W : List Entry) (rs : List TypeRule) (i : ℕ) → slice_get W i ≡ None → rs ++ rules_in h (drop i W) ≡ rules_in h W → rs ≡ rules_in h W
-rules_end h W rs i none whole = sym (append-nil rs) ∙ ap (λ ys. rs ++ rules_in h ys) (sym (drop_none W i none)) ∙ whole
-
-pub rules_next : (h : Theory) (W : List Entry) (rs ss : List TypeRule) (i : ℕ) (y : Entry) (o : Option TypeRule) → slice_get W i ≡ Some y → o ≡ rule_in h y → ss ≡ rs ++ with_rule o []
-    → rs ++ rules_in h (drop i W) ≡ rules_in h W → ss ++ rules_in h (drop (i + 1) W) ≡ rules_in h W
-rules_next h W rs ss i y o some is more whole =
-    ap (λ k. ss ++ rules_in h (drop k W)) (add_one i)
-    ∙ ap (λ ts. ts ++ rules_in h (drop (suc i) W)) (more ∙ ap (λ p. rs ++ with_rule p []) is)
-    ∙ append_assoc rs (with_rule (rule_in h y) []) (rules_in h (drop (suc i) W))
-    ∙ ap (λ ts. rs ++ ts) (sym (with_more (rule_in h y) (rules_in h (drop (suc i) W))))
-    ∙ ap (λ ys. rs ++ rules_in h ys) (sym (drop_some W i y some))
-    ∙ whole
+-- one theorem more
+pub one_cut : (h : Theory) (us : List Theorem) (i m n : ℕ) (u : Theorem) → slice_get us i ≡ Some u → narrowed h (drop i us) n ≡ narrowed h us m
+    → narrowed h (drop (i + 1) us) (bit_and n (left_by h u)) ≡ narrowed h us m
+one_cut h us i m n u some k = ap (λ j. narrowed h (drop j us) (bit_and n (left_by h u))) (add_one i) ∙ narrowed_some h us i u n some ∙ k

@@ -12,11 +12,13 @@ use Rattle.ap_world.specs.Primitives.{nil, t, truth, symbol_value, int_of, car_o
 use Rattle.ap_world.specs.Types.{is_true_list, type_of, zero_bit, positive_bit, negative_bit, nil_bit, t_bit, proper_bit, string_bit, character_bit}
 use Rattle.ap_world.proofs.Equations.{names_open}
 use Rattle.ap_world.proofs.Starting.{has_truth}
-use Rattle.ap_types.specs.declared.kinds.Sign.{Sign}
-use Rattle.ap_types.specs.declared.kinds.Sign.TheVariants as sign
-use Rattle.ap_types.specs.Kinds.{Kind, Zero, Positive, Negative, Nil, True, OtherSymbol, Proper, Improper, Text, Character, bit, kind_of, without, meets}
-use Rattle.ap_types.specs.Rows.{sign_of, sign_bit, plus_row, times_row, minus_row, less_row, is_single, equal_row, cons_row, car_row, cdr_row, char_code_row, row_one, row_two}
-use Rattle.ap_types.proofs.Sets.{In, int_cases, symbol_cases, cons_cases, all_in, in_own, meets_own, nil_has, t_has}
+use Rattle.ap_world.specs.declared.kinds.Sign.TheVariants as sign
+use Rattle.ap_world.specs.declared.kinds.Sign.{Sign}
+use Rattle.ap_world.specs.declared.kinds.Kind.{Kind}
+use Rattle.ap_world.specs.declared.kinds.Kind.TheVariants.{Zero, Positive, Negative, Nil, True, OtherSymbol, Proper, Improper, Text, Character}
+use Rattle.ap_world.specs.Kinds.{bit, kind_of, without, meets}
+use Rattle.ap_world.specs.Rows.{sign_of, sign_bit, plus_row, times_row, minus_row, less_row, is_single, equal_row, cons_row, car_row, cdr_row, char_code_row, row_one, row_two}
+use Rattle.ap_world.proofs.Sets.{In, int_cases, symbol_cases, cons_cases, all_in, in_own, meets_own, nil_has, t_has}
 
 nil_type : type_of nil ≡ 3
 unfolding nil value_eq names_open

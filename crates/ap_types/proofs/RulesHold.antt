@@ -14,25 +14,29 @@ use Rattle.ap_term.proofs.Induction.{term_ind}
 use Rattle.ap_world.specs.declared.entry.Function.{Function}
 use Rattle.ap_world.specs.declared.entry.Entry.{Entry}
 use Rattle.ap_world.specs.declared.entry.Entry.TheVariants as entry
+use Rattle.ap_world.specs.declared.entry.Theorem.{Theorem}
+use Rattle.ap_world.specs.declared.theory.Rune.TheVariants as rune
 use Rattle.ap_world.specs.declared.theory.Theory.{Theory}
+use Rattle.ap_world.specs.Prescribing.{prescribes, called, argument_called, prescribed, is_name, theorems_about}
+use Rattle.ap_world.specs.Theories.{is_enabled}
 use Rattle.ap_world.specs.declared.primitive.Primitive.{Primitive as Prim}
 use Rattle.ap_world.specs.Primitives.{nil, truth, prim_of}
 use Rattle.ap_world.specs.Meaning.{Env, Defs, CallValue}
 use Rattle.ap_world.specs.Types.{type_of}
-use Rattle.ap_world.specs.Sound.{known, is_head, takes, Good, Sound}
+use Rattle.ap_world.specs.Sound.{known, is_head, takes, Good, GoodTheorem, Sound}
 use Rattle.ap_world.specs.World.{Shown, function_of}
+use Rattle.ap_world.specs.Kinds.{all}
+use Rattle.ap_world.specs.Rows.{recognised}
+use Rattle.ap_world.specs.Typing.{is_variable, are_distinct_variables, types_on, prescribed_types, left_by, narrowed, kept_of, function_types}
 use Rattle.ap_world.proofs.Fuel.{call_unique}
 use Rattle.ap_world.proofs.Knowing.{known_head, known_args, each_true}
 use Rattle.ap_world.proofs.TotalMeaning.{Apply, Models, models, val, val_var, values_of, valid_is}
 use Rattle.ap_world.proofs.Equations.{val_defined}
 use Rattle.ap_world.proofs.Adding.{call_defined}
 use Rattle.ap_world.proofs.Looking.{mask_holds}
+use Rattle.ap_world.proofs.Sets.{In, all_in, in_both, recognises, recognised_in}
+use Rattle.ap_world.proofs.Recognising.{TrueLists, tests, recognised_tested}
 use Rattle.ap_kernel.specs.Standing.{HasGround}
-use Rattle.ap_types.specs.Kinds.{all}
-use Rattle.ap_types.specs.Rows.{recognised}
-use Rattle.ap_types.specs.Typing.{TypeRule, is_silent, is_variable, are_distinct_variables, rule_on, rule_of, speaks, rule_in, with_rule, rules_in, narrowed, kept_of, function_types}
-use Rattle.ap_types.proofs.Sets.{In, all_in, in_both, recognises, recognised_in}
-use Rattle.ap_types.proofs.Recognising.{TrueLists, tests, recognised_tested}
 
 -- an assignment of a value to a variable doesn't change another variable
 apart_vars : (x y : Symbol) → term_eq (Var x) (Var y) ≡ false → symbol_eq y x ≡ false
@@ -102,77 +106,82 @@ module _ (A : Apply) where
       shorter n k h = cc
 
 module _ (D : Defs) (A : Apply) (m : Models D A) (ground : HasGround D) (lists : TrueLists D) where
-  -- a rule about a function holds of each value of a call of it
-  abbrev pub RuleHolds : TypeRule → Type 0
-  RuleHolds r = (f : Symbol) (vs : List V) (v : V) → prim_of f ≡ None → CallValue D f vs v → symbol_eq f r.0 ≡ true → In r.1 v
+  -- the value of a call of f is among these types
+  abbrev pub Leaves : Symbol → ℕ → Type 0
+  Leaves f n = (vs : List V) (v : V) → prim_of f ≡ None → CallValue D f vs v → In n v
 
-  abbrev pub IfRule : Option TypeRule → Type 0
-  IfRule None = Unit {0}
-  IfRule (Some r) = RuleHolds r
+  all_left : (f : Symbol) → Leaves f all
+  all_left f vs v p value = all_in v
 
   taken : (o : Option Function) (n : ℕ) (g : Function) → o ≡ Some g → takes o n ≡ true → length g.formals ≡ n
   taken o n g h k = eqb-true (length g.formals) n (subst (λ p. takes p n ≡ true) h k)
 
-  -- the rule of a valid term
+  -- a recogniser that holds of each call of distinct variables
   on_call : (r : ℕ) (g : Symbol) (ts : List Term) → known D (Call g ts) ≡ true → are_distinct_variables ts ≡ true
-      → ((e : Env) → recognises r (val A (Call g ts) e) ≡ true) → RuleHolds (g, r)
-  on_call r g ts k d says f vs v prim value same =
-      let is : f ≡ g = symbol_eq-true f g same in
-      let (fun, here, formals) = call_defined D f vs v value in
-      let none : prim_of g ≡ None = subst (λ x. prim_of x ≡ None) is prim in
-      let head : takes (D g) (length ts) ≡ true = subst (λ o. is_head D g o (length ts) ≡ true) none (known_head D g ts k) in
-      let count : length fun.formals ≡ length ts = taken (D g) (length ts) fun (subst (λ x. D x ≡ Some fun) is here) head in
+      → ((e : Env) → recognises r (val A (Call g ts) e) ≡ true) → Leaves g r
+  on_call r g ts k d says vs v prim value =
+      let (fun, here, formals) = call_defined D g vs v value in
+      let head : takes (D g) (length ts) ≡ true = subst (λ o. is_head D g o (length ts) ≡ true) prim (known_head D g ts k) in
+      let count : length fun.formals ≡ length ts = taken (D g) (length ts) fun here head in
       let (vars, distinct) = both (all_true (map (λ u. is_variable (out-Term u)) ts)) (is_distinct term_eq ts) d in
       let (e, values) = assigned A ts vs (sym count ∙ formals) vars distinct in
-      let means : val A (Call g ts) e ≡ v = val_defined A g ts e none ∙ ap (A g) values ∙ ap (λ x. A x vs) (sym is) ∙ call_unique D f vs (A f vs) v (m f fun vs here formals) value in
+      let means : val A (Call g ts) e ≡ v = val_defined A g ts e prim ∙ ap (A g) values ∙ call_unique D g vs (A g vs) v (m g fun vs here formals) value in
       subst (In r) means (recognised_in r (val A (Call g ts) e) (says e))
 
   not_nil_says : (b : Bool) → truth b ≢ nil → b ≡ true
   not_nil_says true h = refl
   not_nil_says false h = absurd (h refl)
 
-  on_term : (s : Symbol) (a : Term) → known D (Call s (a ∷ [])) ≡ true → ((e : Env) → val A (Call s (a ∷ [])) e ≢ nil) → (o : Option ℕ) → recognised s ≡ o → IfRule (rule_on o (out-Term a))
-  on_term s a k valid (Some r) q = term_ind Goal variable quoted call a k valid
+  -- what a theorem leaves to the calls of the function that it is about
+  on_term : (f s : Symbol) (a : Term) → is_name f (called (out-Term a)) ≡ true → known D (Call s (a ∷ [])) ≡ true → ((e : Env) → val A (Call s (a ∷ [])) e ≢ nil)
+      → (o : Option ℕ) → recognised s ≡ o → Leaves f (types_on o (out-Term a))
+  on_term f s a about k valid (Some r) q = term_ind Goal variable quoted call a about k valid
     where
       Goal : Term → Type 0
-      Goal a = known D (Call s (a ∷ [])) ≡ true → ((e : Env) → val A (Call s (a ∷ [])) e ≢ nil) → IfRule (rule_on (Some r) (out-Term a))
+      Goal a = is_name f (called (out-Term a)) ≡ true → known D (Call s (a ∷ [])) ≡ true → ((e : Env) → val A (Call s (a ∷ [])) e ≢ nil) → Leaves f (types_on (Some r) (out-Term a))
 
       variable : (x : Symbol) → Goal (Var x)
-      variable x k h = rw (outs-Var x) tt
+      variable x about k h = rw (outs-Var x) (all_left f)
 
       quoted : (v : Value) → Goal (Quote v)
-      quoted v k h = rw (outs-Quote v) tt
+      quoted v about k h = rw (outs-Quote v) (all_left f)
 
-      choose : (g : Symbol) (ts : List Term) → known D (Call s (Call g ts ∷ [])) ≡ true → ((e : Env) → val A (Call s (Call g ts ∷ [])) e ≢ nil)
-          → (b : Bool) → are_distinct_variables ts ≡ b → IfRule (cond b (Some (g, r)) None)
-      choose g ts k h true d =
-          let inner : known D (Call g ts) ≡ true = (each_true (known D) (Call g ts ∷ []) (known_args D s (Call g ts ∷ []) k)).0 in
-          on_call r g ts inner d (λ e. not_nil_says (recognises r (val A (Call g ts) e)) (λ z. h e (tests D A m ground lists s r (recognised_tested s r q) (Call g ts) e k ∙ z)))
-      choose g ts k h false d = tt
+      choose : (ts : List Term) → known D (Call s (Call f ts ∷ [])) ≡ true → ((e : Env) → val A (Call s (Call f ts ∷ [])) e ≢ nil)
+          → (b : Bool) → are_distinct_variables ts ≡ b → Leaves f (cond b r all)
+      choose ts k h true d =
+          let inner : known D (Call f ts) ≡ true = (each_true (known D) (Call f ts ∷ []) (known_args D s (Call f ts ∷ []) k)).0 in
+          on_call r f ts inner d (λ e. not_nil_says (recognises r (val A (Call f ts) e)) (λ z. h e (tests D A m ground lists s r (recognised_tested s r q) (Call f ts) e k ∙ z)))
+      choose ts k h false d = all_left f
 
       call : (g : Symbol) (ts : List Term) → Each Goal ts → Goal (Call g ts)
-      call g ts es k h = rw (outs-Call g ts) (choose g ts k h (are_distinct_variables ts) refl)
-  on_term s a k valid None q = tt
+      call g ts es about k h =
+          let same : f ≡ g = symbol_eq-true f g (subst (λ y. is_name f (called y) ≡ true) (outs-Call g ts) about) in
+          rw (outs-Call g ts)
+          (choose ts (subst (λ x. known D (Call s (Call x ts ∷ [])) ≡ true) (sym same) k)
+          (λ e. subst (λ x. val A (Call s (Call x ts ∷ [])) e ≢ nil) (sym same) (h e)) (are_distinct_variables ts) refl)
+  on_term f s a about k valid None q = all_left f
 
-  of_term : (u : Term) → known D u ≡ true → ((e : Env) → val A u e ≢ nil) → IfRule (rule_of (out-Term u))
-  of_term u = term_ind Goal variable quoted call u
+  of_term : (f : Symbol) (u : Term) → is_name f (argument_called (out-Term u)) ≡ true → known D u ≡ true → ((e : Env) → val A u e ≢ nil) → Leaves f (prescribed_types (out-Term u))
+  of_term f u = term_ind Goal variable quoted call u
     where
       Goal : Term → Type 0
-      Goal u = known D u ≡ true → ((e : Env) → val A u e ≢ nil) → IfRule (rule_of (out-Term u))
+      Goal u = is_name f (argument_called (out-Term u)) ≡ true → known D u ≡ true → ((e : Env) → val A u e ≢ nil) → Leaves f (prescribed_types (out-Term u))
 
       variable : (x : Symbol) → Goal (Var x)
-      variable x k h = rw (outs-Var x) tt
+      variable x about k h = rw (outs-Var x) (all_left f)
 
       quoted : (v : Value) → Goal (Quote v)
-      quoted v k h = rw (outs-Quote v) tt
+      quoted v about k h = rw (outs-Quote v) (all_left f)
 
       call : (g : Symbol) (ts : List Term) → Each Goal ts → Goal (Call g ts)
-      call g [] es k h = rw (outs-Call g []) tt
-      call g (a ∷ []) es k h = rw (outs-Call g (a ∷ [])) (on_term g a k h (recognised g) refl)
-      call g (a ∷ b ∷ ts) es k h = rw (outs-Call g (a ∷ b ∷ ts)) tt
+      call g [] es about k h = rw (outs-Call g []) (all_left f)
+      call g (a ∷ []) es about k h =
+          rw (outs-Call g (a ∷ [])) (on_term f g a (subst (λ y. is_name f (argument_called y) ≡ true) (outs-Call g (a ∷ [])) about) k h (recognised g) refl)
+      call g (a ∷ b ∷ ts) es about k h = rw (outs-Call g (a ∷ b ∷ ts)) (all_left f)
 
-  of_entry : (h : Theory) (y : Entry) → Good D y → IfRule (rule_in h y)
-  of_entry h (entry.Theorem u) good = go (speaks h u)
+  -- a good theorem that is about f
+  of_theorem : (h : Theory) (f : Symbol) (u : Theorem) → GoodTheorem D u → is_name f (prescribed u) ≡ true → Leaves f (left_by h u)
+  of_theorem h f u good about = go (is_enabled h (rune.TypePrescription u.name)) (prescribes u.classes) about
     where
       held : (e : Env) → val A u.term e ≢ nil
       held e = one (valid_is D A m (u.term ∷ []) good.valid e)
@@ -181,31 +190,31 @@ module _ (D : Defs) (A : Apply) (m : Models D A) (ground : HasGround D) (lists :
           one (inl k) = k
           one (inr k) = absurd k
 
-      go : (b : Bool) → IfRule (cond b (rule_of (out-Term u.term)) None)
-      go true = of_term u.term good.term_known held
-      go false = tt
-  of_entry h y good = tt
+      go : (b p : Bool) → is_name f (cond p (argument_called (out-Term u.term)) None) ≡ true → Leaves f (cond b (prescribed_types (out-Term u.term)) all)
+      go true true about = of_term f u.term about good.term_known held
+      go true false about = absurd (true≢false (sym about))
+      go false p about = all_left f
 
-  rules_hold : (h : Theory) (W : List Entry) → Each (Good D) W → Each RuleHolds (rules_in h W)
-  rules_hold h [] gs = tt
-  rules_hold h (y ∷ W) gs = go (rule_in h y) (of_entry h y gs.0) (rules_hold h W gs.1)
+  theorems_leave : (h : Theory) (f : Symbol) (W : List Entry) → Each (Good D) W → Each (λ u. Leaves f (left_by h u)) (theorems_about f W)
+  theorems_leave h f [] gs = tt
+  theorems_leave h f (entry.Theorem u ∷ W) gs = go (is_name f (prescribed u)) refl (theorems_leave h f W gs.1)
     where
-      go : (o : Option TypeRule) → IfRule o → Each RuleHolds (rules_in h W) → Each RuleHolds (with_rule o (rules_in h W))
-      go None k rs = rs
-      go (Some r) k rs = (k, rs)
+      go : (b : Bool) → is_name f (prescribed u) ≡ b → Each (λ z. Leaves f (left_by h z)) (theorems_about f W)
+          → Each (λ z. Leaves f (left_by h z)) (cond b (u ∷ theorems_about f W) (theorems_about f W))
+      go true q rest = (of_theorem h f u gs.0 q, rest)
+      go false q rest = rest
+  theorems_leave h f (entry.Function g ∷ W) gs = theorems_leave h f W gs.1
+  theorems_leave h f (entry.Constant c v ∷ W) gs = theorems_leave h f W gs.1
 
-  narrowed_in : (f : Symbol) (vs : List V) (v : V) → prim_of f ≡ None → CallValue D f vs v → (rs : List TypeRule) → Each RuleHolds rs → (n : ℕ) → In n v → In (narrowed f rs n) v
-  narrowed_in f vs v p value [] hs n h = h
-  narrowed_in f vs v p value (r ∷ rs) hs n h = narrowed_in f vs v p value rs hs.1 (cond (symbol_eq f r.0) (bit_and n r.1) n) (go (symbol_eq f r.0) refl)
-    where
-      go : (b : Bool) → symbol_eq f r.0 ≡ b → In (cond b (bit_and n r.1) n) v
-      go true q = in_both n r.1 (type_of v) h (hs.0 f vs v p value q)
-      go false q = h
+  narrowed_in : (h : Theory) (f : Symbol) (vs : List V) (v : V) → prim_of f ≡ None → CallValue D f vs v → (us : List Theorem) → Each (λ u. Leaves f (left_by h u)) us
+      → (n : ℕ) → In n v → In (narrowed h us n) v
+  narrowed_in h f vs v p value [] ls n k = k
+  narrowed_in h f vs v p value (u ∷ us) ls n k = narrowed_in h f vs v p value us ls.1 (bit_and n (left_by h u)) (in_both n (left_by h u) (type_of v) k (ls.0 vs v p value))
 
 -- the types of a function's calls
 pub function_in : (w : Shown) → Sound w.entries → HasGround (function_of w.entries) → TrueLists (function_of w.entries)
     → (f : Symbol) (vs : List V) (v : V) → prim_of f ≡ None → CallValue (function_of w.entries) f vs v → In (function_types w f) v
-function_in w sound ground lists f vs v p value = go (is_silent w.theory f)
+function_in w sound ground lists f vs v p value = go (is_enabled w.theory (rune.TypePrescription f))
   where
     D : Defs
     D = function_of w.entries
@@ -214,8 +223,8 @@ function_in w sound ground lists f vs v p value = go (is_silent w.theory f)
     kept None q = all_in v
     kept (Some g) q = mask_holds w.entries sound f g q vs v value
 
-    go : (b : Bool) → In (cond b all (narrowed f (rules_in w.theory w.entries) (kept_of (D f)))) v
-    go true = all_in v
-    go false =
+    go : (b : Bool) → In (cond b (narrowed w.theory (theorems_about f w.entries) (kept_of (D f))) all) v
+    go false = all_in v
+    go true =
         let (A, m) = models D sound.total in
-        narrowed_in D A m ground lists f vs v p value (rules_in w.theory w.entries) (rules_hold D A m ground lists w.theory w.entries sound.good) (kept_of (D f)) (kept (D f) refl)
+        narrowed_in D A m ground lists w.theory f vs v p value (theorems_about f w.entries) (theorems_leave D A m ground lists w.theory f w.entries sound.good) (kept_of (D f)) (kept (D f) refl)

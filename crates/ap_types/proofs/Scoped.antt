@@ -3,10 +3,10 @@ use Rattle.std.proofs.Common.{◌≡◌, ℕ, List, [], ◌∷◌, ◌++◌, ref
 use Rattle.std.proofs.lemmas.List.{append-nil, append_assoc, at_drop_all}
 use Rattle.ap_term.specs.declared.term.Term.{Term}
 use Rattle.ap_kernel.specs.declared.objects.Ctx.{Ctx}
-use Rattle.ap_kernel.specs.Standing.{Facts}
-use Rattle.ap_kernel.specs.Assume.{assume}
+use Rattle.ap_world.specs.Facts.{Facts}
+use Rattle.ap_world.specs.Assume.{assume}
+use Rattle.ap_world.specs.Narrowing.{leaves, cut}
 use Rattle.std.specs.Int.Bits.{bit_and}
-use Rattle.ap_types.specs.Narrowing.{leaves, cut}
 use Rattle.ap_types.specs.Scopes.{in_scope}
 
 -- a mask cut by the facts of each context in turn

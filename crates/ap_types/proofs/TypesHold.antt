@@ -14,23 +14,24 @@ use Rattle.ap_world.specs.Primitives.{nil, truth, prim, prim_of, coerce_of}
 use Rattle.ap_world.specs.Meaning.{Env, Defs, Calls, if_of, applied, head_call, meaning}
 use Rattle.ap_world.specs.Types.{type_of, nil_bit}
 use Rattle.ap_world.specs.Sound.{known}
+use Rattle.ap_world.specs.Facts.{Facts, KnownFacts, FactsHold}
+use Rattle.ap_world.specs.Assume.{assume}
+use Rattle.ap_world.specs.Shapes.{Shape, constant, shape_of}
+use Rattle.ap_world.specs.Kinds.{bit, kind_of, all, without, meets, if_so}
+use Rattle.ap_world.specs.Rows.{tested, test_types, row_one, row_two, coerce_by}
+use Rattle.ap_world.specs.Narrowing.{cut}
+use Rattle.ap_world.specs.Typing.{any_empty, chosen_types, if_parts, one_types, two_types, other_types, table, call_types, head_types, types_by}
 use Rattle.ap_world.proofs.Fuel.{meaning_call}
 use Rattle.ap_world.proofs.Knowing.{known_args, each_true}
 use Rattle.ap_world.proofs.TotalMeaning.{Apply, Models, val, val_quote}
 use Rattle.ap_world.proofs.Equations.{nil-eq, eq-not_nil}
-use Rattle.ap_kernel.specs.Standing.{Facts, HasGround, KnownFacts, FactsHold}
-use Rattle.ap_kernel.specs.Assume.{assume}
-use Rattle.ap_kernel.specs.Shapes.{Shape, constant, shape_of}
-use Rattle.ap_kernel.proofs.Shaped.{Says, shape_says}
-use Rattle.ap_kernel.proofs.Assumed.{assume_known, assume_holds}
-use Rattle.ap_types.specs.Kinds.{bit, kind_of, all, without, meets, if_so}
-use Rattle.ap_types.specs.Rows.{tested, test_types, row_one, row_two, coerce_by}
-use Rattle.ap_types.specs.Narrowing.{cut}
-use Rattle.ap_types.specs.Typing.{any_empty, chosen_types, if_parts, one_types, two_types, other_types, table, call_types, head_types, types_by}
+use Rattle.ap_world.proofs.Shaped.{Says, shape_says}
+use Rattle.ap_world.proofs.Assumed.{assume_known, assume_holds}
+use Rattle.ap_world.proofs.Sets.{In, all_in, in_own, in_left, in_right, in_without, meets_at, union_at, test_in, recognises, nil_recognised, unrecognised_out, nil_has}
+use Rattle.ap_world.proofs.Recognising.{TrueLists, tests}
+use Rattle.ap_kernel.specs.Standing.{HasGround}
 use Rattle.ap_types.proofs.Formed.{typed, types_var, types_quote, types_call, parts_some, head_if, head_other}
-use Rattle.ap_types.proofs.Sets.{In, all_in, in_own, in_left, in_right, in_without, meets_at, union_at, test_in, recognises, nil_recognised, unrecognised_out, nil_has}
 use Rattle.ap_types.proofs.RowsHold.{one_in, two_in, coerce_constant, coerce_any}
-use Rattle.ap_types.proofs.Recognising.{TrueLists, tests}
 use Rattle.ap_types.proofs.Cutting.{cut_in}
 
 -- each mask has the type of the value at its place
@@ -160,7 +161,7 @@ module _ (D : Defs) (A : Apply) (m : Models D A) (ground : HasGround D) (lists :
       let is : coerce_of x y ≡ v = cc in
       subst (In (coerce_by (shape_of b))) is (subst (λ z. In (coerce_by (shape_of b)) (coerce_of x z)) (sym y_is) (coerce_in A e b x))
   two_at f (Some p) a b e n k x y v q h y_is hx hy =
-      union_at (λ j. Rattle.ap_types.specs.Kinds.union (row_two p j) k) n x (type_of v) hx (union_at (row_two p (kind_of x)) k y (type_of v) hy (two_in p x y v h))
+      union_at (λ j. Rattle.ap_world.specs.Kinds.union (row_two p j) k) n x (type_of v) hx (union_at (row_two p (kind_of x)) k y (type_of v) hy (two_in p x y v h))
   two_at f None a b e n k x y v q h y_is hx hy = called f (x ∷ y ∷ []) v q h
 
   table_in : (f : Symbol) (o : Option Prim) (ts : List Term) (e : Env) (ns : List ℕ) (v : V) → prim_of f ≡ o → known D (Call f ts) ≡ true → Gives f o (map (λ u. val A u e) ts) v

@@ -7,8 +7,8 @@ use Rattle.ap_world.specs.Meaning.{Total, CallValue}
 use Rattle.ap_world.specs.Types.{Has}
 use Rattle.ap_world.specs.Sound.{known, given_function, DefinedAlike, Sound}
 use Rattle.ap_world.specs.World.{Shown, function_of, has_name}
+use Rattle.ap_world.specs.KeptTypes.{kept_types}
 use Rattle.ap_kernel.specs.Standing.{HasGround}
-use Rattle.ap_types.specs.Kept.{kept_types}
 
 -- a function that is new in a sound world, and with which every function is total, has the kept mask of
 -- every value of a call of it, whether or not it calls itself

@@ -1,7 +1,3 @@
-pub mod Kinds
-pub mod Rows
-pub mod Narrowing
 pub mod Scopes
-pub mod Typing
-pub mod Kept
+pub mod Settings
 pub mod Laws

@@ -1,7 +1,7 @@
 -- The facts that are in force at a part of a term: those of contexts one after another.
 use Rattle.std.specs.Prelude.{List, [], ◌∷◌, ◌++◌}
 use Rattle.ap_kernel.specs.declared.objects.Ctx.{Ctx}
-use Rattle.ap_kernel.specs.Standing.{Facts}
+use Rattle.ap_world.specs.Facts.{Facts}
 
 abbrev pub in_scope : List Ctx → Facts
 in_scope [] = []

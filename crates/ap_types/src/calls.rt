@@ -1,11 +1,12 @@
-ghost use Rattle.std.specs.Prelude.{◌≡◌, map};
+ghost use Rattle.std.specs.Prelude.{◌≡◌};
 ghost use Rattle.ap_world.specs.Primitives.{prim_of};
-ghost use Rattle.ap_types.specs.Typing.{rules_in, seen_rule, types_in, any_empty, one_types, two_types, other_types, table, call_types};
+ghost use Rattle.ap_world.specs.Typing.{any_empty, one_types, two_types, other_types, table, call_types};
+ghost use Rattle.ap_types.specs.Settings.{types_in};
 
 use crate::constants::is_symbol;
 use crate::kinds::ALL;
 use crate::rows::{coerce_types, over_one, over_two, test_types, tested};
-use crate::rules::{TypeRule, function_types};
+use crate::rules::function_types;
 use ap_term::Term;
 use ap_value::Symbol;
 use ap_world::{Primitive, World};
@@ -23,13 +24,11 @@ pub(crate) struct Own<'a> {
 pub(crate) struct Setting<'a, 'w> {
     pub(crate) alloc: Global,
     pub(crate) w: &'w World,
-    pub(crate) rules: &'a [TypeRule],
     pub(crate) own: Option<Own<'a>>,
 }
 
 /// The types of a function's calls.
 fn types_in(s: &Setting<'_, '_>, f: &Symbol) -> u16
-    requires rules { map seen_rule s.now.rules.now ≡ rules_in s.now.w.now.theory s.now.w.now.entries }
     ensures { result ≡ types_in s.now.w.now s.now.own f.now }
 {
     match s.own {
@@ -37,10 +36,10 @@ fn types_in(s: &Setting<'_, '_>, f: &Symbol) -> u16
             if is_symbol(f, own.name) {
                 own.mask
             } else {
-                function_types(s.w, s.rules, f)
+                function_types(s.w, f)
             }
         }
-        None => function_types(s.w, s.rules, f),
+        None => function_types(s.w, f),
     }
 }
 
@@ -64,7 +63,6 @@ fn one_types(
     test: Option<u16>,
     mask: u16,
 ) -> u16
-    requires rules { map seen_rule s.now.rules.now ≡ rules_in s.now.w.now.theory s.now.w.now.entries }
     ensures { result ≡ one_types (types_in s.now.w.now s.now.own) f.now p test mask }
 {
     match (test, p) {
@@ -83,7 +81,6 @@ fn two_types(
     a: u16,
     b: u16,
 ) -> u16
-    requires rules { map seen_rule s.now.rules.now ≡ rules_in s.now.w.now.theory s.now.w.now.entries }
     ensures { result ≡ two_types (types_in s.now.w.now s.now.own) f.now p ts.now a b }
 {
     match p {
@@ -95,7 +92,6 @@ fn two_types(
 
 /// A call of another number of arguments.
 fn other_types(s: &Setting<'_, '_>, f: &Symbol, p: Option<Primitive>) -> u16
-    requires rules { map seen_rule s.now.rules.now ≡ rules_in s.now.w.now.theory s.now.w.now.entries }
     ensures { result ≡ other_types (types_in s.now.w.now s.now.own) f.now p }
 {
     match p {
@@ -112,7 +108,6 @@ pub(crate) fn call_types(
     ts: &[Term],
     masks: &[u16],
 ) -> u16
-    requires rules { map seen_rule s.now.rules.now ≡ rules_in s.now.w.now.theory s.now.w.now.entries }
     ensures { result ≡ call_types (types_in s.now.w.now s.now.own) f.now p ts.now masks.now }
 {
     if any_empty(masks) {

@@ -4,11 +4,11 @@ ghost use Rattle.ap_term.specs.Equal.{term_eq};
 ghost use Rattle.ap_world.specs.Primitives.{symbol_value, nil, t};
 ghost use Rattle.ap_world.specs.Names.{list_name};
 ghost use Rattle.ap_world.specs.Types.{is_true_list};
-ghost use Rattle.ap_types.specs.Kinds.{int_kind, symbol_kind, cons_kind, kind_of};
+ghost use Rattle.ap_world.specs.Kinds.{int_kind, symbol_kind, cons_kind, kind_of};
 
-use crate::kinds::Kind;
 use ap_term::{Term, same_term};
 use ap_value::{Symbol, Value, same};
+use ap_world::Kind;
 
 /// Whether a symbol is the one of package `ACL2` with this name.
 pub(crate) fn is_named(symbol: &Symbol, name: &[u8]) -> bool

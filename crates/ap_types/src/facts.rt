@@ -1,14 +1,14 @@
 ghost use Rattle.std.specs.Prelude.{◌≡◌};
 ghost use Rattle.ap_term.specs.declared.term.Term.{out-Term};
-ghost use Rattle.ap_kernel.specs.Shapes.{shape_of};
-ghost use Rattle.ap_types.specs.Narrowing.{signed, by_itself, by_recogniser, by_kind, by_constant, by_equation, is_zero, by_bound, by_pair, by_parts, leaves, cut};
 ghost use Rattle.ap_world.specs.Primitives.{prim_of};
+ghost use Rattle.ap_world.specs.Shapes.{shape_of};
+ghost use Rattle.ap_world.specs.Narrowing.{signed, by_itself, by_recogniser, by_kind, by_constant, by_equation, is_zero, by_bound, by_pair, by_parts, leaves, cut};
 
 use crate::constants::{is_same, is_zero_value, kind_of};
-use crate::kinds::{ALL, Kind, NIL, bit, without};
+use crate::kinds::{ALL, NIL, bit, without};
 use crate::rows::{is_single, recognised};
 use ap_term::Term;
-use ap_world::{Primitive, primitive_of};
+use ap_world::{Kind, Primitive, primitive_of};
 
 /// The types where the sign is true, the others where it is false.
 fn signed(sign: bool, mask: u16) -> u16
@@ -117,7 +117,13 @@ fn by_parts(t: &Term, sign: bool, fact: &Term) -> u16
                     ALL
                 }
             }
-            [a, b] => by_pair(t, sign, primitive_of(f), a, b),
+            [a, b] => {
+                if is_same(a, t) || is_same(b, t) {
+                    by_pair(t, sign, primitive_of(f), a, b)
+                } else {
+                    ALL
+                }
+            }
             _ => ALL,
         },
         _ => ALL,

@@ -1,16 +1,14 @@
-ghost use Rattle.std.specs.Prelude.{◌≡◌, IsTrue, IfOk, map, false};
+ghost use Rattle.std.specs.Prelude.{◌≡◌, IsTrue, IfOk, false};
 ghost use Rattle.ap_value.specs.Values.{V};
 ghost use Rattle.ap_world.specs.Meaning.{Env, HasValue};
 ghost use Rattle.ap_world.specs.Types.{Has};
 ghost use Rattle.ap_world.specs.Sound.{known};
 ghost use Rattle.ap_world.specs.World.{function_of, has_name};
+ghost use Rattle.ap_world.specs.KeptTypes.{body_types, settled, kept_types};
 ghost use Rattle.ap_kernel.specs.Standing.{HasGround};
-ghost use Rattle.ap_types.specs.Typing.{rules_in, seen_rule};
-ghost use Rattle.ap_types.specs.Kept.{body_types, settled, kept_types};
 
 use crate::calls::{Own, Setting};
 use crate::kinds::ALL;
-use crate::rules::{TypeRule, rules_in};
 use crate::typing::types_at;
 use ap_list::{NoMemory, Seq};
 use ap_term::Term;
@@ -22,19 +20,16 @@ use std::alloc::Global;
 fn body_types(
     alloc: Global,
     w: &World,
-    rules: &[TypeRule],
     name: &Symbol,
     body: &Term,
     mask: u16,
 ) -> Result<u16, NoMemory>
-    requires rules { map seen_rule rules.now ≡ rules_in w.now.theory w.now.entries }
     ensures { IfOk result (λ m. m ≡ body_types w.now name.now body.now mask) }
 {
     let mut nothing = Seq::new(alloc);
     let setting = Setting {
         alloc,
         w,
-        rules,
         own: Some(Own { name, mask }),
     };
     types_at(&setting, &mut nothing, body)
@@ -44,23 +39,21 @@ fn body_types(
 fn settled(
     alloc: Global,
     w: &World,
-    rules: &[TypeRule],
     name: &Symbol,
     body: &Term,
     rounds: u32,
     mask: u16,
 ) -> Result<u16, NoMemory>
-    requires rules { map seen_rule rules.now ≡ rules_in w.now.theory w.now.entries }
     ensures { IfOk result (λ m. m ≡ settled (body_types w.now name.now body.now) rounds mask) }
 {
     if rounds == 0 {
         return Ok(ALL);
     }
-    let next = body_types(alloc, w, rules, name, body, mask)?;
+    let next = body_types(alloc, w, name, body, mask)?;
     if next == mask {
         return Ok(mask);
     }
-    settled(alloc, w, rules, name, body, rounds - 1, next)
+    settled(alloc, w, name, body, rounds - 1, next)
 }
 
 /// The mask that a function of this name and body keeps when it is added to the world: the least that the
@@ -73,6 +66,5 @@ pub fn kept_mask(alloc: Global, w: &World, name: &Symbol, body: &Term) -> Result
     ensures holds { IfOk result (λ m. HasGround (function_of w.now.entries) → has_name w.now.entries name.now ≡ false → IsTrue (known (function_of w.now.entries) body.now) → (e : Env) (v : V) → HasValue (function_of w.now.entries) body.now e v → Has m v) }
 {
     w.is_sound();
-    let rules = rules_in(alloc, w)?;
-    Ok(Mask(settled(alloc, w, rules.as_slice(), name, body, 11, 0)?))
+    Ok(Mask(settled(alloc, w, name, body, 11, 0)?))
 }

@@ -1,29 +1,8 @@
 ghost use Rattle.std.specs.Prelude.{◌≡◌};
-ghost use Rattle.ap_types.specs.Kinds.{kinds, bit, all, without, meets};
-ghost use Rattle.ap_types.specs.Rows.{sign_of, sign_bit};
+ghost use Rattle.ap_world.specs.Kinds.{kinds, bit, all, without, meets};
+ghost use Rattle.ap_world.specs.Rows.{sign_of, sign_bit};
 
-/// The ten basic types of a value.
-#[derive(Clone, Copy, Debug)]
-pub(crate) enum Kind {
-    Zero,
-    Positive,
-    Negative,
-    Nil,
-    True,
-    OtherSymbol,
-    Proper,
-    Improper,
-    Text,
-    Character,
-}
-
-/// A type as a number: zero, positive or negative.
-#[derive(Clone, Copy, Debug)]
-pub(crate) enum Sign {
-    Zero,
-    Positive,
-    Negative,
-}
+use ap_world::{Kind, Sign};
 
 /// The mask of all ten.
 pub(crate) const ALL: u16 = 1023;

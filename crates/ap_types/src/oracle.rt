@@ -1,12 +1,12 @@
 ghost use Rattle.std.specs.Prelude.{◌≡◌, IsTrue, IfOk};
 ghost use Rattle.ap_world.specs.Sound.{known};
 ghost use Rattle.ap_world.specs.World.{function_of};
-ghost use Rattle.ap_kernel.specs.Standing.{HasGround, KnownFacts};
+ghost use Rattle.ap_world.specs.Facts.{KnownFacts};
+ghost use Rattle.ap_world.specs.Typing.{types};
+ghost use Rattle.ap_kernel.specs.Standing.{HasGround};
 ghost use Rattle.ap_kernel.specs.Masks.{MaskHolds};
-ghost use Rattle.ap_types.specs.Typing.{types};
 
 use crate::calls::Setting;
-use crate::rules::rules_in;
 use crate::typing::types_at;
 use ap_kernel::{Ctx, TypeOracle};
 use ap_list::{NoMemory, Seq};
@@ -17,8 +17,9 @@ use std::alloc::Global;
 /// The types that a term's value can have wherever the facts hold: those of the term's form, cut by the
 /// facts on the term. The kept mask of a function is used where its type-prescription rune is enabled in
 /// the world's current theory, cut by the world's enabled type-prescription theorems about the function.
-/// Linear in the term's size times the facts that are in force at its parts, of which none is copied; the
-/// world's entries are read once. See the manual's topics `type-set` and `type-prescription`.
+/// Linear in the term's size times the facts that are in force at its parts, of which none is copied; of
+/// the world only the functions that are called and the theorems about them are looked up. See the manual's
+/// topics `type-set` and `type-prescription`.
 pub fn types_of(alloc: Global, w: &World, ctx: &Ctx, t: &Term) -> Result<Mask, NoMemory>
     requires ground { HasGround (function_of w.now.entries) }
     requires facts { KnownFacts (function_of w.now.entries) ctx.now.0 }
@@ -27,11 +28,9 @@ pub fn types_of(alloc: Global, w: &World, ctx: &Ctx, t: &Term) -> Result<Mask, N
     ensures holds { IfOk result (λ m. MaskHolds (function_of w.now.entries) ctx.now.0 t.now m) }
 {
     w.is_sound();
-    let rules = rules_in(alloc, w)?;
     let setting = Setting {
         alloc,
         w,
-        rules: rules.as_slice(),
         own: None,
     };
     let mut scopes = Seq::new(alloc);

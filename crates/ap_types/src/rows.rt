@@ -1,15 +1,15 @@
 ghost use Rattle.std.specs.Prelude.{◌≡◌, map};
 ghost use Rattle.ap_list.specs.Lists.{lookup_by};
 ghost use Rattle.ap_value.specs.Values.{symbol_eq, acl2};
-ghost use Rattle.ap_kernel.specs.Shapes.{shape_of};
-ghost use Rattle.ap_types.specs.Kinds.{bit, union_from, union};
-ghost use Rattle.ap_types.specs.Rows.{recognised, tested, test_types, plus_row, times_row, minus_row, less_row, is_single, equal_row, cons_row, car_row, cdr_row, char_code_row, row_one, row_two, over_one, over_two, coerce_by, coerce_types};
+ghost use Rattle.ap_world.specs.Shapes.{shape_of};
+ghost use Rattle.ap_world.specs.Kinds.{bit, union_from, union};
+ghost use Rattle.ap_world.specs.Rows.{recognised, tested, test_types, plus_row, times_row, minus_row, less_row, is_single, equal_row, cons_row, car_row, cdr_row, char_code_row, row_one, row_two, over_one, over_two, coerce_by, coerce_types};
 
 use crate::constants::{is_list_name, is_named};
-use crate::kinds::{ALL, Kind, NIL, Sign, T, bit, kinds, meets, sign_bit, sign_of, without};
+use crate::kinds::{ALL, NIL, T, bit, kinds, meets, sign_bit, sign_of, without};
 use ap_term::Term;
 use ap_value::Symbol;
-use ap_world::Primitive;
+use ap_world::{Kind, Primitive, Sign};
 
 /// What stands beside the name in a table.
 fn find_named(symbol: &Symbol, table: &[(&'static [u8], u16)]) -> Option<u16>

@@ -1,55 +1,17 @@
-ghost use Rattle.std.specs.Prelude.{◌≡◌, [], ◌++◌, map, IfOk, OnOk};
-ghost use Rattle.std.specs.Option.{option_map};
+ghost use Rattle.std.specs.Prelude.{◌≡◌, map};
 ghost use Rattle.ap_list.specs.Lists.{all_true, is_among, is_distinct};
 ghost use Rattle.ap_term.specs.declared.term.Term.{out-Term};
 ghost use Rattle.ap_term.specs.Equal.{term_eq};
-ghost use Rattle.ap_world.specs.World.{function_of, lent_entry};
-ghost use Rattle.ap_types.specs.Typing.{silences, is_silent, is_variable, are_distinct_variables, rule_on, rule_of, prescribes, speaks, rule_in, with_rule, rules_in, narrowed, kept_of, function_types, seen_rule, found_rule};
+ghost use Rattle.ap_world.specs.World.{function_of};
+ghost use Rattle.ap_world.specs.Prescribing.{theorems_about};
+ghost use Rattle.ap_world.specs.Typing.{is_variable, are_distinct_variables, types_on, prescribed_types, left_by, narrowed, kept_of, function_types};
 
-use crate::constants::{is_same, is_symbol};
+use crate::constants::is_same;
 use crate::kinds::ALL;
 use crate::rows::recognised;
-use ap_list::{NoMemory, Seq};
 use ap_term::Term;
-use ap_value::{Symbol, copy_symbol};
-use ap_world::{EntryRef, RuleClass, Rune, Theorem, Theory, World};
-use std::alloc::{AllocError, Global};
-
-/// A type-prescription rule: the function that it is about, and the types that it leaves to its calls.
-#[derive(Drop)]
-pub(crate) struct TypeRule {
-    about: Symbol,
-    types: u16,
-}
-
-/// A rule as it is found, the function's name lent.
-#[derive(Clone, Copy)]
-struct FoundRule<'a> {
-    about: &'a Symbol,
-    types: u16,
-}
-
-/// Whether a rune is the type-prescription rune of this name.
-fn silences(name: &Symbol, rune: &Rune) -> bool
-    ensures { result ≡ silences name.now rune.now }
-{
-    match rune {
-        Rune::TypePrescription(f) => is_symbol(name, f),
-        _ => false,
-    }
-}
-
-/// Whether a theory disables the type-prescription rune of this name.
-fn is_silent(theory: &Theory, name: &Symbol) -> bool
-    ensures { result ≡ is_silent theory.now name.now }
-{
-    for rune in theory.disabled.as_slice() {
-        if silences(name, rune) {
-            return true;
-        }
-    }
-    false
-}
+use ap_value::Symbol;
+use ap_world::{RuneKind, Theorem, Theory, World};
 
 /// Whether a term is a variable.
 fn is_variable(t: &Term) -> bool
@@ -103,109 +65,55 @@ fn are_distinct_variables(ts: &[Term]) -> bool
     are_variables(ts) && are_distinct(ts)
 }
 
-/// The rule of a recogniser of these types on a term.
-fn rule_on(types: Option<u16>, t: &Term) -> Option<FoundRule<'_>>
-    ensures { option_map found_rule result ≡ rule_on types (out-Term t.now) }
+/// The types that a recogniser leaves to a call of distinct variables; all to another term.
+fn types_on(types: Option<u16>, t: &Term) -> u16
+    ensures { result ≡ types_on types (out-Term t.now) }
 {
     match (types, t) {
-        (Some(types), Term::Call(about, ts)) => {
+        (Some(types), Term::Call(_, ts)) => {
             if are_distinct_variables(ts.as_slice()) {
-                Some(FoundRule { about, types })
+                types
             } else {
-                None
+                ALL
             }
         }
-        _ => None,
+        _ => ALL,
     }
 }
 
-/// The rule of a term, where it is a recogniser on a call of distinct variables.
-fn rule_of(t: &Term) -> Option<FoundRule<'_>>
-    ensures { option_map found_rule result ≡ rule_of (out-Term t.now) }
+/// The types that a term leaves to the call that it is a recogniser on.
+fn prescribed_types(t: &Term) -> u16
+    ensures { result ≡ prescribed_types (out-Term t.now) }
 {
     match t {
         Term::Call(r, ts) => match ts.as_slice() {
-            [a] => rule_on(recognised(r), a),
-            _ => None,
+            [a] => types_on(recognised(r), a),
+            _ => ALL,
         },
-        _ => None,
+        _ => ALL,
     }
 }
 
-/// Whether the classes have that of type prescriptions.
-fn prescribes(classes: &[RuleClass]) -> bool
-    ensures { result ≡ prescribes classes.now }
+/// The types that a theorem leaves to the calls of the function that it is about, where it is enabled.
+fn left_by(theory: &Theory, theorem: &Theorem) -> u16
+    ensures { result ≡ left_by theory.now theorem.now }
 {
-    for class in classes {
-        if matches!(class, RuleClass::TypePrescription) {
-            return true;
-        }
-    }
-    false
-}
-
-/// Whether a theorem is of the class of type prescriptions and enabled.
-fn speaks(theory: &Theory, theorem: &Theorem) -> bool
-    ensures { result ≡ speaks theory.now theorem.now }
-{
-    prescribes(theorem.classes.as_slice()) && !is_silent(theory, &theorem.name)
-}
-
-/// The rule of an entry.
-fn rule_in<'a>(theory: &Theory, lent: EntryRef<'a>) -> Option<FoundRule<'a>>
-    ensures { option_map found_rule result ≡ rule_in theory.now (lent_entry lent.entry) }
-{
-    match lent {
-        EntryRef::Theorem(theorem) => {
-            if speaks(theory, theorem) {
-                rule_of(&theorem.term)
-            } else {
-                None
-            }
-        }
-        _ => None,
+    if theory.is_enabled(RuneKind::TypePrescription, &theorem.name) {
+        prescribed_types(&theorem.term)
+    } else {
+        ALL
     }
 }
 
-/// Adds a rule, if there is one.
-fn add_rule(
-    alloc: Global,
-    rules: &mut Seq<TypeRule>,
-    rule: Option<FoundRule<'_>>,
-) -> Result<(), NoMemory>
-    ensures { OnOk result (map seen_rule rules.new ≡ map seen_rule rules.old ++ with_rule (option_map found_rule rule.entry) []) }
-{
-    match rule {
-        Some(FoundRule { about, types }) => {
-            let about = copy_symbol(alloc, about)?;
-            rules.push(TypeRule { about, types })
-        }
-        None => Ok(()),
-    }
-}
-
-/// The rules of a world.
-pub(crate) fn rules_in(alloc: Global, w: &World) -> Result<Seq<TypeRule>, NoMemory>
-    ensures { IfOk result (λ rs. map seen_rule rs ≡ rules_in w.now.theory w.now.entries) }
-{
-    let mut rules = Seq::new(alloc);
-    for place in 0..usize::MAX {
-        match w.entry(place) {
-            None => return Ok(rules),
-            Some(entry) => add_rule(alloc, &mut rules, rule_in(w.theory(), entry))?,
-        }
-    }
-    Err(AllocError)
-}
-
-/// A mask cut by the rules about a function.
-fn narrowed(f: &Symbol, rules: &[TypeRule], mask: u16) -> u16
-    ensures { result ≡ narrowed f.now (map seen_rule rules.now) mask }
+/// A mask cut by the world's theorems about a function.
+fn narrowed(w: &World, f: &Symbol, mask: u16) -> u16
+    ensures { result ≡ narrowed w.now.theory (theorems_about f.now w.now.entries) mask }
 {
     let mut out = mask;
-    for rule in rules {
-        if is_symbol(f, &rule.about) {
-            out = out & rule.types;
+    for number in 0..w.count() {
+        match w.prescription(f, number) {
+            None => return out,
+            Some(theorem) => out = out & left_by(w.theory(), theorem),
         }
     }
     out
@@ -221,13 +129,13 @@ fn kept_of(w: &World, f: &Symbol) -> u16
     }
 }
 
-/// The types of a function's calls, by the world and its rules.
-pub(crate) fn function_types(w: &World, rules: &[TypeRule], f: &Symbol) -> u16
-    requires rules { map seen_rule rules.now ≡ rules_in w.now.theory w.now.entries }
+/// The types of a function's calls. Looks up the function and the theorems about it alone, by name.
+pub(crate) fn function_types(w: &World, f: &Symbol) -> u16
     ensures { result ≡ function_types w.now f.now }
 {
-    if is_silent(w.theory(), f) {
-        return ALL;
+    if w.enabled_for(RuneKind::TypePrescription, f) {
+        narrowed(w, f, kept_of(w, f))
+    } else {
+        ALL
     }
-    narrowed(f, rules, kept_of(w, f))
 }

@@ -1,6 +1,6 @@
 ghost use Rattle.std.specs.Prelude.{◌≡◌, length, take, OnOk};
-ghost use Rattle.ap_kernel.specs.Assume.{assume};
-ghost use Rattle.ap_types.specs.Narrowing.{cut};
+ghost use Rattle.ap_world.specs.Assume.{assume};
+ghost use Rattle.ap_world.specs.Narrowing.{cut};
 ghost use Rattle.ap_types.specs.Scopes.{in_scope};
 
 use crate::facts::cut;

@@ -1,11 +1,12 @@
 ghost use Rattle.std.specs.Prelude.{◌≡◌, true, false, map, IfOk, OnOk};
 ghost use Rattle.std.specs.Option.{option_map};
 ghost use Rattle.ap_world.specs.Primitives.{prim_of};
-ghost use Rattle.ap_kernel.specs.Assume.{assume};
-ghost use Rattle.ap_types.specs.Kinds.{if_so};
-ghost use Rattle.ap_types.specs.Narrowing.{cut};
+ghost use Rattle.ap_world.specs.Assume.{assume};
+ghost use Rattle.ap_world.specs.Kinds.{if_so};
+ghost use Rattle.ap_world.specs.Narrowing.{cut};
+ghost use Rattle.ap_world.specs.Typing.{if_parts, head_types, types_by, chosen_types};
 ghost use Rattle.ap_types.specs.Scopes.{in_scope};
-ghost use Rattle.ap_types.specs.Typing.{rules_in, seen_rule, types_in, if_parts, head_types, types_by, chosen_types};
+ghost use Rattle.ap_types.specs.Settings.{types_in};
 
 use crate::calls::{Setting, call_types};
 use crate::constants::kind_of;
@@ -24,7 +25,6 @@ pub(crate) fn types_at(
     scopes: &mut Seq<Ctx>,
     t: &Term,
 ) -> Result<u16, NoMemory>
-    requires rules { map seen_rule s.now.rules.now ≡ rules_in s.now.w.now.theory s.now.w.now.entries }
     ensures is { IfOk result (λ m. m ≡ types_by (types_in s.now.w.now s.now.own) t.now (in_scope scopes.old)) }
     ensures scopes { OnOk result (scopes.new ≡ scopes.old) }
 {
@@ -35,7 +35,6 @@ pub(crate) fn types_at(
 /// The types of a term by its form; the facts on the term itself cut them.
 #[cycle(typing)]
 fn form_types(s: &Setting<'_, '_>, scopes: &mut Seq<Ctx>, t: &Term) -> Result<u16, NoMemory>
-    requires rules { map seen_rule s.now.rules.now ≡ rules_in s.now.w.now.theory s.now.w.now.entries }
     ensures is { IfOk result (λ m. cut (in_scope scopes.old) t.now m ≡ types_by (types_in s.now.w.now s.now.own) t.now (in_scope scopes.old)) }
     ensures scopes { OnOk result (scopes.new ≡ scopes.old) }
 {
@@ -64,7 +63,6 @@ fn head_types(
     f: &Symbol,
     ts: &[Term],
 ) -> Result<u16, NoMemory>
-    requires rules { map seen_rule s.now.rules.now ≡ rules_in s.now.w.now.theory s.now.w.now.entries }
     ensures is { IfOk result (λ m. m ≡ head_types (types_in s.now.w.now s.now.own) f.now (prim_of f.now) (map (λ u. (u, types_by (types_in s.now.w.now s.now.own) u)) ts.now) (in_scope scopes.old)) }
     ensures scopes { OnOk result (scopes.new ≡ scopes.old) }
 {
@@ -87,7 +85,6 @@ fn if_types(
     b: &Term,
     c: &Term,
 ) -> Result<u16, NoMemory>
-    requires rules { map seen_rule s.now.rules.now ≡ rules_in s.now.w.now.theory s.now.w.now.entries }
     ensures is { IfOk result (λ m. m ≡ chosen_types (types_by (types_in s.now.w.now s.now.own) a.now (in_scope scopes.old)) (types_by (types_in s.now.w.now s.now.own) b.now (assume (in_scope scopes.old) a.now true)) (types_by (types_in s.now.w.now s.now.own) c.now (assume (in_scope scopes.old) a.now false))) }
     ensures scopes { OnOk result (scopes.new ≡ scopes.old) }
 {
@@ -108,7 +105,6 @@ fn types_under(
     sign: bool,
     t: &Term,
 ) -> Result<u16, NoMemory>
-    requires rules { map seen_rule s.now.rules.now ≡ rules_in s.now.w.now.theory s.now.w.now.entries }
     ensures is { IfOk result (λ m. m ≡ if_so chosen (types_by (types_in s.now.w.now s.now.own) t.now (assume (in_scope scopes.old) test.now sign))) }
     ensures scopes { OnOk result (scopes.new ≡ scopes.old) }
 {
@@ -125,7 +121,6 @@ fn types_under(
 /// The masks of a call's arguments.
 #[cycle(typing)]
 fn masks_of(s: &Setting<'_, '_>, scopes: &mut Seq<Ctx>, ts: &[Term]) -> Result<Seq<u16>, NoMemory>
-    requires rules { map seen_rule s.now.rules.now ≡ rules_in s.now.w.now.theory s.now.w.now.entries }
     ensures is { IfOk result (λ ms. ms ≡ map (λ u. types_by (types_in s.now.w.now s.now.own) u (in_scope scopes.old)) ts.now) }
     ensures scopes { OnOk result (scopes.new ≡ scopes.old) }
 {

@@ -5,7 +5,7 @@
 mod symbol;
 mod value;
 
-pub use ap_list::{Boxed, Bytes, NoMemory, Seq, Shared};
+pub use ap_list::{Boxed, Bytes, NoMemory, Seq, Shared, Text};
 pub use symbol::{
     BookName, Symbol, acl2, copy_bytes, copy_symbol, is_named, same_bytes, same_symbol,
 };

@@ -1,7 +1,7 @@
 ghost use Rattle.std.specs.Prelude.{◌≡◌, ◌<◌, ◌↔◌, ℕ, IsTrue, IfOk, slice_index, map};
 ghost use Rattle.ap_value.specs.Values.{acl2, byte_of, symbol_eq};
 
-use ap_list::{Bytes, NoMemory, Shared};
+use ap_list::{Bytes, NoMemory, Text};
 use std::alloc::Global;
 
 /// A symbol of the package `KEYWORD`, or else of `ACL2`, by its name as it is read: `car` has the name
@@ -10,7 +10,7 @@ use std::alloc::Global;
 #[derive(Debug, Drop, PartialEq, Eq, Hash)]
 pub struct Symbol {
     pub keyword: bool,
-    pub name: Shared<Bytes>,
+    pub name: Text,
 }
 
 /// The name of a book as the command's words have it, without `.lisp`.
@@ -72,7 +72,7 @@ pub fn copy_symbol(_alloc: Global, symbol: &Symbol) -> Result<Symbol, NoMemory>
 pub fn acl2(alloc: Global, name: &[u8]) -> Result<Symbol, NoMemory>
     ensures { IfOk result (λ s. s ≡ acl2 name.now) }
 {
-    let name = Shared::new(alloc, Bytes::from_slice(alloc, name)?)?;
+    let name = Text::new(alloc, Bytes::from_slice(alloc, name)?)?;
     Ok(Symbol {
         keyword: false,
         name,

@@ -5,7 +5,7 @@ ghost use Rattle.ap_value.specs.Values.{val_of};
 ghost use Rattle.ap_value.specs.Counts.{node_count, acl2_count_of};
 
 use crate::symbol::{Symbol, copy_symbol, same_bytes, same_code, same_symbol};
-use ap_list::{Bytes, NoMemory, Shared};
+use ap_list::{Bytes, NoMemory, Shared, Text};
 use std::alloc::Global;
 
 /// A value: an integer, a character by its code, a string by the codes of its characters, a symbol, or
@@ -15,7 +15,7 @@ use std::alloc::Global;
 pub enum Value {
     Int(i128),
     Chr(u8),
-    Str(Shared<Bytes>),
+    Str(Text),
     Sym(Symbol),
     Cons(Shared<Value>, Shared<Value>),
 }
@@ -25,7 +25,7 @@ impl Value {
     pub fn string(alloc: Global, codes: Bytes) -> Result<Value, NoMemory>
         ensures { IfOk result (λ v. v ≡ Str codes) }
     {
-        Ok(Value::Str(Shared::new(alloc, codes)?))
+        Ok(Value::Str(Text::new(alloc, codes)?))
     }
 
     /// The cons of two values, moved to where copies share them.

@@ -43,12 +43,12 @@ next_by : (rule : Rule) (b : Bool) (t : Tally) → IsOpen rule t → Next rule (
 next_by rule true t is = record {
   in_goals = omega (arith, is.in_goals);
   in_limit = omega (arith, is.below_limit);
-  in_two = λ e. omega (arith, is.below_two e);
+  in_two = λ e. omega (arith, is.below_revert e);
 }
 next_by rule false t is = record {
   in_goals = omega (arith, is.in_goals);
   in_limit = omega (arith, is.below_limit);
-  in_two = λ e. omega (arith, is.below_two e);
+  in_two = λ e. omega (arith, is.below_revert e);
 }
 
 -- the tests by order and those by equality are the same after one visit from an open tally
@@ -66,7 +66,7 @@ stops_tested rule t ms next = record {
   through = λ h. record {
     in_goals = next.in_goals;
     below_limit = through_goals rule t h;
-    below_two = through_pushes rule t h;
+    below_revert = through_pushes rule t h;
   };
   revert = λ h. (
     reverts_only (can_revert rule) t.pushes t.goals rule.goal_limit h,

@@ -1,4 +1,5 @@
 pub mod Adding
+pub mod Assumed
 pub mod Agreeing
 pub mod Alike
 pub mod Coinciding
@@ -8,9 +9,13 @@ pub mod Extending
 pub mod Fuel
 pub mod Knowing
 pub mod Looking
+pub mod Parts
 pub mod Places
 pub mod Placing
 pub mod Prescribed
+pub mod Recognising
+pub mod Sets
+pub mod Shaped
 pub mod Starting
 pub mod Theories
 pub mod TotalMeaning

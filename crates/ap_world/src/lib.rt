@@ -4,6 +4,7 @@
 
 mod entries;
 mod entry;
+mod kinds;
 pub mod laws;
 mod names;
 mod prescribing;
@@ -21,6 +22,7 @@ pub use entry::{
     Case, Defun, Entry, EntryRef, Function, Mask, Measure, RuleClass, Theorem, copy_cases,
     copy_entry, copy_function, copy_measure, copy_theorem,
 };
+pub use kinds::{Kind, Sign};
 pub use primitive::{Primitive, primitive_of};
 pub use same::{alike_entry, same_entry, same_theory, same_world};
 pub use theory::{Rune, RuneKind, Theory, copy_rune, copy_theory, same_rune};

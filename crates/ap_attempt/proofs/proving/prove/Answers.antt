@@ -31,9 +31,9 @@ returns-in-Done g c =
     c.loop-rest.invariant c.in_ok-walked.ensures.walked c.in_ok-next.ensures c.in_ok-push.ensures.ok c.in-Done.is in
     record {
       attempt = is;
-      good = subst (λ done. done.verdict ≡ Verdict.Qed → g.P.Step.good root) (sym is)
+      good = subst (λ v. v ≡ Verdict.Qed → g.P.Step.good root) (sym is.0)
           (attempt_good step depth g.P.Step.good tells g.met.P.Step.deeper g.met.P.Step.whole inducted g.met.P.Prover.by_induction root original
           (g.met.P.Prover.by_original root) refuses rule);
-      few = subst (λ done. mark_count done.walks ≤ rule.goal_limit) (sym is) (attempt_few step depth tells inducted original refuses rule root);
-      later = subst (λ done. EachAfterFirst (IsLater step depth) done.walks) (sym is) (attempt_later step depth tells inducted original refuses rule root);
+      few = subst (λ ws. mark_count ws ≤ rule.goal_limit) (sym is.1) (attempt_few step depth tells inducted original refuses rule root);
+      later = subst (EachAfterFirst (IsLater step depth)) (sym is.1) (attempt_later step depth tells inducted original refuses rule root);
     }

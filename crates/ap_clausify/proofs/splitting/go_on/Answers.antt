@@ -1,23 +1,22 @@
 use Rattle.std.proofs.Common.{◌≡◌, ◌+◌, Some, None, length, slice_get, ◌∙◌, rules}
-use Rattle.ap_world.specs.World.{function_of}
 use Rattle.ap_clausify.proofs.Framed.{goes_open, goes_done, goes_out}
 use Rattle.ap_clausify.proofs.splitting.go_on.Goals as goal
 
 pub returns-in_default : goal.returns-in_default
 returns-in_default c =
-    let h : slice_get c.args.frame.split.to (length c.args.frame.done) ≡ None = search rules in
-    goes_done (function_of c.args.w.now.entries) c.args.frames c.args.frame c.in_ok-chain.field-0 c.args.steps.now.left c.requires.linked h c.in_ok-chain.ensures.stands c.in_ok-chain.ensures.made
+    let h : slice_get c.args.frame.split.says.to (length c.args.frame.done) ≡ None = search rules in
+    goes_done c.args.w.now c.args.frames c.args.frame c.in_ok-chain.field-0 c.args.steps.now.left c.requires.linked h c.in_ok-chain.ensures.stands c.in_ok-chain.ensures.made
 
 pub returns-then-is_err : goal.returns-then-is_err
 returns-then-is_err c =
-    let h : slice_get c.args.frame.split.to (length c.args.frame.done) ≡ Some c.in-Some.case.now = search rules in
+    let h : slice_get c.args.frame.split.says.to (length c.args.frame.done) ≡ Some c.in-Some.case.now = search rules in
     let z : c.args.steps.now.left ≡ 0 = search rules in
     let same : c.tick.new.self ≡ c.args.steps.now = search rules in
     (goes_out c.args.frames c.args.frame c.in-Some.case.now c.args.steps.now.left h z, cc)
 
 pub returns : goal.returns
 returns c =
-    let h : slice_get c.args.frame.split.to (length c.args.frame.done) ≡ Some c.in-Some.case.now = search rules in
+    let h : slice_get c.args.frame.split.says.to (length c.args.frame.done) ≡ Some c.in-Some.case.now = search rules in
     let e : c.args.steps.now.left ≡ c.tick.new.self.left + 1 = search rules in
-    goes_open (function_of c.args.w.now.entries) c.args.frames c.push.new.self c.args.frame c.in-Some.case.now c.in_ok-copy_terms.field-0 c.args.steps.now.left c.tick.new.self.left
+    goes_open c.args.w.now c.args.frames c.push.new.self c.args.frame c.in-Some.case.now c.in_ok-copy_terms.field-0 c.args.steps.now.left c.tick.new.self.left
     c.requires.linked c.requires.waits h c.in_ok-push.ensures.ok (c.in_ok-copy_terms.ensures ∙ c.as_slice.ensures) e

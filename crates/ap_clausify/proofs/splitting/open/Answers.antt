@@ -1,5 +1,4 @@
 use Rattle.std.proofs.Common.{◌≡◌, ◌+◌, ◌*◌, [], Some, length, sym, subst, rules}
-use Rattle.ap_world.specs.World.{function_of}
 use Rattle.ap_clausify.specs.Places.{first_choice}
 use Rattle.ap_clausify.specs.Frames.{due, Goes}
 use Rattle.ap_clausify.proofs.Placed.{choice_there}
@@ -18,8 +17,8 @@ returns c =
     let h : first_choice c.args.c ≡ Some (c.in-Some.place.literal, c.in-Some.place.at) = search rules in
     let none : c.new-done.result ≡ [] = search rules in
     let made = c.in_ok-split.ensures.made in
-    let from = split_from c.args.c c.in-Some.place.literal c.in-Some.place.at c.in_ok-split.split made in
-    let same = opened_cases n c.args.c c.in_ok-split.split (opened_by c.args.c c.in-Some.place.literal c.in-Some.place.at c.in_ok-split.split h made) in
-    subst (λ o. Goes (function_of c.args.w.now.entries) c.args.frames c.args.c o b c.in_ok-turn.turn c.go_on.new.steps.left) (sym same)
-    (subst (λ ds. Goes (function_of c.args.w.now.entries) c.args.frames c.args.c (due (record { split = c.in_ok-split.split; done = ds }) n) b c.in_ok-turn.turn c.go_on.new.steps.left) none
-    (subst (λ d. Goes (function_of c.args.w.now.entries) c.args.frames d (due (record { split = c.in_ok-split.split; done = c.new-done.result }) n) b c.in_ok-turn.turn c.go_on.new.steps.left) from c.in_ok-turn.ensures))
+    let from = split_from c.args.c c.in-Some.place.literal c.in-Some.place.at c.in_ok-split.split.says made in
+    let same = opened_cases n c.args.c c.in_ok-split.split (opened_by c.args.c c.in-Some.place.literal c.in-Some.place.at c.in_ok-split.split.says h made) in
+    subst (λ o. Goes c.args.w.now c.args.frames c.args.c o b c.in_ok-turn.turn c.go_on.new.steps.left) (sym same)
+    (subst (λ ds. Goes c.args.w.now c.args.frames c.args.c (due (record { split = c.in_ok-split.split; done = ds }) n) b c.in_ok-turn.turn c.go_on.new.steps.left) none
+    (subst (λ d. Goes c.args.w.now c.args.frames d (due (record { split = c.in_ok-split.split; done = c.new-done.result }) n) b c.in_ok-turn.turn c.go_on.new.steps.left) from c.in_ok-turn.ensures))

@@ -1,6 +1,6 @@
 use Rattle.std.proofs.Common.{◌≡◌, ◌++◌, sym, ◌∙◌, ap, append_assoc, rules}
-use Rattle.ap_kernel.specs.Assume.{assumed}
-use Rattle.ap_kernel.proofs.Parts.{assumed_whole, assumed_one, assumed_two}
+use Rattle.ap_world.specs.Assume.{assumed}
+use Rattle.ap_world.proofs.Parts.{assumed_whole, assumed_one, assumed_two}
 use Rattle.ap_kernel.proofs.assuming.+assuming.Goals as goal
 
 pub returns-in_ok-copy_term-in-Whole : goal.returns-in_ok-copy_term-in-Whole

@@ -1,5 +1,5 @@
 use Rattle.ap_world.proofs.TotalMeaning.{models}
-use Rattle.ap_kernel.proofs.Assumed.{assume_known, assume_holds, fact_says}
+use Rattle.ap_world.proofs.Assumed.{assume_known, assume_holds, fact_says}
 use Rattle.ap_kernel.proofs.assuming.assumed_facts_hold.Goals as goal
 
 pub returns-clause-known : goal.returns-clause-known

@@ -1,7 +1,8 @@
 use Rattle.std.proofs.Common.{◌≡◌, rules}
-use Rattle.ap_kernel.specs.Shapes.{shape_of}
-use Rattle.ap_kernel.specs.Assume.{parts, seen_halves}
-use Rattle.ap_kernel.proofs.Parts.{parts_smaller}
+use Rattle.ap_world.specs.Shapes.{shape_of}
+use Rattle.ap_world.specs.Assume.{parts}
+use Rattle.ap_kernel.specs.Assume.{seen_halves}
+use Rattle.ap_world.proofs.Parts.{parts_smaller}
 use Rattle.ap_kernel.proofs.assuming.halves_of.Goals as goal
 
 pub returns-in-If-clause-smaller : goal.returns-in-If-clause-smaller

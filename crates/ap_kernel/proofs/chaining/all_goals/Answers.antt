@@ -1,10 +1,8 @@
-use Rattle.std.proofs.Common.{◌≡◌, IfOk, map, ap, subst, ◌∙◌}
-use Rattle.ap_list.specs.Lists.{joined}
-use Rattle.ap_kernel.specs.declared.reductions.Reduction.{Reduction}
-use Rattle.ap_kernel.specs.Answers.{turned}
-use Rattle.ap_kernel.proofs.CallsStand.{turned_twice}
+use Rattle.std.proofs.Common.{◌≡◌, ◌++◌, ap, sym, ◌∙◌, rules}
+use Rattle.ap_kernel.proofs.Reduced.{all_to_end}
 use Rattle.ap_kernel.proofs.chaining.all_goals.Goals as goal
 
-pub returns : goal.returns
-returns c =
-    subst (λ rs. IfOk c.goals_of.result (λ out. out ≡ joined (map (λ (r : Reduction). r.to) rs))) (ap turned c.in_ok-reversed.ensures ∙ turned_twice c.args.list) c.goals_of.ensures
+pub loop-r-preserved : goal.loop-r-preserved
+loop-r-preserved c =
+    let out : c.append.new.self ≡ c.loop-r.out ++ c.in-Some.r.says.to = search rules in
+    out ∙ ap (λ cs. cs ++ c.in-Some.r.says.to) c.loop-r.invariant ∙ sym (all_to_end c.loop-r.yielded c.in-Some.r)

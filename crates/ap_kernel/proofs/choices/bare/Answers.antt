@@ -1,6 +1,6 @@
 use Rattle.std.proofs.Common.{◌≡◌, Bool, not, cond, ap, sym, ◌∙◌, rules}
 use Rattle.ap_term.specs.declared.term.Term.{Term}
-use Rattle.ap_kernel.specs.Shapes.{shape_of, negation}
+use Rattle.ap_world.specs.Shapes.{shape_of, negation}
 use Rattle.ap_kernel.specs.Choices.{bare}
 use Rattle.ap_kernel.proofs.ChoicesStand.{bare_not, bare_alone, turn_once, even}
 use Rattle.ap_kernel.proofs.choices.bare.Goals as goal

@@ -1,11 +1,11 @@
-use Rattle.std.proofs.Common.{◌≡◌, rules}
+use Rattle.std.proofs.Common.{rules}
 use Rattle.ap_world.specs.World.{function_of}
-use Rattle.ap_kernel.specs.Choices.{choice_made}
+use Rattle.ap_kernel.proofs.Standing.{stands_by}
 use Rattle.ap_kernel.proofs.ChoicesStand.{choice_stands}
 use Rattle.ap_kernel.proofs.choices.if_shape.Goals as goal
 
 pub returns-clause-stands : goal.returns-clause-stands
 returns-clause-stands c =
-    let e : c.made.result ≡ choice_made c.args.ctx.now c.args.mode c.args.t.now c.args.mask = search rules in
-    rw e (choice_stands (function_of c.args.w.now.entries) c.is_sound.ensures.total c.requires.ground c.args.ctx.now c.args.mode c.args.t.now c.args.mask
+    stands_by c.args.w.now c.made.result _ (search rules)
+    (choice_stands (function_of c.args.w.now.entries) c.is_sound.ensures.total c.requires.ground c.args.ctx.now c.args.mode c.args.t.now c.args.mask
     c.requires.facts c.requires.term c.requires.choice c.requires.mask)

@@ -1,12 +1,12 @@
 use Rattle.std.proofs.Common.{◌≡◌, Some, rules}
 use Rattle.ap_world.specs.World.{function_of}
-use Rattle.ap_kernel.specs.Equations.{equation_leads, equation_made}
+use Rattle.ap_kernel.specs.Equations.{equation_leads}
+use Rattle.ap_kernel.proofs.Standing.{stands_by}
 use Rattle.ap_kernel.proofs.EquationsStand.{equation_stands}
 use Rattle.ap_kernel.proofs.equations.cons_equal.Goals as goal
 
 pub returns-clause-stands : goal.returns-clause-stands
 returns-clause-stands c =
-    let e : c.made.result ≡ equation_made c.args.ctx.now c.args.t.now c.in_ok-rhs.rhs = search rules in
     let leads : equation_leads c.args.ctx.now.0 c.args.t.now ≡ Some c.in_ok-rhs.rhs = search rules in
-    rw e (equation_stands (function_of c.args.w.now.entries) c.is_sound.ensures.total c.args.ctx.now c.args.t.now c.in_ok-rhs.rhs
-    c.requires.facts c.requires.term leads)
+    stands_by c.args.w.now c.made.result _ (search rules)
+    (equation_stands (function_of c.args.w.now.entries) c.is_sound.ensures.total c.args.ctx.now c.args.t.now c.in_ok-rhs.rhs c.requires.facts c.requires.term leads)

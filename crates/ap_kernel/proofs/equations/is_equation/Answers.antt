@@ -1,6 +1,6 @@
 use Rattle.std.proofs.Common.{◌≡◌, ◌&&◌, ap, sym, ◌∙◌, rules}
 use Rattle.ap_term.specs.Equal.{term_eq}
-use Rattle.ap_kernel.specs.Shapes.{shape_of, equation}
+use Rattle.ap_world.specs.Shapes.{shape_of, equation}
 use Rattle.ap_kernel.proofs.SameTerms.{sides_are, equation_test, not_equation}
 use Rattle.ap_kernel.proofs.equations.is_equation.Goals as goal
 

@@ -1,6 +1,6 @@
 use Rattle.std.proofs.Common.{◌≡◌, ap, ◌∙◌, rules}
 use Rattle.ap_world.specs.Clauses.{negate}
-use Rattle.ap_kernel.specs.Shapes.{shape_of, negation}
+use Rattle.ap_world.specs.Shapes.{shape_of, negation}
 use Rattle.ap_kernel.proofs.Splitting.{negated_by, negate_is, negate_other}
 use Rattle.ap_kernel.proofs.splits.negated.Goals as goal
 

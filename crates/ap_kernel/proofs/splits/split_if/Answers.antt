@@ -1,6 +1,7 @@
-use Rattle.std.proofs.Common.{◌≡◌, Some, None, rules}
+use Rattle.std.proofs.Common.{◌≡◌, Some, None, refl, rules}
 use Rattle.ap_world.specs.World.{function_of}
 use Rattle.ap_kernel.specs.Splits.{split_made}
+use Rattle.ap_kernel.proofs.Reduced.{reduces_by}
 use Rattle.ap_kernel.proofs.Splitting.{can_split, split_reduces}
 use Rattle.ap_kernel.proofs.splits.split_if.Goals as goal
 
@@ -11,5 +12,6 @@ unreachable-requires c =
 
 pub returns-clause-stands : goal.returns-clause-stands
 returns-clause-stands c =
-    let e : split_made c.args.c c.args.index c.args.at.now ≡ Some c.made.result = search rules in
-    split_reduces (function_of c.args.w.now.entries) c.is_sound.ensures.total c.requires.ground c.args.c c.args.index c.args.at.now c.made.result c.requires.clause e
+    let e : split_made c.args.c c.args.index c.args.at.now ≡ Some c.made.result.says = search rules in
+    reduces_by c.args.w.now c.made.result _ refl
+    (split_reduces (function_of c.args.w.now.entries) c.is_sound.ensures.total c.requires.ground c.args.c c.args.index c.args.at.now c.made.result.says c.requires.clause e)

@@ -1,11 +1,11 @@
-use Rattle.std.proofs.Common.{◌≡◌, rules}
+use Rattle.std.proofs.Common.{rules}
 use Rattle.ap_world.specs.World.{function_of}
-use Rattle.ap_kernel.specs.Masks.{typed_made}
+use Rattle.ap_kernel.proofs.Standing.{stands_by}
 use Rattle.ap_kernel.proofs.Typed.{typed_stands}
 use Rattle.ap_kernel.proofs.types.by_type.Goals as goal
 
 pub returns-clause-stands : goal.returns-clause-stands
 returns-clause-stands c =
-    let e : c.made.result ≡ typed_made c.args.ctx.now c.args.t.now c.args.mask c.args.value = search rules in
-    rw e (typed_stands (function_of c.args.w.now.entries) c.is_sound.ensures.total c.args.ctx.now c.args.t.now c.args.mask c.args.value
+    stands_by c.args.w.now c.made.result _ (search rules)
+    (typed_stands (function_of c.args.w.now.entries) c.is_sound.ensures.total c.args.ctx.now c.args.t.now c.args.mask c.args.value
     c.requires.facts c.requires.term c.requires.mask c.requires.value)

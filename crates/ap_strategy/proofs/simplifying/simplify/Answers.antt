@@ -12,9 +12,9 @@ use Rattle.ap_strategy.proofs.simplifying.simplify.Goals as goal
 pub returns-clause-known : goal.returns-clause-known
 returns-clause-known c =
     let D = function_of c.args.w.now.entries in
-    let stands : Reduces D c.in-Some.reduction = subst (λ (o : Option Reduction). IfSome o (Reduces D)) c.in-Some.is c.in_ok-reduction.ensures.stands in
-    let moved : c.into_parts-clauses.result.1 ≡ c.in-Some.reduction.to = ap (λ (p : Clause × List Clause). p.1) c.into_parts-clauses.ensures in
-    subst (Each (KnownClause D)) (sym (c.in_ok-without_repeats.ensures ∙ ap (unrepeated []) moved)) (unrepeated_each (KnownClause D) [] c.in-Some.reduction.to tt stands.goals)
+    let stands : Reduces c.args.w.now c.in-Some.reduction = subst (λ (o : Option Reduction). IfSome o (Reduces c.args.w.now)) c.in-Some.is c.in_ok-reduction.ensures.stands in
+    let moved : c.into_parts-clauses.result.1 ≡ c.in-Some.reduction.says.to = ap (λ (p : Clause × List Clause). p.1) c.into_parts-clauses.ensures in
+    subst (Each (KnownClause D)) (sym (c.in_ok-without_repeats.ensures ∙ ap (unrepeated []) moved)) (unrepeated_each (KnownClause D) [] c.in-Some.reduction.says.to tt stands.says.goals)
 
 pub returns-clause-few : goal.returns-clause-few
 returns-clause-few c =

@@ -1,6 +1,6 @@
 use Rattle.std.proofs.Common.{drop}
 use Rattle.ap_world.specs.World.{function_of}
-use Rattle.ap_kernel.specs.Standing.{KnownFacts}
+use Rattle.ap_world.specs.Facts.{KnownFacts}
 use Rattle.ap_tests_kernel.proofs.known.are_facts.Given as goal
 
 abbrev pub invariant-loop-t : goal.invariant-loop-t

@@ -1,5 +1,5 @@
 use Rattle.std.proofs.Common.{◌≡◌, drop}
-use Rattle.ap_types.specs.Typing.{any_empty}
+use Rattle.ap_world.specs.Typing.{any_empty}
 use Rattle.ap_types.proofs.calls.any_empty.Given as goal
 
 abbrev pub invariant-loop-mask : goal.invariant-loop-mask

@@ -1,5 +1,5 @@
 use Rattle.std.proofs.Common.{◌≡◌, drop}
-use Rattle.ap_types.specs.Narrowing.{cut}
+use Rattle.ap_world.specs.Narrowing.{cut}
 use Rattle.ap_types.proofs.facts.cut.Given as goal
 
 -- what is left of the facts cuts the rest

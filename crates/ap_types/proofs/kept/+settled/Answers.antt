@@ -1,5 +1,5 @@
 use Rattle.std.proofs.Common.{◌≡◌, ◌-◌, sym}
-use Rattle.ap_types.specs.Kept.{body_types, settled}
+use Rattle.ap_world.specs.KeptTypes.{body_types, settled}
 use Rattle.ap_types.proofs.KeptHolds.{settled_next}
 use Rattle.ap_types.proofs.kept.+settled.Goals as goal
 

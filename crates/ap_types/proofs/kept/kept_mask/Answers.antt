@@ -1,5 +1,5 @@
 use Rattle.std.proofs.Common.{◌≡◌}
-use Rattle.ap_types.specs.Kept.{kept_types}
+use Rattle.ap_world.specs.KeptTypes.{kept_types}
 use Rattle.ap_types.proofs.KeptHolds.{plain_kept}
 use Rattle.ap_types.proofs.kept.kept_mask.Goals as goal
 

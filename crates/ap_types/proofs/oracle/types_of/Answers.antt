@@ -1,5 +1,5 @@
 use Rattle.std.proofs.Common.{◌≡◌, rules}
-use Rattle.ap_types.specs.Typing.{types}
+use Rattle.ap_world.specs.Typing.{types}
 use Rattle.ap_types.proofs.KeptHolds.{types_mask}
 use Rattle.ap_types.proofs.oracle.types_of.Goals as goal
 

@@ -1,6 +1,6 @@
 use Rattle.std.proofs.Common.{◌≡◌, drop}
-use Rattle.ap_types.specs.Kinds.{union_from}
-use Rattle.ap_types.specs.Rows.{row_one}
+use Rattle.ap_world.specs.Kinds.{union_from}
+use Rattle.ap_world.specs.Rows.{row_one}
 use Rattle.ap_types.proofs.rows.one_from.Given as goal
 
 -- what is left of the types adds what is missing

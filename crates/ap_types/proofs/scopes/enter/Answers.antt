@@ -1,5 +1,5 @@
 use Rattle.std.proofs.Common.{◌≡◌, [], rules}
-use Rattle.ap_kernel.specs.Assume.{assume}
+use Rattle.ap_world.specs.Assume.{assume}
 use Rattle.ap_types.proofs.Scoped.{entered}
 use Rattle.ap_types.proofs.scopes.enter.Goals as goal
 

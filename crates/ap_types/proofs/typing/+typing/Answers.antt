@@ -1,8 +1,9 @@
 use Rattle.std.proofs.Common.{◌≡◌, None, map, sym, rules, arith, ◌∙◌}
 use Rattle.ap_term.specs.declared.term.Term.{Var, Quote}
 use Rattle.ap_world.specs.Primitives.{prim_of}
+use Rattle.ap_world.specs.Typing.{types_by, if_parts, call_types}
 use Rattle.ap_types.specs.Scopes.{in_scope}
-use Rattle.ap_types.specs.Typing.{types_in, types_by, if_parts, call_types}
+use Rattle.ap_types.specs.Settings.{types_in}
 use Rattle.ap_types.proofs.Formed.{item_size, types_var, types_quote, call_cut, head_other}
 use Rattle.ap_types.proofs.typing.+typing.Goals as goal
 
@@ -34,4 +35,4 @@ head_types-returns-in_ok-masks-in-None-clause-is t c =
 pub masks_of-types_at-requires : goal.masks_of-types_at-requires
 masks_of-types_at-requires t c =
     let le = item_size c.args.ts.now c.loop-t.t-index c.t-item.result c.loop-t-test.true c.t-item.is in
-    (omega arith, c.requires.rules)
+    omega arith

@@ -2,7 +2,8 @@ use Rattle.std.proofs.Common.{◌≡◌, ◌+◌, ◌*◌, take, map}
 use Rattle.ap_list.specs.Lists.{sum_of}
 use Rattle.ap_term.specs.Terms.{term_size}
 use Rattle.ap_types.specs.Scopes.{in_scope}
-use Rattle.ap_types.specs.Typing.{types_in, types_by}
+use Rattle.ap_types.specs.Settings.{types_in}
+use Rattle.ap_world.specs.Typing.{types_by}
 use Rattle.ap_types.proofs.typing.+typing.Given as goal
 
 -- a term's size falls; among the functions of one term the numbers behind it do

@@ -1,6 +1,0 @@
-use Rattle.std.proofs.Common.{◌≡◌, ◌++◌, drop}
-use Rattle.ap_clausify.proofs.itself.push_facts.Given as goal
-
--- what is out, and the facts that are left
-abbrev pub invariant-loop-t : goal.invariant-loop-t
-invariant-loop-t l = l.out ++ drop l.t-index l.facts ≡ l.initial.out ++ l.facts

@@ -1,0 +1,76 @@
+-- How many inductions may stand within each other below a goal: each adds a number to the name, and no
+-- induction is made under more than nine.
+use Rattle.std.proofs.Common.{◌≡◌, ◌≤◌, ◌<◌, ◌+◌, ◌-◌, nat_lt, ℕ, Bool, true, false, cond, List, [], ◌∷◌, ◌++◌, length, map, Option, Some, None, refl, arith, ap}
+use Rattle.std.proofs.lemmas.Bool.{ltb-false, ltb-true}
+use Rattle.ap_list.specs.Lists.{Each}
+use Rattle.ap_term.specs.declared.term.Clause.{Clause}
+use Rattle.ap_names.specs.Names.{Name, below, child_of, primed_of}
+use Rattle.ap_walk.specs.declared.act.Process.{Process}
+use Rattle.ap_walk.specs.declared.act.Out.{Out}
+use Rattle.ap_walk.specs.declared.act.Stepped.{Stepped}
+use Rattle.ap_walk.specs.Visits.{out_children}
+use Rattle.ap_strategy.specs.Goals.{Goal, inducted}
+use Rattle.ap_strategy.specs.Steps.{named, counted_down, child, children, clause_step, induct_step, step_of}
+use Rattle.ap_strategy.specs.Laws.{of_step}
+
+-- by whether the goal is an induction, and the count of its name's numbers: an induction under more than
+-- nine stops
+abbrev pub rank_at : Bool → ℕ → ℕ
+rank_at induct n = cond (nat_lt 9 n) (cond induct 0 1) (11 - n)
+
+abbrev pub rank_of : Goal → ℕ
+rank_of g = rank_at g.induct (length g.name.induction)
+
+-- a goal below has the same numbers
+below_same : (is : List ℕ) (case : Option ℕ) (path : List ℕ) (k : ℕ) → (below is case path k).induction ≡ is
+below_same [] case path k = refl
+below_same (i ∷ is) None path k = refl
+below_same (i ∷ is) (Some c) path k = refl
+
+counted_same : (name : Name) (ds : List Clause) → Each (λ p. p.0.induction ≡ name.induction) (counted_down name ds)
+counted_same name [] = tt
+counted_same name (d ∷ ds) = (below_same name.induction name.case name.path (length ds + 1), counted_same name ds)
+
+named_same : (name : Name) (ds : List Clause) → Each (λ p. p.0.induction ≡ name.induction) (named name ds)
+named_same name [] = tt
+named_same name (d ∷ []) = (refl, tt)
+named_same name (d ∷ e ∷ ds) = counted_same name (d ∷ e ∷ ds)
+
+same_low : (m n : ℕ) → m ≡ n → m ≤ n
+same_low m n same = omega arith
+
+children_low : (g : Goal) (ps : List (Name × Clause)) → Each (λ p. p.0.induction ≡ g.name.induction) ps → Each (λ c. rank_of c ≤ rank_of g) (map (child g) ps)
+children_low g [] same = tt
+children_low g (p ∷ ps) same = (same_low _ _ (ap (λ is. rank_at g.induct (length is)) same.0), children_low g ps same.1)
+
+-- no child has a greater rank
+pub ranked : (g : Goal) → Each (λ c. rank_of c ≤ rank_of g) (out_children (step_of g).out)
+ranked g = of_step (λ g s. Each (λ c. rank_of c ≤ rank_of g) (out_children s.out)) g (λ missed r. tt) (λ limited. tt)
+    (λ ds above q. children_low g (named g.name ds) (named_same g.name ds))
+
+-- one number more
+length_more : (is : List ℕ) (k : ℕ) → length (is ++ k ∷ []) ≡ length is + 1
+length_more [] k = refl
+length_more (i ∷ is) k = let more = length_more is k in omega arith
+
+rank_falls : (n : ℕ) → rank_at true (n + 1) < rank_at false n
+rank_falls n = go (nat_lt 9 (n + 1)) (nat_lt 9 n) refl refl
+  where
+    go : (a b : Bool) → nat_lt 9 (n + 1) ≡ a → nat_lt 9 n ≡ b → cond a 0 (11 - (n + 1)) < cond b 1 (11 - n)
+    go true true p q = omega arith
+    go true false p q = let low = ltb-false 9 n q in omega arith
+    go false true p q = let low = ltb-false 9 (n + 1) p in let high = ltb-true 9 n q in absurd (omega arith)
+    go false false p q = let low = ltb-false 9 (n + 1) p in omega arith
+
+-- the induction of a goal that is pushed has less rank
+pub falling : (g : Goal) (k : ℕ) → 1 ≤ k → (step_of g).out ≡ Out.Push → rank_of (inducted g k) < rank_of g
+unfolding step_of
+falling g k some = go g.induct
+  where
+    go : (b : Bool) → (cond b (induct_step g) (clause_step g g.clause.0)).out ≡ Out.Push → rank_at true (length (g.name.induction ++ k ∷ [])) < rank_at b (length g.name.induction)
+    go true h = absurd (cc)
+    go false h = let more = length_more g.name.induction k in let falls = rank_falls (length g.name.induction) in go_on more falls
+      where
+        go_on : length (g.name.induction ++ k ∷ []) ≡ length g.name.induction + 1 → rank_at true (length g.name.induction + 1) < rank_at false (length g.name.induction)
+            → rank_at true (length (g.name.induction ++ k ∷ [])) < rank_at false (length g.name.induction)
+        go_on more falls = rw more falls

@@ -1,0 +1,11 @@
+pub mod Closing
+pub mod Keeping
+pub mod Rising
+pub mod Growing
+pub mod Replay
+pub mod Ending
+pub mod Known
+pub mod After
+pub mod Ordering
+pub mod Joining
+pub mod Scanning

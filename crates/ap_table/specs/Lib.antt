@@ -1,0 +1,5 @@
+pub mod Core
+pub mod Sound
+pub mod Laws
+pub mod Order
+pub mod Pieces

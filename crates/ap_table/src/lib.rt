@@ -1,0 +1,17 @@
+//! The goal table's core: why many workers prove and print what one does. A state is a list of nodes, each a
+//! task, the families above it and how far it is, and one word for each family of siblings, a place by which
+//! the family is known to stop. Six steps change it: any actor claims a node, expands it into its children,
+//! puts its finished walk, drops it, marks a word or looks at one. The laws speak of every list of allowed
+//! steps, in any order: what is finished is what the serial walk gives, and what is dropped lies behind a
+//! sibling at which that walk stops. It is the speculation over sibling subgoals of Rager, Hunt and Kaufmann
+//! (ITP 2013). There is no code here yet.
+#![tactic(auto)]
+
+mod laws;
+mod link;
+
+pub use laws::{
+    closing_is_by_the_known_stop, core_is_sound, known_stops_are_true, live_nodes_stay_in_order,
+    pieces_make_the_walk, stopped_walks_end,
+};
+pub use link::{License, Link};

@@ -1,0 +1,3 @@
+pub mod Stops
+pub mod Words
+pub mod Seats
