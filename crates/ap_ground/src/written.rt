@@ -3,9 +3,9 @@ ghost use Rattle.std.specs.Prelude.{◌≡◌, [], ◌∷◌, IfOk, OnOk, map, r
 ghost use Rattle.ap_value.specs.Values.{acl2};
 ghost use Rattle.ap_ground.specs.Written.{first_of, after_first, with_word, terms_of, term_of};
 
-use ap_list::{Bytes, NoMemory, Seq};
+use ap_list::{NoMemory, Seq};
 use ap_term::Term;
-use ap_value::{Symbol, Value};
+use ap_value::{Symbol, Value, acl2};
 use std::alloc::Global;
 
 /// A word of a written term: Lisp without its parentheses, each head with the number of its arguments.
@@ -23,11 +23,7 @@ pub(crate) enum Word {
 pub(crate) fn symbol(alloc: Global, name: &[u8]) -> Result<Symbol, NoMemory>
     ensures { IfOk result (λ s. s ≡ acl2 name.now) }
 {
-    let name = Bytes::from_slice(alloc, name)?;
-    Ok(Symbol {
-        keyword: false,
-        name,
-    })
+    acl2(alloc, name)
 }
 
 /// The symbols of these names.
@@ -63,18 +59,18 @@ fn made(alloc: Global, stack: &mut Seq<Term>, word: &Word) -> Result<Term, NoMem
         Word::Sym(name) => Ok(Term::Quote(Value::Sym(symbol(alloc, name)?))),
         Word::One(head) => {
             arguments.push(take(stack))?;
-            Ok(Term::Call(symbol(alloc, head)?, arguments))
+            Term::call(alloc, symbol(alloc, head)?, arguments)
         }
         Word::Two(head) => {
             arguments.push(take(stack))?;
             arguments.push(take(stack))?;
-            Ok(Term::Call(symbol(alloc, head)?, arguments))
+            Term::call(alloc, symbol(alloc, head)?, arguments)
         }
         Word::Three(head) => {
             arguments.push(take(stack))?;
             arguments.push(take(stack))?;
             arguments.push(take(stack))?;
-            Ok(Term::Call(symbol(alloc, head)?, arguments))
+            Term::call(alloc, symbol(alloc, head)?, arguments)
         }
     }
 }
