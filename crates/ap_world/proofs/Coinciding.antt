@@ -86,7 +86,7 @@ formal_first (f ∷ fs) (v ∷ vs) e x l h = choose (symbol_eq x f) (λ k. forma
     choose true k q = refl
     choose false k q = k q
 
-each_within : (xs ys : List Symbol) → is_within symbol_eq xs ys ≡ true → Each (λ x. is_among symbol_eq x ys ≡ true) xs
+pub each_within : (xs ys : List Symbol) → is_within symbol_eq xs ys ≡ true → Each (λ x. is_among symbol_eq x ys ≡ true) xs
 each_within [] ys h = tt
 each_within (x ∷ xs) ys h = let p = both (is_among symbol_eq x ys) (is_within symbol_eq xs ys) h in (p.0, each_within xs ys p.1)
 

@@ -3,6 +3,7 @@ pub mod Assumed
 pub mod Agreeing
 pub mod Alike
 pub mod Coinciding
+pub mod Conjectures
 pub mod Equations
 pub mod Extending
 pub mod Fuel

@@ -189,32 +189,32 @@ apply_is D A m f g vs e l = go (m f g vs e l)
     go (suc n, h) = value_is D A m g.body (zip g.formals vs) (A f vs) (n, sym (opened (calls n D)) ∙ h)
 
 -- a list of one, two, three elements
-one_of : (P : List V → Type 0) → ((x : V) → P (x ∷ [])) → (ws : List V) → 1 ≡ length ws → P ws
+pub one_of : (P : List V → Type 0) → ((x : V) → P (x ∷ [])) → (ws : List V) → 1 ≡ length ws → P ws
 one_of P k [] h = absurd (omega arith)
 one_of P k (x ∷ []) h = k x
 one_of P k (x ∷ y ∷ ws) h = absurd (omega arith)
 
-two_of : (P : List V → Type 0) → ((x y : V) → P (x ∷ y ∷ [])) → (ws : List V) → 2 ≡ length ws → P ws
+pub two_of : (P : List V → Type 0) → ((x y : V) → P (x ∷ y ∷ [])) → (ws : List V) → 2 ≡ length ws → P ws
 two_of P k [] h = absurd (omega arith)
 two_of P k (x ∷ []) h = absurd (omega arith)
 two_of P k (x ∷ y ∷ []) h = k x y
 two_of P k (x ∷ y ∷ z ∷ ws) h = absurd (omega arith)
 
-three_of : (P : List V → Type 0) → ((x y z : V) → P (x ∷ y ∷ z ∷ [])) → (ws : List V) → 3 ≡ length ws → P ws
+pub three_of : (P : List V → Type 0) → ((x y z : V) → P (x ∷ y ∷ z ∷ [])) → (ws : List V) → 3 ≡ length ws → P ws
 three_of P k [] h = absurd (omega arith)
 three_of P k (x ∷ []) h = absurd (omega arith)
 three_of P k (x ∷ y ∷ []) h = absurd (omega arith)
 three_of P k (x ∷ y ∷ z ∷ []) h = k x y z
 three_of P k (x ∷ y ∷ z ∷ w ∷ ws) h = absurd (omega arith)
 
-abbrev Fits : Prim → List V → Type 0
+abbrev pub Fits : Prim → List V → Type 0
 Fits p ws = prim_call p (map Some ws) ≡ Some (prim_val p ws)
 
-choose_some : (t : Bool) (y z : V) → cond t (Some z) (Some y) ≡ Some (cond t z y)
+pub choose_some : (t : Bool) (y z : V) → cond t (Some z) (Some y) ≡ Some (cond t z y)
 choose_some true y z = refl
 choose_some false y z = refl
 
-prim_counted : (p : Prim) (ws : List V) → prim_arity p ≡ length ws → Fits p ws
+pub prim_counted : (p : Prim) (ws : List V) → prim_arity p ≡ length ws → Fits p ws
 prim_counted If ws h = three_of (Fits If) (λ x y z. choose_some (value_eq x nil) y z) ws h
 prim_counted Equal ws h = two_of (Fits Equal) (λ x y. refl) ws h
 prim_counted Consp ws h = one_of (Fits Consp) (λ x. refl) ws h
@@ -234,7 +234,7 @@ prim_counted CodeChar ws h = one_of (Fits CodeChar) (λ x. refl) ws h
 prim_counted SymbolName ws h = one_of (Fits SymbolName) (λ x. refl) ws h
 prim_counted Coerce ws h = two_of (Fits Coerce) (λ x y. refl) ws h
 
-all_some_values : (ws : List V) → all_some (map Some ws) ≡ Some ws
+pub all_some_values : (ws : List V) → all_some (map Some ws) ≡ Some ws
 all_some_values [] = refl
 all_some_values (w ∷ ws) = ap (with_first w) (all_some_values ws)
 

@@ -33,11 +33,11 @@ calls_var F x = para_var (calls_step F) x
 pub calls_quote : (F : Symbol) (q : Value) → calls_in F (Quote q) ≡ []
 calls_quote F q = para_quote (calls_step F) q
 
-first_parts : {A : Type 0} (m : Term → A) (ts : List Term) → map (λ (p : Term × A). p.0) (map (λ u. (u, m u)) ts) ≡ ts
+pub first_parts : {A : Type 0} (m : Term → A) (ts : List Term) → map (λ (p : Term × A). p.0) (map (λ u. (u, m u)) ts) ≡ ts
 first_parts m [] = refl
 first_parts m (u ∷ us) = ap (λ ts. u ∷ ts) (first_parts m us)
 
-second_parts : {A : Type 0} (m : Term → A) (ts : List Term) → map (λ (p : Term × A). p.1) (map (λ u. (u, m u)) ts) ≡ map m ts
+pub second_parts : {A : Type 0} (m : Term → A) (ts : List Term) → map (λ (p : Term × A). p.1) (map (λ u. (u, m u)) ts) ≡ map m ts
 second_parts m [] = refl
 second_parts m (u ∷ us) = ap (λ ts. m u ∷ ts) (second_parts m us)
 

@@ -1,5 +1,5 @@
 -- The laws of meaning and soundness, as the public functions of the module of laws state them.
-use Rattle.std.specs.Prelude.{◌≡◌, ℕ, ◌+◌, length, Bool, true, ◌&&◌, ◌||◌, ◌↔◌, List, [], ◌∷◌, ◌++◌, map, Option, Some, None, is_some}
+use Rattle.std.specs.Prelude.{◌≡◌, ℕ, ◌+◌, length, zip, cond, Bool, true, ◌&&◌, ◌||◌, ◌↔◌, List, [], ◌∷◌, ◌++◌, map, Option, Some, None, is_some}
 use Rattle.ap_list.specs.Lists.{all_true}
 use Rattle.ap_value.specs.declared.symbol.Symbol.{Symbol}
 use Rattle.ap_value.specs.Values.{V}
@@ -8,7 +8,12 @@ use Rattle.ap_term.specs.declared.term.Term.TheOpen.{Term-F}
 use Rattle.ap_world.specs.declared.entry.Function.{Function}
 use Rattle.ap_world.specs.declared.entry.Entry.{Entry}
 use Rattle.ap_world.specs.declared.entry.Entry.TheVariants as entry
-use Rattle.ap_world.specs.Names.{equal_name}
+use Rattle.ap_term.specs.Terms.{subst_of}
+use Rattle.ap_world.specs.declared.entry.Case.{Case}
+use Rattle.ap_world.specs.Names.{equal_name, implies_name}
+use Rattle.ap_world.specs.Clauses.{not_of, negate, is_nil, conjuncts, flat}
+use Rattle.ap_world.specs.Recursion.{has_no_call, one_case, with_test, cases_of, nil_constant, less, decrease}
+use Rattle.ap_world.specs.Ground.{if_term, two}
 use Rattle.ap_world.specs.Primitives.{prim_of}
 use Rattle.ap_world.specs.Meaning.{Env, Defs, ev, HasValue, CallValue, Total, Valid}
 use Rattle.ap_world.specs.Sound.{known, not_function, Sound}
@@ -96,3 +101,30 @@ EqualSidesAreValid = (D : Defs) → Total D → (u : Term) → known D u ≡ tru
 -- the world of `not` alone is sound
 abbrev pub StartingWorldIsSound : Type 0
 StartingWorldIsSound = Sound (entry.Function not_function ∷ [])
+
+-- the conjuncts of (if a b c): those of a and of b where c is nil, and else the term alone
+abbrev pub ConjunctsOfIf : Type 0
+ConjunctsOfIf = (a b c : Term) → conjuncts (if_term a b c) ≡ cond (is_nil c) (conjuncts a ++ conjuncts b) (if_term a b c ∷ [])
+
+-- the clause of (implies h c): the negations of h's conjuncts, then the clause of c
+abbrev pub FlatOfImplies : Type 0
+FlatOfImplies = (h c : Term) → flat (two implies_name h c) ≡ map negate (conjuncts h) ++ flat c
+
+-- the cases of (if a b c): where b or c has a call of F, those of b with the test a and those of c with (not a), and
+-- else one case with the distinct calls
+abbrev pub CasesOfIf : Type 0
+CasesOfIf = (F : Symbol) (a b c : Term) → cases_of F (if_term a b c)
+    ≡ cond (has_no_call F b && has_no_call F c) (one_case F (if_term a b c)) (map (with_test a) (cases_of F b) ++ map (with_test (not_of a)) (cases_of F c))
+
+-- the conjunction of a test and others, and a conjecture under tests
+abbrev pub conjunction : Term → List Term → Term
+conjunction a [] = a
+conjunction a (b ∷ ts) = if_term a (conjunction b ts) nil_constant
+
+abbrev pub under : List Term → Term → Term
+under [] u = u
+under (a ∷ ts) u = two implies_name (conjunction a ts) u
+
+-- an obligation is the clause of this: the tests imply that the measure is less
+abbrev pub DecreaseIsFlat : Type 0
+DecreaseIsFlat = (formals : List Symbol) (m : List Term) (k : Case) (c : List Term) → decrease formals m k c ≡ flat (under k.tests (less (map (subst_of (zip formals c)) m) m))

@@ -11,6 +11,7 @@ use Rattle.ap_term.specs.Equal.{term_eq}
 use Rattle.ap_term.specs.Terms.{vars_after, subst_of}
 use Rattle.ap_world.specs.declared.entry.Case.{Case}
 use Rattle.ap_world.specs.declared.entry.Measure.{Measure}
+use Rattle.ap_world.specs.declared.entry.Defun.{Defun}
 use Rattle.ap_world.specs.Names.{nil_name, t_name, if_name, equal_name, less_name, natp_name, acl2_count_name}
 use Rattle.ap_world.specs.Clauses.{not_of, negate, conjuncts, if_parts}
 
@@ -133,10 +134,14 @@ chosen_measure formals ks = first_suiting formals formals ks
 abbrev pub given_measure : List Term → Option (List Term)
 given_measure m = cond (nat_le 1 (length m) && nat_le (length m) 4) (Some m) None
 
--- the measure of a recursive function: the given one, else the chosen one
-abbrev pub measure_of : Option Measure → List Symbol → List Case → Option (List Term)
-measure_of (Some m) formals ks = given_measure m.0
-measure_of None formals ks = chosen_measure formals ks
+-- the given one, else the chosen one
+abbrev pub measure_by : Option Measure → List Symbol → List Case → Option (List Term)
+measure_by (Some m) formals ks = given_measure m.0
+measure_by None formals ks = chosen_measure formals ks
+
+-- the measure of a recursive function: none where its recursion is nested
+abbrev pub measure_of : Defun → Option (List Term)
+measure_of d = cond (is_unnested d.name d.body) (measure_by d.measure d.formals d.cases) None
 
 -- the first list is less than the second, component by component
 abbrev pub less : List Term → List Term → Term

@@ -35,6 +35,17 @@ pub struct Function {
     pub mask: Mask,
 }
 
+/// A definition as an event gives it: the name, the formals and the body of a function, the measure that is
+/// given, if one is, and the cases of the body. See the manual's topics `defun` and `xargs`.
+#[derive(Debug, Drop)]
+pub struct Defun {
+    pub name: Symbol,
+    pub formals: Seq<Symbol>,
+    pub body: Term,
+    pub measure: Option<Measure>,
+    pub cases: Seq<Case>,
+}
+
 /// How a theorem is used as a rule. See the manual's topic `rule-classes`.
 #[derive(Clone, Copy, Debug)]
 pub enum RuleClass {

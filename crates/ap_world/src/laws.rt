@@ -1,5 +1,5 @@
 //! The laws of meaning and soundness, each the contract of a function that does nothing.
-ghost use Rattle.ap_world.specs.Laws.{MoreFuelKeeps, ValuesAreUnique, CallsAreUnique, KnownTermsHaveValues, EntriesKeepValues, EntriesKeepValidity, EntriesAddNoValidity, WorldsThatAgree, AlikeKeepsValues, AlikeKeepsCalls, AlikeKeepsKnown, AlikeKeepsValidity, AlikeAddsNoValidity, AlikeAddsNoValues, EqualSidesAreValid, StartingWorldIsSound};
+ghost use Rattle.ap_world.specs.Laws.{MoreFuelKeeps, ValuesAreUnique, CallsAreUnique, KnownTermsHaveValues, EntriesKeepValues, EntriesKeepValidity, EntriesAddNoValidity, WorldsThatAgree, AlikeKeepsValues, AlikeKeepsCalls, AlikeKeepsKnown, AlikeKeepsValidity, AlikeAddsNoValidity, AlikeAddsNoValues, EqualSidesAreValid, StartingWorldIsSound, ConjunctsOfIf, FlatOfImplies, CasesOfIf, DecreaseIsFlat};
 
 /// A value that some number of units gives, every greater number gives.
 pub fn more_fuel()
@@ -50,4 +50,16 @@ pub fn equal_sides_are_valid()
 /// The world whose one entry is `not` is sound.
 pub fn starting_world_is_sound()
     ensures { StartingWorldIsSound }
+{}
+
+/// The conjuncts of a conjunction, the clause of an implication and the cases of an `if`, as equations.
+pub fn equations_of_terms()
+    ensures conjuncts { ConjunctsOfIf }
+    ensures clauses { FlatOfImplies }
+    ensures cases { CasesOfIf }
+{}
+
+/// An obligation is the clause of the conjecture that the tests imply that the measure is less.
+pub fn decrease_is_a_clause()
+    ensures { DecreaseIsFlat }
 {}

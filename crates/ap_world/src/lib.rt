@@ -19,8 +19,8 @@ pub use ap_list::{Bytes, NoMemory, Seq};
 pub use ap_term::{Clause, Subst, Term};
 pub use ap_value::{Symbol, Value};
 pub use entry::{
-    Case, Entry, EntryRef, Function, Mask, Measure, RuleClass, Theorem, copy_cases, copy_entry,
-    copy_function, copy_measure, copy_theorem,
+    Case, Defun, Entry, EntryRef, Function, Mask, Measure, RuleClass, Theorem, copy_cases,
+    copy_entry, copy_function, copy_measure, copy_theorem,
 };
 pub use kinds::{Kind, Sign};
 pub use primitive::{Primitive, primitive_of};

@@ -6,7 +6,7 @@ use Rattle.ap_ground.proofs.ground.ground_world.Goals as goal
 
 pub add_functions-requires : goal.add_functions-requires
 add_functions-requires c =
-    record { sound = functions_fit c.bare-world.result.entries c.in_ok-functions.field-0 (ap (λ (w : Shown). w.entries) c.bare-world.ensures) c.in_ok-functions.ensures }
+    record { sound = λ _. functions_fit c.bare-world.result.entries c.in_ok-functions.field-0 (ap (λ (w : Shown). w.entries) c.bare-world.ensures) c.in_ok-functions.ensures }
 
 pub unreachable-requires : goal.unreachable-requires
 unreachable-requires c =
