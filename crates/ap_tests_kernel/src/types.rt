@@ -309,7 +309,7 @@ fn one(alloc: Global, name: &[u8], t: Term) -> Result<Term, NoMemory>
 {
     let mut terms = Seq::new(alloc);
     terms.push(t)?;
-    Ok(Term::Call(acl2(alloc, name)?, terms))
+    Term::call(alloc, acl2(alloc, name)?, terms)
 }
 
 /// `(integerp (nfix x))`.

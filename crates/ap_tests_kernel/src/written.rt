@@ -1,15 +1,15 @@
 //! Terms for tests, written as text as in Lisp.
 
-use ap_list::{Boxed, Bytes, NoMemory, Seq};
+use ap_list::{Bytes, NoMemory, Seq};
 use ap_term::Term;
 use ap_value::{Value, acl2};
 use std::alloc::{AllocError, Global};
 
 /// A constant cons of two digits.
 fn pair(alloc: Global, a: u8, b: u8) -> Result<Term, NoMemory> {
-    let first = Boxed::new(alloc, Value::Int(i128::from(a) - 48))?;
-    let rest = Boxed::new(alloc, Value::Int(i128::from(b) - 48))?;
-    Ok(Term::Quote(Value::Cons(first, rest)))
+    let first = Value::Int(i128::from(a) - 48);
+    let rest = Value::Int(i128::from(b) - 48);
+    Ok(Term::Quote(Value::cons(alloc, first, rest)?))
 }
 
 /// A word: a digit is a constant, two digits beside a point a constant cons, a word behind `'` a constant
@@ -41,14 +41,14 @@ fn end_word(alloc: Global, levels: &mut Seq<Seq<Term>>, begun: &mut Bytes) -> Re
 }
 
 /// The call of the first term, a variable, on the others.
-fn call(level: Seq<Term>) -> Result<Term, NoMemory> {
+fn call(alloc: Global, level: Seq<Term>) -> Result<Term, NoMemory> {
     let mut terms = level.into_vec();
     if terms.is_empty() {
         return Err(AllocError);
     }
     let arguments = Seq::from_vec(terms.split_off(1)?);
     match terms.pop() {
-        Some(Term::Var(head)) => Ok(Term::Call(head, arguments)),
+        Some(Term::Var(head)) => Term::call(alloc, head, arguments),
         _ => Err(AllocError),
     }
 }
@@ -56,7 +56,7 @@ fn call(level: Seq<Term>) -> Result<Term, NoMemory> {
 /// Ends the last level, which is a call.
 fn close(alloc: Global, levels: &mut Seq<Seq<Term>>) -> Result<(), NoMemory> {
     let level = levels.pop().unwrap_or(Seq::new(alloc));
-    let term = call(level)?;
+    let term = call(alloc, level)?;
     put(alloc, levels, term)
 }
 

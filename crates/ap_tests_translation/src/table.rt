@@ -1,6 +1,6 @@
 //! What the tables have in common: a form a line, and behind ` => ` what is answered.
 
-use ap_list::{Bytes, NoMemory, Seq};
+use ap_list::{Bytes, NoMemory, Seq, Text};
 use ap_reader::{Form, forms};
 use ap_translate::{TransError, TransKind};
 use ap_value::Symbol;
@@ -33,7 +33,7 @@ pub(crate) fn word(alloc: Global, text: &str) -> Result<Bytes, NoMemory> {
 
 /// A symbol that is no keyword.
 pub(crate) fn symbol(alloc: Global, name: &str) -> Result<Symbol, NoMemory> {
-    let name = word(alloc, name)?;
+    let name = Text::new(alloc, word(alloc, name)?)?;
     Ok(Symbol {
         keyword: false,
         name,

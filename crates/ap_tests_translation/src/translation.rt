@@ -1,6 +1,6 @@
 use crate::table::{expect, one_form, refusal, sides, symbol, word};
 use ap_ground::ground_world;
-use ap_list::{Boxed, Bytes, NoMemory, Seq};
+use ap_list::{Bytes, NoMemory, Seq};
 use ap_print::print_term;
 use ap_reader::Form;
 use ap_term::{Term, size};
@@ -211,9 +211,7 @@ const LARGE: &str =
 
 /// `(1 . 2)`
 fn pair(alloc: Global) -> Result<Value, NoMemory> {
-    let first = Boxed::new(alloc, Value::Int(1))?;
-    let rest = Boxed::new(alloc, Value::Int(2))?;
-    Ok(Value::Cons(first, rest))
+    Value::cons(alloc, Value::Int(1), Value::Int(2))
 }
 
 /// The ground world with the constant `*k*`.

@@ -2,7 +2,7 @@
 
 use ap_eval::{Env, EvalStop, eval, is_known};
 use ap_ground::ground_world;
-use ap_list::{Boxed, Bytes, NoMemory, Seq};
+use ap_list::{Bytes, NoMemory, Seq};
 use ap_term::{Term, same_term};
 use ap_value::{Value, acl2, same};
 use ap_world::World;
@@ -261,14 +261,13 @@ fn characters(alloc: Global, codes: &[u8], end: &[u8]) -> Result<Value, NoMemory
 }
 
 fn cons(alloc: Global, first: Value, rest: Value) -> Result<Value, NoMemory> {
-    let first = Boxed::new(alloc, first)?;
-    Ok(Value::Cons(first, Boxed::new(alloc, rest)?))
+    Value::cons(alloc, first, rest)
 }
 
 /// A string of so many letters.
 fn long_text(alloc: Global, count: usize) -> Result<Value, NoMemory> {
     let codes = vec![in alloc; 97u8; count]?;
-    Ok(Value::Str(Bytes::from_vec(codes)))
+    Value::string(alloc, Bytes::from_vec(codes))
 }
 
 /// The value that is written so, if it is one.
@@ -276,7 +275,7 @@ fn value(alloc: Global, datum: &Datum) -> Result<Option<Value>, NoMemory> {
     let value = match datum {
         Datum::Int(n) => Value::Int(*n),
         Datum::Chr(code) => Value::Chr(*code),
-        Datum::Str(codes) => Value::Str(Bytes::from_slice(alloc, *codes)?),
+        Datum::Str(codes) => Value::string(alloc, Bytes::from_slice(alloc, *codes)?)?,
         Datum::Sym(name) => Value::Sym(acl2(alloc, *name)?),
         Datum::Pair(m, n) => cons(alloc, Value::Int(*m), Value::Int(*n))?,
         Datum::Chars(codes, end) => characters(alloc, *codes, *end)?,
@@ -291,7 +290,7 @@ fn wide_sum(alloc: Global) -> Result<Term, NoMemory> {
     let mut terms = Seq::new(alloc);
     terms.push(Term::Quote(Value::Int(1)))?;
     terms.push(Term::Quote(Value::Int(M)))?;
-    Ok(Term::Call(acl2(alloc, b"BINARY-+")?, terms))
+    Term::call(alloc, acl2(alloc, b"BINARY-+")?, terms)
 }
 
 /// The argument that is written so, if it is one of those that are no value.
@@ -316,7 +315,7 @@ fn call(alloc: Global, head: &str, data: &[Datum]) -> Result<Term, NoMemory> {
     for datum in data {
         terms.push(argument(alloc, datum)?)?;
     }
-    Ok(Term::Call(acl2(alloc, head.as_bytes())?, terms))
+    Term::call(alloc, acl2(alloc, head.as_bytes())?, terms)
 }
 
 /// Whether a value is the one that is written so.
@@ -439,7 +438,7 @@ fn nested(alloc: Global, calls: u32) -> Result<Term, NoMemory> {
 fn minus(alloc: Global, term: Term) -> Result<Term, NoMemory> {
     let mut terms = Seq::new(alloc);
     terms.push(term)?;
-    Ok(Term::Call(acl2(alloc, b"UNARY--")?, terms))
+    Term::call(alloc, acl2(alloc, b"UNARY--")?, terms)
 }
 
 /// Whether two thousand nested calls are answered so.

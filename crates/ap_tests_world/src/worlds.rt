@@ -126,7 +126,7 @@ fn same_sides(alloc: Global) -> Result<Term, NoMemory>
     let mut parts = Seq::new(alloc);
     parts.push(Term::Quote(Value::Int(7)))?;
     parts.push(Term::Quote(Value::Int(7)))?;
-    Ok(Term::Call(acl2(alloc, b"EQUAL")?, parts))
+    Term::call(alloc, acl2(alloc, b"EQUAL")?, parts)
 }
 
 /// Whether a term is `(equal 7 7)`.
@@ -327,7 +327,7 @@ fn not_body(alloc: Global) -> Result<Term, NoMemory>
     parts.push(Term::Var(acl2(alloc, b"P")?))?;
     parts.push(Term::Quote(Value::Sym(acl2(alloc, b"NIL")?)))?;
     parts.push(Term::Quote(Value::Sym(acl2(alloc, b"T")?)))?;
-    Ok(Term::Call(acl2(alloc, b"IF")?, parts))
+    Term::call(alloc, acl2(alloc, b"IF")?, parts)
 }
 
 /// The definition of `not`, of the formal `p`.
