@@ -19,6 +19,6 @@ returns-in-Cons c = sym (ap (λ v. value_eq (val_of v) (symbol_value (acl2 c.arg
 
 pub returns-in-Sym : goal.returns-in-Sym
 returns-in-Sym c =
-    let small : AreSmall c.in-Sym.s.name = subst AreSmall (c.as_slice.ensures ∙ c.deref.ensures) c.are_bytes.ensures in
+    let small : AreSmall c.in-Sym.s.name = subst AreSmall c.as_slice.ensures c.are_bytes.ensures in
     c.is_named.ensures ∙ sym (ap (λ v. value_eq (val_of v) (symbol_value (acl2 c.args.name.now))) c.in-Sym.is
     ∙ symbol_is c.in-Sym.s c.args.name.now small c.are_bytes-in-Sym.ensures)
