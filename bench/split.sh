@@ -23,9 +23,9 @@ cat >"$copy/crates/split_time/src/main.rt" <<'END'
 
 use ap_clausify::{Clause, NoMemory, Seq, Steps, Term, split};
 use ap_ground::ground_world;
-use ap_list::Bytes;
+use ap_list::{Bytes, Text};
 use ap_term::copy_term;
-use ap_value::Symbol;
+use ap_value::{Symbol, acl2};
 use std::alloc::Global;
 use std::env;
 use std::time::Instant;
@@ -38,6 +38,7 @@ fn variable(alloc: Global, kind: u8, number: usize) -> Result<Term, NoMemory> {
         name.push(b'A' + (rest % 26) as u8)?;
         rest /= 26;
     }
+    let name = Text::new(alloc, name)?;
     Ok(Term::Var(Symbol { keyword: false, name }))
 }
 
@@ -46,8 +47,7 @@ fn choice(alloc: Global, test: Term, yes: Term, no: Term) -> Result<Term, NoMemo
     parts.push(test)?;
     parts.push(yes)?;
     parts.push(no)?;
-    let name = Bytes::from_slice(alloc, b"IF")?;
-    Ok(Term::Call(Symbol { keyword: false, name }, parts))
+    Term::call(alloc, acl2(alloc, b"IF")?, parts)
 }
 
 fn chain(alloc: Global, count: usize) -> Result<Term, NoMemory> {

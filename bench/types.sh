@@ -20,42 +20,34 @@ use ap_ground::ground_world;
 use ap_list::{NoMemory, Seq};
 use ap_term::{Term, size};
 use ap_types::{Ctx, World, types_of};
-use ap_value::{Bytes, Symbol, Value};
+use ap_value::{Value, acl2};
 use std::alloc::{AllocError, Global};
 use std::process::ExitCode;
 use std::time::Instant;
 
-fn symbol(alloc: Global, name: &[u8]) -> Result<Symbol, NoMemory> {
-    let name = Bytes::from_slice(alloc, name)?;
-    Ok(Symbol {
-        keyword: false,
-        name,
-    })
-}
-
 /// `(BINARY-+ '1 (BINARY-+ '1 .. X))`, of about so many nodes.
 fn sums(alloc: Global, nodes: usize) -> Result<Term, NoMemory> {
-    let mut t = Term::Var(symbol(alloc, b"X")?);
+    let mut t = Term::Var(acl2(alloc, b"X")?);
     for _ in 0..nodes / 2 {
         let mut parts = Seq::new(alloc);
         parts.push(Term::Quote(Value::Int(1)))?;
         parts.push(t)?;
-        t = Term::Call(symbol(alloc, b"BINARY-+")?, parts);
+        t = Term::call(alloc, acl2(alloc, b"BINARY-+")?, parts)?;
     }
     Ok(t)
 }
 
 /// `(IF (CONSP X) '1 (IF (CONSP X) '1 .. X))` of about so many nodes.
 fn choices(alloc: Global, nodes: usize) -> Result<Term, NoMemory> {
-    let mut t = Term::Var(symbol(alloc, b"X")?);
+    let mut t = Term::Var(acl2(alloc, b"X")?);
     for _ in 0..nodes / 4 {
         let mut test = Seq::new(alloc);
-        test.push(Term::Var(symbol(alloc, b"X")?))?;
+        test.push(Term::Var(acl2(alloc, b"X")?))?;
         let mut parts = Seq::new(alloc);
-        parts.push(Term::Call(symbol(alloc, b"CONSP")?, test))?;
+        parts.push(Term::call(alloc, acl2(alloc, b"CONSP")?, test)?)?;
         parts.push(Term::Quote(Value::Int(1)))?;
         parts.push(t)?;
-        t = Term::Call(symbol(alloc, b"IF")?, parts);
+        t = Term::call(alloc, acl2(alloc, b"IF")?, parts)?;
     }
     Ok(t)
 }

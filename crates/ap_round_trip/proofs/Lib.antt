@@ -10,3 +10,5 @@ pub mod Symbols
 pub mod Stands
 pub mod Values
 pub mod Read
+pub mod Bars
+pub mod Numbers

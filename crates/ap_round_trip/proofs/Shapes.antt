@@ -9,11 +9,11 @@ use Rattle.ap_term.specs.Atoms.{is_empty, begins_with, begins_with_digit, after_
 use Rattle.ap_round_trip.proofs.Strings.{or_false}
 
 -- the two say the same of digits and signs
-digit_first : (t : List ℕ) → begins_with_digit t ≡ has_digit t
+pub digit_first : (t : List ℕ) → begins_with_digit t ≡ has_digit t
 digit_first [] = refl
 digit_first (c ∷ t) = refl
 
-digits_past : (t : List ℕ) → after_digits t ≡ past_digits t
+pub digits_past : (t : List ℕ) → after_digits t ≡ past_digits t
 digits_past [] = refl
 digits_past (c ∷ t) = by_test (is_digit c) (digits_past t)
   where
@@ -21,15 +21,15 @@ digits_past (c ∷ t) = by_test (is_digit c) (digits_past t)
     by_test true h = h
     by_test false h = refl
 
-sign_past : (t : List ℕ) → after_sign t ≡ past_sign t
+pub sign_past : (t : List ℕ) → after_sign t ≡ past_sign t
 sign_past [] = refl
 sign_past (c ∷ t) = refl
 
-over : (t : List ℕ) → is_empty t ≡ is_over t
+pub over : (t : List ℕ) → is_empty t ≡ is_over t
 over [] = refl
 over (c ∷ t) = refl
 
-digits_alike : (t : List ℕ) → printed.is_digits t ≡ is_digits t
+pub digits_alike : (t : List ℕ) → printed.is_digits t ≡ is_digits t
 digits_alike t =
     ap (λ b. b && is_empty (after_digits t)) (digit_first t) ∙ ap (λ x. has_digit t && is_empty x) (digits_past t) ∙ ap (λ b. has_digit t && b) (over (past_digits t))
 
@@ -39,7 +39,7 @@ or_swap true false c = refl
 or_swap false true c = refl
 or_swap false false c = refl
 
-exponent_alike : (t : List ℕ) → printed.is_exponent t ≡ is_exponent t
+pub exponent_alike : (t : List ℕ) → printed.is_exponent t ≡ is_exponent t
 exponent_alike [] = refl
 exponent_alike (c ∷ t) =
     or_swap (c == 69) (c == 101) (printed.is_digits (after_sign t))
@@ -53,7 +53,7 @@ record NoEnd (r : List ℕ) : Type 0 where
   exponent : is_exponent r ≡ false
   fraction : is_fraction r ≡ false
 
-no_digit_past : (c : ℕ) (t : List ℕ) → is_digit c ≡ false → past_digits (c ∷ t) ≡ c ∷ t
+pub no_digit_past : (c : ℕ) (t : List ℕ) → is_digit c ≡ false → past_digits (c ∷ t) ≡ c ∷ t
 no_digit_past c t e = ap (λ b. if b then past_digits t else c ∷ t) e
 
 no_fraction : (cs : List ℕ) → ends_fraction cs ≡ false → NoEnd (46 ∷ cs)
@@ -131,7 +131,7 @@ no_number (c ∷ cs) h = by_digit (is_digit c) refl h
     by_digit true e h = digit_number (c ∷ cs) e (no_end (past_digits (c ∷ cs)) (ap ends_number (sym (digits_past (c ∷ cs))) ∙ h))
     by_digit false e h = point_number c cs e h
 
-dots_alike : (t : List ℕ) → is_dots t ≡ all_dots t
+pub dots_alike : (t : List ℕ) → is_dots t ≡ all_dots t
 dots_alike [] = refl
 dots_alike (c ∷ t) = ap (λ b. c == 46 && b) (dots_alike t)
 
