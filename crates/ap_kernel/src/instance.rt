@@ -65,9 +65,16 @@ pub fn pairs_of(
 ) -> Result<Seq<(Symbol, Term)>, NoMemory>
     ensures { IfOk result (λ ps. ps ≡ zip names.now terms.now) }
 {
+    let mut left = names;
+    let mut values = terms;
     let mut out = Seq::new(alloc);
-    for (x, t) in names.iter().zip(terms) {
+    while let [x, rest @ ..] = left {
+        let [t, more @ ..] = values else {
+            return Ok(out);
+        };
         out.push((copy_symbol(alloc, x)?, copy_term(alloc, t)?))?;
+        left = rest;
+        values = more;
     }
     Ok(out)
 }
