@@ -47,7 +47,7 @@ pub(crate) fn call_1(alloc: Global, name: &[u8], a: Term) -> Result<Term, NoMemo
 {
     let mut parts = Seq::new(alloc);
     parts.push(a)?;
-    Ok(Term::Call(acl2(alloc, name)?, parts))
+    Term::call(alloc, acl2(alloc, name)?, parts)
 }
 
 /// A call of two arguments.
@@ -57,7 +57,7 @@ pub(crate) fn call_2(alloc: Global, name: &[u8], a: Term, b: Term) -> Result<Ter
     let mut parts = Seq::new(alloc);
     parts.push(a)?;
     parts.push(b)?;
-    Ok(Term::Call(acl2(alloc, name)?, parts))
+    Term::call(alloc, acl2(alloc, name)?, parts)
 }
 
 /// `(if a b c)`
@@ -69,7 +69,7 @@ pub(crate) fn if_term(alloc: Global, a: Term, b: Term, c: Term) -> Result<Term, 
     parts.push(a)?;
     parts.push(b)?;
     parts.push(c)?;
-    Ok(Term::Call(acl2(alloc, b"IF")?, parts))
+    Term::call(alloc, acl2(alloc, b"IF")?, parts)
 }
 
 /// `(if a b 'NIL)`
@@ -311,7 +311,7 @@ fn from_terms(alloc: Global, maker: Maker, terms: Seq<Term>) -> Result<Term, NoM
         Maker::Macro(found) => built(alloc, found, terms),
         Maker::Literal(n) => plus_literal(alloc, n, terms),
         Maker::Path(path) => accessed_one(alloc, path.as_slice(), terms),
-        Maker::Call(head) => Ok(Term::Call(head, terms)),
+        Maker::Call(head) => Term::call(alloc, head, terms),
     }
 }
 

@@ -7,7 +7,7 @@ ghost use Rattle.ap_translate.specs.Sizes.{small_value, few_values, capped, list
 use crate::fault::{TransError, TransKind, refused_at};
 use crate::names::acl2;
 use crate::sizes::{MOST_NODES, Values, add_value, no_values, small_value};
-use ap_list::{Boxed, Bytes, NoMemory, Seq};
+use ap_list::{Bytes, NoMemory, Seq};
 use ap_reader::{Body, Form};
 use ap_value::{Value, copy_bytes, copy_symbol};
 use std::alloc::Global;
@@ -19,7 +19,7 @@ pub(crate) fn string(alloc: Global, bytes: &Bytes) -> Result<Option<Value>, NoMe
     if bytes.len() as u64 >= MOST_NODES {
         return Ok(None);
     }
-    Ok(Some(Value::Str(copy_bytes(alloc, bytes)?)))
+    Ok(Some(Value::string(alloc, copy_bytes(alloc, bytes)?)?))
 }
 
 /// The constant `nil`.
@@ -48,9 +48,7 @@ fn chained(alloc: Global, values: Seq<Value>, end: Value) -> Result<Value, NoMem
     let mut left = values;
     let mut chain = end;
     while let Some(value) = left.pop() {
-        let first = Boxed::new(alloc, value)?;
-        let rest = Boxed::new(alloc, chain)?;
-        chain = Value::Cons(first, rest);
+        chain = Value::cons(alloc, value, chain)?;
     }
     Ok(chain)
 }

@@ -125,10 +125,10 @@ fn copied(
     match term {
         Term::Var(name) => replaced(alloc, found(names, terms, name), name),
         Term::Quote(_) => copy_term(alloc, term),
-        Term::Call(head, parts) => Ok(Term::Call(
-            copy_symbol(alloc, head)?,
-            copied_all(alloc, names, terms, parts.as_slice())?,
-        )),
+        Term::Call(head, parts) => {
+            let parts = copied_all(alloc, names, terms, parts.as_slice())?;
+            Term::call(alloc, copy_symbol(alloc, head)?, parts)
+        }
     }
 }
 

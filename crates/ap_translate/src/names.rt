@@ -6,7 +6,7 @@ ghost use Rattle.ap_world.specs.Primitives.{prim_arity};
 ghost use Rattle.ap_translate.specs.Names.{is_constant, is_starred, can_be_bound, may_name, may_name_constant};
 
 use crate::macros::is_macro;
-use ap_list::{Bytes, NoMemory};
+use ap_list::NoMemory;
 use ap_value::{Symbol, same_symbol};
 use ap_world::Primitive;
 use std::alloc::Global;
@@ -15,11 +15,7 @@ use std::alloc::Global;
 pub(crate) fn acl2(alloc: Global, name: &[u8]) -> Result<Symbol, NoMemory>
     ensures { IfOk result (λ s. s ≡ acl2 name.now) }
 {
-    let name = Bytes::from_slice(alloc, name)?;
-    Ok(Symbol {
-        keyword: false,
-        name,
-    })
+    ap_value::acl2(alloc, name)
 }
 
 /// Whether a symbol is the one of package `ACL2` with this name.
