@@ -20,7 +20,5 @@ pub mod Rows
 pub mod Narrowing
 pub mod Typing
 pub mod KeptTypes
-pub mod RuneTables
-pub mod Alike
 pub mod Laws
 pub mod Units
