@@ -7,6 +7,7 @@ pub mod Conjectures
 pub mod Equations
 pub mod Extending
 pub mod Fuel
+pub mod Given
 pub mod Knowing
 pub mod Looking
 pub mod Parts

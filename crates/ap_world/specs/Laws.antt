@@ -17,7 +17,7 @@ use Rattle.ap_world.specs.Ground.{if_term, two}
 use Rattle.ap_world.specs.Primitives.{prim_of}
 use Rattle.ap_world.specs.Meaning.{Env, Defs, ev, HasValue, CallValue, Total, Valid}
 use Rattle.ap_world.specs.Sound.{known, not_function, Sound}
-use Rattle.ap_world.specs.World.{function_of}
+use Rattle.ap_world.specs.World.{function_of, are_distinct}
 use Rattle.ap_world.specs.Alike.{DefinesAlike}
 
 -- a value that some number of units gives, every greater number gives
@@ -93,6 +93,10 @@ AlikeAddsNoValidity = (D E : Defs) → Total D → DefinesAlike D E → (c : Lis
 abbrev pub AlikeAddsNoValues : Type 0
 AlikeAddsNoValues = (D E : Defs) → Total D → DefinesAlike D E → (f : Symbol) (g : Function) → D f ≡ Some g → (vs : List V) (v : V) → length g.formals ≡ length vs
     → CallValue E f vs v → CallValue D f vs v
+
+-- where the names of entries are distinct no function has a primitive's name
+abbrev pub NamesAreNoPrimitives : Type 0
+NamesAreNoPrimitives = (W : List Entry) → are_distinct W ≡ true → (f : Symbol) (g : Function) → function_of W f ≡ Some g → prim_of f ≡ None
 
 -- a known term equals itself
 abbrev pub EqualSidesAreValid : Type 0

@@ -1,5 +1,5 @@
 //! The laws of meaning and soundness, each the contract of a function that does nothing.
-ghost use Rattle.ap_world.specs.Laws.{MoreFuelKeeps, ValuesAreUnique, CallsAreUnique, KnownTermsHaveValues, EntriesKeepValues, EntriesKeepValidity, EntriesAddNoValidity, WorldsThatAgree, AlikeKeepsValues, AlikeKeepsCalls, AlikeKeepsKnown, AlikeKeepsValidity, AlikeAddsNoValidity, AlikeAddsNoValues, EqualSidesAreValid, StartingWorldIsSound, ConjunctsOfIf, FlatOfImplies, CasesOfIf, DecreaseIsFlat};
+ghost use Rattle.ap_world.specs.Laws.{MoreFuelKeeps, ValuesAreUnique, CallsAreUnique, KnownTermsHaveValues, EntriesKeepValues, EntriesKeepValidity, EntriesAddNoValidity, WorldsThatAgree, AlikeKeepsValues, AlikeKeepsCalls, AlikeKeepsKnown, AlikeKeepsValidity, AlikeAddsNoValidity, AlikeAddsNoValues, NamesAreNoPrimitives, EqualSidesAreValid, StartingWorldIsSound, ConjunctsOfIf, FlatOfImplies, CasesOfIf, DecreaseIsFlat};
 
 /// A value that some number of units gives, every greater number gives.
 pub fn more_fuel()
@@ -40,6 +40,12 @@ pub fn worlds_that_define_alike()
     ensures valid { AlikeKeepsValidity }
     ensures back { AlikeAddsNoValidity }
     ensures calls_back { AlikeAddsNoValues }
+{}
+
+/// Where the names of a world's entries are distinct, as every world keeps, no function of it has a
+/// primitive's name.
+pub fn names_are_no_primitives()
+    ensures { NamesAreNoPrimitives }
 {}
 
 /// In a total world a known term equals itself.
