@@ -2,18 +2,17 @@ use crate::expect::expect;
 use ap_print::{
     Bytes, Clause, NoMemory, Seq, Symbol, Term, Value, print_clause, print_term, print_value,
 };
-use ap_term::Boxed;
+use ap_term::Text;
 use ap_value::acl2;
 use std::alloc::Global;
 use std::test::Fail;
 
 fn cons(alloc: Global, first: Value, rest: Value) -> Result<Value, NoMemory> {
-    let first = Boxed::new(alloc, first)?;
-    Ok(Value::Cons(first, Boxed::new(alloc, rest)?))
+    Value::cons(alloc, first, rest)
 }
 
 fn call(alloc: Global, name: &[u8], arguments: Seq<Term>) -> Result<Term, NoMemory> {
-    Ok(Term::Call(acl2(alloc, name)?, arguments))
+    Term::call(alloc, acl2(alloc, name)?, arguments)
 }
 
 fn one(alloc: Global, t: Term) -> Result<Seq<Term>, NoMemory> {
@@ -35,7 +34,7 @@ fn atom(alloc: Global, variable: &[u8]) -> Result<Term, NoMemory> {
 
 /// What a symbol of this name prints as.
 fn symbol_text(alloc: Global, keyword: bool, name: &[u8]) -> Result<Bytes, NoMemory> {
-    let name = Bytes::from_slice(alloc, name)?;
+    let name = Text::new(alloc, Bytes::from_slice(alloc, name)?)?;
     print_value(alloc, &Value::Sym(Symbol { keyword, name }))
 }
 
@@ -77,7 +76,7 @@ fn value(alloc: Global, row: usize) -> Result<Value, NoMemory> {
     match row {
         0 => Ok(Value::Chr(32)),
         1 => Ok(Value::Chr(97)),
-        2 => Ok(Value::Str(Bytes::from_slice(alloc, b"a\"b\\")?)),
+        2 => Value::string(alloc, Bytes::from_slice(alloc, b"a\"b\\")?),
         _ => list(alloc),
     }
 }

@@ -1,23 +1,21 @@
 use crate::expect::expect;
 use ap_value::{
-    Boxed, Bytes, NoMemory, Symbol, Value, acl2_count, copy, copy_bytes, copy_symbol, nodes, same,
+    Bytes, NoMemory, Symbol, Text, Value, acl2_count, copy, copy_bytes, copy_symbol, nodes, same,
 };
 use std::alloc::Global;
 use std::test::Fail;
 
 fn text(alloc: Global, codes: &[u8]) -> Result<Value, NoMemory> {
-    Ok(Value::Str(Bytes::from_slice(alloc, codes)?))
+    Value::string(alloc, Bytes::from_slice(alloc, codes)?)
 }
 
 fn symbol(alloc: Global, keyword: bool, name: &[u8]) -> Result<Value, NoMemory> {
-    let name = Bytes::from_slice(alloc, name)?;
+    let name = Text::new(alloc, Bytes::from_slice(alloc, name)?)?;
     Ok(Value::Sym(Symbol { keyword, name }))
 }
 
 fn cons(alloc: Global, first: Value, rest: Value) -> Result<Value, NoMemory> {
-    let first = Boxed::new(alloc, first)?;
-    let rest = Boxed::new(alloc, rest)?;
-    Ok(Value::Cons(first, rest))
+    Value::cons(alloc, first, rest)
 }
 
 /// So many conses, each in the car of the next, or in its cdr.
@@ -138,7 +136,7 @@ fn name(alloc: Global) -> Result<Bytes, NoMemory> {
 
 /// A copied keyword of a copied name.
 fn key(alloc: Global) -> Result<Symbol, NoMemory> {
-    let name = name(alloc)?;
+    let name = Text::new(alloc, name(alloc)?)?;
     let keyword = true;
     copy_symbol(alloc, &Symbol { keyword, name })
 }
