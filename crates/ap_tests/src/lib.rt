@@ -6,6 +6,8 @@
 #[cfg(test)]
 mod attempts;
 #[cfg(test)]
+mod deep;
+#[cfg(test)]
 mod expect;
 #[cfg(test)]
 mod lists;
