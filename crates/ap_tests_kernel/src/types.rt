@@ -279,7 +279,7 @@ fn without_types(alloc: Global, mut world: World, name: &[u8]) -> Result<World, 
 {
     let mut disabled = Seq::new(alloc);
     disabled.push(Rune::TypePrescription(acl2(alloc, name)?))?;
-    world.set_theory(Theory { disabled });
+    world.set_theory(Theory::disabling(alloc, disabled)?);
     Ok(world)
 }
 

@@ -84,7 +84,7 @@ fn a_copy_answers_what_was_added(rt: HostRuntime) -> Result<(), NoMemory> {
 fn without_f(alloc: Global) -> Result<Theory, NoMemory> {
     let mut disabled = Seq::new(alloc);
     disabled.push(Rune::Rewrite(acl2(alloc, b"F")?))?;
-    Ok(Theory { disabled })
+    Theory::disabling(alloc, disabled)
 }
 
 /// Makes a copy of that theory the current one.
