@@ -1,11 +1,12 @@
 //! The kernel: every step of every proof engine goes through these calls, so that nothing else need be
 //! believed. Each is proved from what terms mean. It is the way of LCF.
 //!
-//! An [`Equiv`] says that its two sides mean the same, or are both `nil` or both not, wherever its facts
-//! hold. Its fields are private: the rows below alone make one, and each row promises that its answer
-//! stands in the world that it is handed, and exactly what the answer is. What a row asks is proved by its
-//! caller: that the objects handed in stand, that terms and facts are terms of the world, and the row's own
-//! conditions. No row refuses; want of memory alone keeps it from answering.
+//! An [`Equiv`] says a [`Sequent`]: that its two sides mean the same, or are both `nil` or both not, wherever
+//! its facts hold. Anyone can write a sequent down; the field of an [`Equiv`] is private, so that the rows
+//! below alone make one, and each row promises that its answer stands in the world that it is handed, and
+//! exactly what the answer says. What a row asks is proved by its caller: that the objects handed in stand,
+//! that terms and facts are terms of the world, and the row's own conditions. No row refuses; want of memory
+//! alone keeps it from answering.
 //!
 //! # The rows that answer an equivalence
 //!
@@ -25,14 +26,14 @@
 //! | [`fold`] | a call on constants to its value | nothing |
 //! | `by_certificate`, `both_not_less` | an inequality or an equation to `'T` or `'NIL` | not built yet |
 //!
-//! An equivalence owns its sides, so that it can be taken apart and its terms moved into the next one: so a
-//! row that is lent a term copies it. What is handed in by value is moved. Facts are shared and never
-//! copied, but where [`assume`] makes a longer list; [`cons_equal`] and [`if_shape`] copy parts of what they
-//! were lent once more, for the right side.
+//! An equivalence owns its sides, so that it can be taken apart and its terms moved into the next one. A row
+//! that is lent a term copies it, and a copy shares the arguments and the names: it costs a count for each,
+//! whatever the term's size. What is handed in by value is moved. Facts are shared and never copied, but
+//! where [`assume`] makes a longer list.
 //!
 //! # The rows that answer a reduction
 //!
-//! A [`Reduction`] says that its first clause is valid where all that it is reduced to are.
+//! A [`Reduction`] says an [`Inference`]: that its first clause is valid where all that it is reduced to are.
 //!
 //! | row | leads from a clause to | what it copies |
 //! |---|---|---|
@@ -50,10 +51,13 @@
 //!
 //! # What isn't a row
 //!
-//! [`assume`] gives the facts that a term's truth or falsehood adds to a context. [`equation_leads`] and
-//! [`is_choice`] test what [`cons_equal`] and [`if_shape`] ask of a term, [`is_choice_in`] and
-//! [`is_solvable`] what [`split_if`] and [`use_equality`] ask of a literal, and [`bare_test`] finds the
-//! term whose mask [`if_shape`] is handed. A [`TypeOracle`] says which types a term can have.
+//! [`assume`] gives the facts that a term's truth or falsehood adds to a context, [`others_false`] those under
+//! which a clause's literal is rewritten. [`equation_leads`] and [`is_choice`] test what [`cons_equal`] and
+//! [`if_shape`] ask of a term, [`can_open`] and [`is_constant_call`] what [`open_def`] and [`fold`] do,
+//! [`is_choice_in`] and [`is_solvable`] what [`split_if`] and [`use_equality`] ask of a literal, and
+//! [`bare_test`] finds the term whose mask [`if_shape`] is handed. A [`TypeOracle`] says which types a term
+//! can have. [`shape_of`] tells a term by its head, its parts lent; what terms the rows build, others build by
+//! the same calls ([`if_term`], [`not_term`], [`equal_term`], [`negated`], [`subst`]).
 #![tactic(auto)]
 
 mod assuming;
