@@ -3,3 +3,4 @@ pub mod Defining
 pub mod Ending
 pub mod Formals
 pub mod Within
+pub mod Refusing
