@@ -3,10 +3,10 @@ ghost use Rattle.ap_world.specs.Primitives.{prim_of};
 ghost use Rattle.ap_world.specs.Typing.{any_empty, one_types, two_types, other_types, table, call_types};
 ghost use Rattle.ap_types.specs.Settings.{types_in};
 
-use crate::constants::is_symbol;
 use crate::kinds::ALL;
 use crate::rows::{coerce_types, over_one, over_two, test_types, tested};
 use crate::rules::function_types;
+use ap_kernel::is_symbol;
 use ap_term::Term;
 use ap_value::Symbol;
 use ap_world::{Primitive, World};

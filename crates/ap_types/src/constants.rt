@@ -1,68 +1,20 @@
-ghost use Rattle.std.specs.Prelude.{◌≡◌, ◌<◌, ℕ, slice_index, pos};
-ghost use Rattle.ap_value.specs.Values.{int, val_of, value_eq, symbol_eq, acl2};
-ghost use Rattle.ap_term.specs.Equal.{term_eq};
-ghost use Rattle.ap_world.specs.Primitives.{symbol_value, nil, t};
+ghost use Rattle.std.specs.Prelude.{◌≡◌, pos};
+ghost use Rattle.ap_value.specs.Values.{int, val_of, value_eq};
+ghost use Rattle.ap_world.specs.Primitives.{symbol_value};
 ghost use Rattle.ap_world.specs.Names.{list_name};
 ghost use Rattle.ap_world.specs.Types.{is_true_list};
 ghost use Rattle.ap_world.specs.Kinds.{int_kind, symbol_kind, cons_kind, kind_of};
 
-use ap_term::{Term, same_term};
-use ap_value::{Symbol, Value, same};
+use ap_kernel::{is_acl2, is_nil, is_t};
+use ap_value::{Value, same};
 use ap_world::Kind;
-
-/// Whether a symbol is the one of package `ACL2` with this name.
-pub(crate) fn is_named(symbol: &Symbol, name: &[u8]) -> bool
-    ensures { result ≡ symbol_eq symbol.now (acl2 name.now) }
-{
-    !symbol.keyword && symbol.name.as_slice() == name
-}
-
-/// Each byte is below 256. Costs nothing: a caller's proof learns it so.
-fn are_bytes(bytes: &[u8])
-    ensures { (i : ℕ) → slice_index bytes.now i < 256 }
-{
-    let _ = bytes;
-}
-
-/// Whether a value is the symbol of package `ACL2` with this name.
-fn is_the_symbol(v: &Value, name: &[u8]) -> bool
-    ensures { result ≡ value_eq (val_of v.now) (symbol_value (acl2 name.now)) }
-{
-    match v {
-        Value::Int(_) => false,
-        Value::Chr(_) => false,
-        Value::Str(_) => false,
-        Value::Cons(_, _) => false,
-        Value::Sym(s) => {
-            are_bytes(s.name.as_slice());
-            are_bytes(name);
-            is_named(s, name)
-        }
-    }
-}
-
-/// Whether a value is `nil`.
-#[tactic(auto, unfolding(ap_world::specs::Primitives::nil, ap_world::specs::Names::nil_name))]
-fn is_nil(v: &Value) -> bool
-    ensures { result ≡ value_eq (val_of v.now) nil }
-{
-    is_the_symbol(v, b"NIL")
-}
-
-/// Whether a value is `t`.
-#[tactic(auto, unfolding(ap_world::specs::Primitives::t, ap_world::specs::Names::t_name))]
-fn is_t(v: &Value) -> bool
-    ensures { result ≡ value_eq (val_of v.now) t }
-{
-    is_the_symbol(v, b"T")
-}
 
 /// Whether a value is the symbol `list`.
 #[tactic(auto, unfolding(ap_world::specs::Names::list_name))]
 pub(crate) fn is_list_name(v: &Value) -> bool
     ensures { result ≡ value_eq (val_of v.now) (symbol_value list_name) }
 {
-    is_the_symbol(v, b"LIST")
+    is_acl2(v, b"LIST")
 }
 
 /// Whether a value is zero.
@@ -131,18 +83,4 @@ pub(crate) fn kind_of(v: &Value) -> Kind
         Value::Str(_) => Kind::Text,
         Value::Chr(_) => Kind::Character,
     }
-}
-
-/// Whether two symbols are one, as the test that definitions choose by.
-pub(crate) fn is_symbol(a: &Symbol, b: &Symbol) -> bool
-    ensures { result ≡ symbol_eq a.now b.now }
-{
-    a.keyword == b.keyword && a.name.as_slice() == b.name.as_slice()
-}
-
-/// Whether two terms are one, as the test that definitions choose by.
-pub(crate) fn is_same(a: &Term, b: &Term) -> bool
-    ensures { result ≡ term_eq a.now b.now }
-{
-    same_term(a, b)
 }

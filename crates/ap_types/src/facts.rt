@@ -4,9 +4,10 @@ ghost use Rattle.ap_world.specs.Primitives.{prim_of};
 ghost use Rattle.ap_world.specs.Shapes.{shape_of};
 ghost use Rattle.ap_world.specs.Narrowing.{signed, by_itself, by_recogniser, by_kind, by_constant, by_equation, is_zero, by_bound, by_pair, by_parts, leaves, cut};
 
-use crate::constants::{is_same, is_zero_value, kind_of};
+use crate::constants::{is_zero_value, kind_of};
 use crate::kinds::{ALL, NIL, bit, without};
 use crate::rows::{is_single, recognised};
+use ap_kernel::is_same;
 use ap_term::Term;
 use ap_world::{Kind, Primitive, primitive_of};
 

@@ -5,10 +5,10 @@ ghost use Rattle.ap_world.specs.Shapes.{shape_of};
 ghost use Rattle.ap_world.specs.Kinds.{bit, union_from, union};
 ghost use Rattle.ap_world.specs.Rows.{recognised, tested, test_types, plus_row, times_row, minus_row, less_row, is_single, equal_row, cons_row, car_row, cdr_row, char_code_row, row_one, row_two, over_one, over_two, coerce_by, coerce_types};
 
-use crate::constants::{is_list_name, is_named};
+use crate::constants::is_list_name;
 use crate::kinds::{ALL, NIL, T, bit, kinds, meets, sign_bit, sign_of, without};
 use ap_term::Term;
-use ap_value::Symbol;
+use ap_value::{Symbol, is_named};
 use ap_world::{Kind, Primitive, Sign};
 
 /// What stands beside the name in a table.

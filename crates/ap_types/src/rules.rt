@@ -1,14 +1,14 @@
 ghost use Rattle.std.specs.Prelude.{◌≡◌, map};
-ghost use Rattle.ap_list.specs.Lists.{all_true, is_among, is_distinct};
+ghost use Rattle.ap_list.specs.Lists.{all_true, is_distinct};
 ghost use Rattle.ap_term.specs.declared.term.Term.{out-Term};
 ghost use Rattle.ap_term.specs.Equal.{term_eq};
 ghost use Rattle.ap_world.specs.World.{function_of};
 ghost use Rattle.ap_world.specs.Prescribing.{theorems_about};
 ghost use Rattle.ap_world.specs.Typing.{is_variable, are_distinct_variables, types_on, prescribed_types, left_by, narrowed, kept_of, function_types};
 
-use crate::constants::is_same;
 use crate::kinds::ALL;
 use crate::rows::recognised;
+use ap_kernel::is_among;
 use ap_term::Term;
 use ap_value::Symbol;
 use ap_world::{RuneKind, Theorem, Theory, World};
@@ -30,18 +30,6 @@ fn are_variables(ts: &[Term]) -> bool
         }
     }
     true
-}
-
-/// Whether a term is one of these.
-fn is_among(t: &Term, ts: &[Term]) -> bool
-    ensures { result ≡ is_among term_eq t.now ts.now }
-{
-    for other in ts {
-        if is_same(t, other) {
-            return true;
-        }
-    }
-    false
 }
 
 /// Whether no term comes twice.
