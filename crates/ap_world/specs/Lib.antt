@@ -9,6 +9,7 @@ pub mod Sound
 pub mod Facts
 pub mod Shapes
 pub mod Assume
+pub mod Rules
 pub mod Theories
 pub mod RuneTables
 pub mod World
