@@ -13,6 +13,7 @@ pub mod Rules
 pub mod Theories
 pub mod RuneTables
 pub mod World
+pub mod Holding
 pub mod Prescribing
 pub mod Kept
 pub mod Alike
