@@ -16,3 +16,4 @@ pub mod RewritingStands
 pub mod LiteralsReduce
 pub mod SimplifyingReduces
 pub mod InWorldStands
+pub mod Samples
