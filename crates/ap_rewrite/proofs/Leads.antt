@@ -21,6 +21,7 @@ use Rattle.ap_world.specs.Types.{Has}
 use Rattle.ap_world.specs.Clauses.{not_of}
 use Rattle.ap_world.specs.Sound.{known, is_head}
 use Rattle.ap_world.specs.Recursion.{nil_constant, t_constant}
+use Rattle.ap_world.specs.Ground.{zero_constant}
 use Rattle.ap_world.specs.Theories.{is_enabled}
 use Rattle.ap_world.specs.Facts.{Facts, KnownFacts, FactsHold}
 use Rattle.ap_world.specs.Shapes.{Shape, negation, shape_of}
@@ -49,7 +50,7 @@ use Rattle.ap_kernel.proofs.OpeningStands.{known_subst, open_stands, fold_stands
 use Rattle.ap_rewrite.specs.Rules.{Rule}
 use Rattle.ap_rewrite.specs.Matching.{Pairs}
 use Rattle.ap_rewrite.specs.Settings.{Setting, Place}
-use Rattle.ap_rewrite.specs.Rewriting.{truth_of, constant_in, lacks, is_iff, zero_constant, settled, shaped, unwrapped, negated, run, settle, fits_mode}
+use Rattle.ap_rewrite.specs.Rewriting.{truth_of, constant_in, lacks, is_iff, settled, shaped, unwrapped, negated, run, settle, fits_mode}
 use Rattle.ap_rewrite.specs.Holding.{KnownPairs, AgreeUnder, RuleHolds}
 use Rattle.ap_rewrite.specs.SoundSettings.{defs_of, SoundSetting}
 use Rattle.ap_rewrite.proofs.Yields.{When}

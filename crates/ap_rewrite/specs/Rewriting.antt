@@ -1,10 +1,9 @@
 -- Rewriting a term: one definition for each thing that is tried, and the level above it.
-use Rattle.std.specs.Prelude.{ℕ, zero, suc, nat_le, nat_eq, Bool, true, false, cond, not, ◌&&◌, ◌||◌, pos, List, [], ◌∷◌, map, Option, Some, None, unwrap_or, bit_and, is_some}
+use Rattle.std.specs.Prelude.{ℕ, zero, suc, nat_le, nat_eq, Bool, true, false, cond, not, ◌&&◌, ◌||◌, List, [], ◌∷◌, map, Option, Some, None, unwrap_or, bit_and, is_some}
 use Rattle.std.specs.Option.{option_map}
 use Rattle.ap_list.specs.Lists.{is_among}
 use Rattle.ap_value.specs.declared.symbol.Symbol.{Symbol}
 use Rattle.ap_value.specs.declared.value.Value.{Value}
-use Rattle.ap_value.specs.declared.value.Value.TheVariants.{Int}
 use Rattle.ap_value.specs.Values.{symbol_eq, val_of, value_eq}
 use Rattle.ap_term.specs.declared.term.Term.{Term, Call, Quote, out-Term, para-Term}
 use Rattle.ap_term.specs.declared.term.Term.TheOpen.{Term-F}
@@ -16,6 +15,7 @@ use Rattle.ap_world.specs.declared.theory.Rune.TheVariants as rune
 use Rattle.ap_world.specs.Primitives.{nil}
 use Rattle.ap_world.specs.Clauses.{not_of}
 use Rattle.ap_world.specs.Recursion.{nil_constant, t_constant}
+use Rattle.ap_world.specs.Ground.{zero_constant}
 use Rattle.ap_world.specs.Theories.{is_enabled}
 use Rattle.ap_world.specs.Facts.{Facts}
 use Rattle.ap_world.specs.Shapes.{Shape, constant, choice, negation, shape_of, layer_shape}
@@ -63,9 +63,6 @@ lacks m types = nat_eq (bit_and m types) 0
 abbrev pub is_iff : Mode → Bool
 is_iff Equal = false
 is_iff Iff = true
-
-abbrev pub zero_constant : Term
-zero_constant = Quote (Int (pos 0))
 
 abbrev pub by_mask : Mode → ℕ → Option Term
 by_mask o m =
