@@ -1,5 +1,5 @@
 -- Rewritings with every step counted, as docs/DEFINITIONS.md works them by hand. What masks settle is a premise.
-use Rattle.std.proofs.Common.{◌≡◌, ℕ, suc, Bool, true, false, cond, not, ◌&&◌, nat_le, List, [], ◌∷◌, ◌++◌, map, Option, None, Some, unwrap_or, refl, sym, ap, ◌∙◌}
+use Rattle.std.proofs.Common.{◌≡◌, ℕ, suc, Bool, true, false, cond, not, ◌&&◌, nat_le, List, [], ◌∷◌, ◌++◌, map, Option, None, Some, unwrap_or, refl, ap, ◌∙◌}
 use Rattle.ap_list.specs.Lists.{Each, lookup_by}
 use Rattle.ap_value.specs.Values.{symbol_eq}
 use Rattle.ap_value.proofs.Equals.{symbol_eq-same}
@@ -19,18 +19,17 @@ use Rattle.ap_world.specs.declared.theory.Rune.TheVariants as rune
 use Rattle.ap_world.specs.Theories.{is_enabled}
 use Rattle.ap_world.specs.Names.{consp_name}
 use Rattle.ap_world.specs.Recursion.{nil_constant, t_constant}
-use Rattle.ap_world.specs.Shapes.{is_constant, Shape, constant, choice, other, other_head, head_of, call_shape, layer_shape, shape_of}
+use Rattle.ap_world.specs.Shapes.{is_constant, constant, other, other_head, head_of, call_shape, shape_of}
 use Rattle.ap_world.proofs.Equations.{names_open, val_of_t, t-not_nil}
 use Rattle.ap_world.proofs.Shaped.{shape_call}
 use Rattle.ap_kernel.specs.declared.objects.Mode.{Mode}
 use Rattle.ap_kernel.specs.declared.objects.Mode.TheVariants.{Equal, Iff}
 use Rattle.ap_kernel.specs.Answers.{if_of}
-use Rattle.ap_kernel.specs.Equations.{equation_leads}
 use Rattle.ap_rewrite.specs.Metered.{By, known, after, mapped, or_else, first_that}
 use Rattle.ap_rewrite.specs.Relieving.{by_sign, if_so, then_more, relieve}
 use Rattle.ap_rewrite.specs.Settings.{Setting, Place, under, relieving}
 use Rattle.ap_rewrite.specs.Linear.{by_arithmetic}
-use Rattle.ap_rewrite.specs.Rewriting.{most_nodes, answered, none, by_mask, changed, in_order, right, relieved, apply, try_rule, truth_of, shaped, run, settle, equate, branches, both, by_rules, by_definition, tried, rewrite_args, rewrite_if, rewrite_call, rewrite_parts, rewrite_shape, rewrite_to}
+use Rattle.ap_rewrite.specs.Rewriting.{most_nodes, answered, none, by_mask, changed, in_order, right, relieved, apply, try_rule, truth_of, shaped, run, settle, equate, branches, by_rules, by_definition, tried, rewrite_args, rewrite_if, rewrite_call, rewrite_parts, rewrite_shape, rewrite_to}
 use Rattle.ap_rewrite.proofs.Truths.{shape_if}
 
 head_consp : head_of consp_name ≡ other_head
