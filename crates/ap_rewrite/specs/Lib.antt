@@ -1,0 +1,15 @@
+pub mod Metered
+pub mod Costs
+pub mod Matching
+pub mod Rules
+pub mod Arithmetic
+pub mod Settings
+pub mod Relieving
+pub mod Linear
+pub mod Rewriting
+pub mod Literals
+pub mod InWorld
+pub mod Holding
+pub mod SoundSettings
+pub mod Indexed
+pub mod Laws

@@ -1,0 +1,6 @@
+//! Conditional rewriting: what a term becomes by rules, definitions, types and facts, each step counted, as a
+//! definition (`specs/Rewriting.antt`), and its laws ([`laws`]). See the manual's topics `rewrite`,
+//! `introduction-to-the-theorem-prover` and "The Rewriter" in "Computer-Aided Reasoning" (2000).
+#![tactic(auto)]
+
+pub mod laws;
