@@ -1,0 +1,4 @@
+pub mod Calling
+pub mod Casing
+pub mod Measured
+pub mod Falling

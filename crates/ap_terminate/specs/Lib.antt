@@ -1,0 +1,4 @@
+pub mod Distinct
+pub mod Branches
+pub mod Refusals
+pub mod Less

@@ -1,0 +1,211 @@
+ghost use Rattle.std.specs.Prelude.{◌≡◌, ◌↔◌, [], ◌∷◌, IfOk, IsErrOf, IsTrue, None, Some, map, zip};
+ghost use Rattle.std.specs.Option.{option_map};
+ghost use Rattle.ap_list.specs.Lists.{all_true, is_among};
+ghost use Rattle.ap_value.specs.Values.{symbol_eq};
+ghost use Rattle.ap_term.specs.declared.term.Term.TheVariants.{Var};
+ghost use Rattle.ap_term.specs.Equal.{term_eq};
+ghost use Rattle.ap_term.specs.Terms.{vars_after};
+ghost use Rattle.ap_world.specs.Recursion.{count_of, mentions, is_changed, suits, chosen_measure, measure_of};
+ghost use Rattle.ap_kernel.specs.Solving.{any_true};
+ghost use Rattle.ap_terminate.specs.Refusals.{is_nested, is_well_formed, has_bad_measure, lacks_measure};
+
+use crate::cases::is_unnested;
+use ap_kernel::is_symbol;
+use ap_list::{NoMemory, Seq};
+use ap_term::{Term, copy_terms};
+use ap_value::{Symbol, acl2, copy_symbol};
+use ap_world::{Case, Defun, Measure, World};
+use std::alloc::{AllocError, Global};
+
+/// Why a recursive definition has no measure.
+#[derive(Clone, Copy, Debug)]
+pub enum TerminateError {
+    /// No measure is given, and none can be chosen.
+    NoMeasure,
+    /// A test that tells cases apart, or an argument of a call of the function, has a call of the function.
+    NestedRecursion,
+    /// The given measure has no component, or more than four.
+    BadMeasure,
+    NoMemory,
+}
+
+impl From<AllocError> for TerminateError {
+    ghost use Rattle.std.specs.Prelude.{◌≡◌};
+    ghost use Rattle.ap_terminate.specs.declared.measures.TerminateError.TheVariants.{NoMemory};
+
+    ghost from_gives = { λ _ e. e ≡ NoMemory };
+
+    fn from(_error: AllocError) -> TerminateError {
+        TerminateError::NoMemory
+    }
+}
+
+/// Whether a variable occurs in a term. Takes no memory.
+#[cycle(occurring)]
+#[tactic(auto, using(crate::proofs::Measured::occurring))]
+fn occurs(x: &Symbol, t: &Term) -> bool
+    ensures { result ≡ is_among symbol_eq x.now (vars_after t.now []) }
+{
+    match t {
+        Term::Var(y) => is_symbol(x, y),
+        Term::Quote(_) => false,
+        Term::Call(_, ts) => occurs_in(x, ts.as_slice()),
+    }
+}
+
+/// Whether it occurs in one of some terms. Takes no memory.
+#[cycle(occurring)]
+fn occurs_in(x: &Symbol, ts: &[Term]) -> bool
+    ensures { result ≡ any_true (map (λ t. is_among symbol_eq x.now (vars_after t [])) ts.now) }
+{
+    for t in ts {
+        if occurs(x, t) {
+            return true;
+        }
+    }
+    false
+}
+
+/// Whether a test mentions a variable. Takes no memory.
+fn mentions(x: &Symbol, tests: &[Term]) -> bool
+    ensures { result ≡ mentions x.now tests.now }
+{
+    for test in tests {
+        if occurs(x, test) {
+            return true;
+        }
+    }
+    false
+}
+
+/// Whether a term is a variable of this name. Takes no memory.
+#[tactic(auto, using(crate::proofs::Measured::comparing))]
+fn is_variable(t: &Term, x: &Symbol) -> bool
+    ensures { result ≡ term_eq t.now (Var x.now) }
+{
+    match t {
+        Term::Var(y) => is_symbol(y, x),
+        Term::Quote(_) => false,
+        Term::Call(_, _) => false,
+    }
+}
+
+/// Whether a call has something else than a formal itself at the formal's place. Takes no memory.
+fn is_changed(x: &Symbol, formals: &[Symbol], arguments: &[Term]) -> bool
+    ensures { result ≡ is_changed x.now (zip formals.now arguments.now) }
+{
+    let mut left = formals;
+    let mut values = arguments;
+    while let [formal, rest @ ..] = left {
+        let [value, more @ ..] = values else {
+            return false;
+        };
+        if is_symbol(x, formal) {
+            return !is_variable(value, x);
+        }
+        left = rest;
+        values = more;
+    }
+    false
+}
+
+/// Whether each of some calls changes a formal. Takes no memory.
+fn each_changes(x: &Symbol, formals: &[Symbol], calls: &[Seq<Term>]) -> bool
+    ensures { result ≡ all_true (map (λ c. is_changed x.now (zip formals.now c)) calls.now) }
+{
+    for call in calls {
+        if !is_changed(x, formals, call.as_slice()) {
+            return false;
+        }
+    }
+    true
+}
+
+/// Whether a case has no call, or a test of it mentions the formal and each call changes it. Takes no
+/// memory.
+fn suits(formals: &[Symbol], x: &Symbol, case: &Case) -> bool
+    ensures { result ≡ suits formals.now x.now case.now }
+{
+    let calls = case.calls.as_slice();
+    match calls {
+        [] => true,
+        _ => mentions(x, case.tests.as_slice()) && each_changes(x, formals, calls),
+    }
+}
+
+/// Whether the formal suits each of some cases. Takes no memory.
+fn suits_each(formals: &[Symbol], x: &Symbol, cases: &[Case]) -> bool
+    ensures { result ≡ all_true (map (suits formals.now x.now) cases.now) }
+{
+    for case in cases {
+        if !suits(formals, x, case) {
+            return false;
+        }
+    }
+    true
+}
+
+/// The first formal that suits every case, whose count is the chosen measure. Takes no memory.
+fn chosen<'a>(formals: &'a [Symbol], cases: &[Case]) -> Option<&'a Symbol>
+    ensures { option_map (λ x. count_of x.now ∷ []) result ≡ chosen_measure formals.now cases.now }
+{
+    for x in formals {
+        if suits_each(formals, x, cases) {
+            return Some(x);
+        }
+    }
+    None
+}
+
+/// `(acl2-count x)`
+#[tactic(auto, unfolding(ap_world::specs::Names::acl2_count_name))]
+fn count_term(alloc: Global, x: &Symbol) -> Result<Term, NoMemory>
+    ensures { IfOk result (λ u. u ≡ count_of x.now) }
+{
+    let mut arguments = Seq::new(alloc);
+    arguments.push(Term::Var(copy_symbol(alloc, x)?))?;
+    Term::call(alloc, acl2(alloc, b"ACL2-COUNT")?, arguments)
+}
+
+/// The measure that is the count of a formal.
+fn count_measure(alloc: Global, x: &Symbol) -> Result<Measure, NoMemory>
+    ensures { IfOk result (λ m. m.0 ≡ count_of x.now ∷ []) }
+{
+    let mut components = Seq::new(alloc);
+    components.push(count_term(alloc, x)?)?;
+    Ok(Measure(components))
+}
+
+/// Whether a measure has one to four components. Takes no memory.
+fn is_well_formed(m: &Measure) -> bool
+    ensures { result ≡ is_well_formed m.now }
+{
+    let count = m.0.len();
+    1 <= count && count <= 4
+}
+
+/// The measure of a recursive definition, whose cases are those of its body: the given one, where it has one
+/// to four components, or else the count of the first formal that in each case with calls a test mentions
+/// and each call changes. `NestedRecursion` exactly where the recursion is nested, then `BadMeasure` exactly
+/// where the given measure has another number of components, then `NoMeasure` exactly where no measure is
+/// given and no formal suits; other errors are want of memory. See the manual's topic `measure`.
+pub fn measure_for(alloc: Global, _w: &World, d: &Defun) -> Result<Measure, TerminateError>
+    ensures made { IfOk result (λ m. measure_of d.now ≡ Some m.0) }
+    ensures nested { IsErrOf result TerminateError.NestedRecursion ↔ IsTrue (is_nested d.now) }
+    ensures bad { IsErrOf result TerminateError.BadMeasure ↔ IsTrue (has_bad_measure d.now) }
+    ensures none { IsErrOf result TerminateError.NoMeasure ↔ IsTrue (lacks_measure d.now) }
+{
+    if !is_unnested(&d.name, &d.body) {
+        return Err(TerminateError::NestedRecursion);
+    }
+    if let Some(given) = &d.measure {
+        if !is_well_formed(given) {
+            return Err(TerminateError::BadMeasure);
+        }
+        return Ok(Measure(copy_terms(alloc, given.0.as_slice())?));
+    }
+    match chosen(d.formals.as_slice(), d.cases.as_slice()) {
+        Some(x) => Ok(count_measure(alloc, x)?),
+        None => Err(TerminateError::NoMeasure),
+    }
+}
