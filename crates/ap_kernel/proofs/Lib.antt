@@ -10,3 +10,4 @@ pub mod Splitting
 pub mod Tidied
 pub mod Solved
 pub mod OpeningStands
+pub mod LinearStands

@@ -11,3 +11,4 @@ pub mod Tidying
 pub mod Solving
 pub mod Opening
 pub mod Laws
+pub mod Linear
