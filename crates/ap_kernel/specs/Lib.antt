@@ -12,3 +12,4 @@ pub mod Solving
 pub mod Opening
 pub mod Applying
 pub mod Laws
+pub mod Linear

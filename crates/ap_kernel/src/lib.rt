@@ -24,7 +24,8 @@
 //! | [`open_def`] | a call of a defined function to its body's instance | the formals' names |
 //! | [`apply_theorem`] | the instance of a theorem's left side to that of its right side | the heads of the instances |
 //! | [`fold`] | a call on constants to its value | nothing |
-//! | `by_certificate`, `both_not_less` | an inequality or an equation to `'T` or `'NIL` | not built yet |
+//! | [`by_certificate`] | a call of `<` or of `equal` to `'T` or `'NIL`, by polynomials that can't all hold | the term |
+//! | [`both_not_less`] | an equation of integers to `'T`, where neither side is less | nothing |
 //!
 //! An equivalence owns its sides, so that it can be taken apart and its terms moved into the next one. A row
 //! that is lent a term copies it, and a copy shares the arguments and the names: it costs a count for each,
@@ -54,10 +55,11 @@
 //! [`assume`] gives the facts that a term's truth or falsehood adds to a context, [`others_false`] those under
 //! which a clause's literal is rewritten. [`equation_leads`] and [`is_choice`] test what [`cons_equal`] and
 //! [`if_shape`] ask of a term, [`can_open`] and [`is_constant_call`] what [`open_def`] and [`fold`] do,
-//! [`are_relieved`] what [`apply_theorem`] does, [`is_choice_in`] and [`is_solvable`] what [`split_if`] and
-//! [`use_equality`] ask of a literal, and [`bare_test`] finds the term whose mask [`if_shape`] is handed. A
-//! [`TypeOracle`] says which types a term can have. [`shape_of`] tells a term by its head, its parts lent;
-//! what terms the rows build, others build by the same calls ([`if_term`], [`not_term`], [`equal_term`],
+//! [`are_relieved`] what [`apply_theorem`] does, [`is_comparison`] what [`by_certificate`] does,
+//! [`is_choice_in`] and [`is_solvable`] what [`split_if`] and [`use_equality`] ask of a literal, and
+//! [`bare_test`] finds the term whose mask [`if_shape`] is handed. A [`TypeOracle`] says which types a term can
+//! have, a [`LinearOracle`] finds certificates. [`shape_of`] tells a term by its head, its parts lent; what
+//! terms the rows build, others build by the same calls ([`if_term`], [`not_term`], [`equal_term`],
 //! [`negated`], [`subst`]).
 #![tactic(auto)]
 
@@ -69,6 +71,7 @@ mod choices;
 mod constants;
 mod equations;
 mod facts;
+mod linear;
 mod literals;
 mod objects;
 mod opening;
@@ -96,6 +99,7 @@ pub use constants::{
 };
 pub use equations::{cons_equal, equal_term, equation_leads, truth_term};
 pub use facts::by_fact;
+pub use linear::{LinearOracle, both_not_less, by_certificate, is_comparison};
 pub use literals::{drop_literal, put_at, rewrite_literal};
 pub use objects::{Ctx, Equiv, Mode, Sequent};
 pub use opening::{can_open, fold, is_constant_call, open_def};

@@ -1,0 +1,23 @@
+use Rattle.std.proofs.Common.{◌≡◌, ◌+◌, ◌++◌, [], ◌∷◌, ◌-◌, suc, length, take, drop, ap, rules, arith}
+use Rattle.ap_poly.specs.Elimination.{rows_of}
+use Rattle.ap_linear.specs.Steps.{unit}
+use Rattle.ap_linear.proofs.Walks.{shifted-none, rest-of, rows-next}
+use Rattle.ap_linear.proofs.rows.rows_of.Goals as goal
+
+pub loop-left-init : goal.loop-left-init
+loop-left-init c = record { count = omega arith; rows = rw c.new-rows.ensures (shifted-none (rows_of c.args.polys.now)) }
+
+pub loop-left-preserved : goal.loop-left-preserved
+loop-left-preserved c =
+    let left = c.loop-left.left.now in
+    let rest = take (length left - 1) (drop 1 left) in
+    let p = c.p-item.result in
+    let whole = rest-of left p c.in-len1-up.len_at_least c.p-item.is in
+    let longer : suc (length rest) ≡ length left = ap length whole in
+    let count = c.loop-left.invariant.count in
+    let next : c.loop-left.before + 1 ≡ suc c.loop-left.before = omega arith in
+    let made : c.push.new.self ≡ c.loop-left.rows ++ record { poly = p; by = unit c.loop-left.before (length rest) } ∷ [] = search rules in
+    record {
+      count = omega arith;
+      rows = rows-next c.loop-left.rows c.push.new.self c.loop-left.before (c.loop-left.before + 1) p rest left (rows_of c.args.polys.now) whole next made c.loop-left.invariant.rows;
+    }
