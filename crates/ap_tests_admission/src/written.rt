@@ -1,0 +1,103 @@
+//! Definitions for tests, written as text.
+
+use ap_list::{NoMemory, Seq};
+use ap_reader::{Body, Form, forms};
+use ap_term::Term;
+use ap_terminate::cases_of;
+use ap_value::{Symbol, Value, copy_symbol};
+use ap_world::{Defun, Measure};
+use std::alloc::{AllocError, Global};
+
+/// The term that is written: a symbol is a variable, a number or a quoted symbol a constant, a list a call.
+#[cycle(writing)]
+fn term(alloc: Global, form: &Form) -> Result<Term, NoMemory> {
+    match &form.body {
+        Body::Sym(name) => Ok(Term::Var(copy_symbol(alloc, name)?)),
+        Body::Int(n) => Ok(Term::Quote(Value::Int(*n))),
+        Body::Quoted(inner) => match &inner.get().body {
+            Body::Sym(name) => Ok(Term::Quote(Value::Sym(copy_symbol(alloc, name)?))),
+            _ => Err(AllocError),
+        },
+        Body::List(items) => match items.as_slice() {
+            [head, rest @ ..] => {
+                let arguments = terms(alloc, rest)?;
+                Term::call(alloc, symbol(alloc, head)?, arguments)
+            }
+            [] => Err(AllocError),
+        },
+        _ => Err(AllocError),
+    }
+}
+
+/// The terms that are written.
+#[cycle(writing)]
+fn terms(alloc: Global, forms: &[Form]) -> Result<Seq<Term>, NoMemory> {
+    let mut out = Seq::new(alloc);
+    for form in forms {
+        out.push(term(alloc, form)?)?;
+    }
+    Ok(out)
+}
+
+/// The symbol that is written.
+fn symbol(alloc: Global, form: &Form) -> Result<Symbol, NoMemory> {
+    match &form.body {
+        Body::Sym(name) => copy_symbol(alloc, name),
+        _ => Err(AllocError),
+    }
+}
+
+/// The symbols that are written.
+fn symbols(alloc: Global, forms: &[Form]) -> Result<Seq<Symbol>, NoMemory> {
+    let mut out = Seq::new(alloc);
+    for form in forms {
+        out.push(symbol(alloc, form)?)?;
+    }
+    Ok(out)
+}
+
+/// The items of a list.
+fn items(form: &Form) -> &[Form] {
+    match &form.body {
+        Body::List(items) => items.as_slice(),
+        _ => &[],
+    }
+}
+
+/// The measure that is written: a list of its components, or a word where none is given.
+fn measure(alloc: Global, form: &Form) -> Result<Option<Measure>, NoMemory> {
+    match &form.body {
+        Body::Sym(_) => Ok(None),
+        _ => Ok(Some(Measure(terms(alloc, items(form))?))),
+    }
+}
+
+/// The definition of these four forms: its name, its formals, its measure and its body, in translated form.
+fn definition(alloc: Global, parts: &[Form]) -> Result<Defun, NoMemory> {
+    let [name, formals, given, body] = parts else {
+        return Err(AllocError);
+    };
+    let name = symbol(alloc, name)?;
+    let formals = symbols(alloc, items(formals))?;
+    let measure = measure(alloc, given)?;
+    let body = term(alloc, body)?;
+    let cases = cases_of(alloc, &name, &body)?;
+    Ok(Defun {
+        name,
+        formals,
+        body,
+        measure,
+        cases,
+    })
+}
+
+/// The definition that is written.
+pub(crate) fn defun(alloc: Global, text: &str) -> Result<Defun, NoMemory> {
+    match forms(alloc, text.as_bytes()) {
+        Ok(read) => match read.as_slice() {
+            [form] => definition(alloc, items(form)),
+            _ => Err(AllocError),
+        },
+        Err(_) => Err(AllocError),
+    }
+}
