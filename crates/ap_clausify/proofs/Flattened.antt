@@ -1,11 +1,12 @@
 -- What the conjuncts and the clause of a term are at each kind of term.
-use Rattle.std.proofs.Common.{◌≡◌, ◌<◌, ◌≤◌, Bool, true, cond, List, [], ◌∷◌, ◌++◌, map, refl, ap, sym, ◌∙◌, append_assoc, length, get_or, arith}
+use Rattle.std.proofs.Common.{◌≡◌, ◌<◌, ◌≤◌, Bool, true, List, [], ◌∷◌, ◌++◌, map, refl, ap, sym, ◌∙◌, append_assoc, length, get_or, arith}
 use Rattle.ap_value.specs.declared.symbol.Symbol.{Symbol}
 use Rattle.ap_value.specs.Values.{symbol_eq}
 use Rattle.ap_term.specs.declared.term.Term.{Term, Call}
 use Rattle.ap_world.specs.Names.{if_name, implies_name}
-use Rattle.ap_world.specs.Clauses.{negate, is_nil, if_parts, and_parts, conjuncts, implied, flat}
-use Rattle.ap_world.proofs.Written.{conjuncts_var, conjuncts_quote, conjuncts_call, flat_var, flat_quote, flat_call}
+use Rattle.ap_world.specs.Clauses.{negate, is_nil, conjuncts, implied, flat}
+use Rattle.ap_world.proofs.Written.{conjuncts_var, conjuncts_quote, flat_var, flat_quote, flat_call}
+use Rattle.ap_world.proofs.Given.{conjuncts_called}
 
 pub negations_append : (xs ys : List Term) → map negate (xs ++ ys) ≡ map negate xs ++ map negate ys
 negations_append [] ys = refl
@@ -24,17 +25,6 @@ triple_is (x ∷ []) us a b c e h k p q r = absurd (omega arith)
 triple_is (x ∷ y ∷ []) us a b c e h k p q r = absurd (omega arith)
 triple_is (x ∷ y ∷ z ∷ []) us a b c e h k p q r = sym e ∙ ap (λ w. w ∷ y ∷ z ∷ []) (sym p) ∙ ap (λ w. a ∷ w ∷ z ∷ []) (sym q) ∙ ap (λ w. a ∷ b ∷ w ∷ []) (sym r)
 triple_is (x ∷ y ∷ z ∷ w ∷ ts) us a b c e h k p q r = absurd (omega arith)
-
-abbrev pub conjuncts_at : Bool → List Term → Term → List Term
-conjuncts_at true (a ∷ b ∷ c ∷ []) u = cond (is_nil c) (conjuncts a ++ conjuncts b) (u ∷ [])
-conjuncts_at x ts u = u ∷ []
-
-conjuncts_parts : (x : Bool) (ts : List Term) (u : Term) → and_parts (if_parts x (map (λ u. (u, conjuncts u)) ts)) (u ∷ []) ≡ conjuncts_at x ts u
-conjuncts_parts true (a ∷ b ∷ c ∷ []) u = refl
-conjuncts_parts x ts u = refl
-
-pub conjuncts_called : (f : Symbol) (ts : List Term) → conjuncts (Call f ts) ≡ conjuncts_at (symbol_eq f if_name) ts (Call f ts)
-conjuncts_called f ts = conjuncts_call f ts ∙ conjuncts_parts (symbol_eq f if_name) ts (Call f ts)
 
 pub ruleset conjoining = (conjuncts_var, conjuncts_quote, conjuncts_called, negations_append)
 

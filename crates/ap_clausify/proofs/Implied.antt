@@ -1,33 +1,31 @@
 -- In a sound world a term isn't nil where some literal of its clause isn't.
-use Rattle.std.proofs.Common.{◌≡◌, ◌≢◌, Bool, true, false, cond, not, IfSome, List, [], ◌∷◌, ◌++◌, map, length, zip, Option, Some, None, ◌⊎◌, inl, inr, refl, ap, sym, ◌∙◌, subst}
+use Rattle.std.proofs.Common.{◌≡◌, ◌≢◌, Bool, true, false, cond, not, List, [], ◌∷◌, ◌++◌, map, ◌⊎◌, inl, inr, refl, ap, sym, ◌∙◌, subst}
 use Rattle.ap_list.specs.Lists.{Each}
 use Rattle.ap_value.specs.declared.symbol.Symbol.{Symbol}
 use Rattle.ap_value.specs.declared.value.Value.{Value}
-use Rattle.ap_value.specs.Values.{V, val_of, symbol_eq, value_eq}
+use Rattle.ap_value.specs.Values.{V, symbol_eq, value_eq}
 use Rattle.ap_value.proofs.Equals.{symbol_eq-true, value_eq-same}
 use Rattle.ap_term.specs.declared.term.Term.{Term, Var, Quote, Call}
 use Rattle.ap_term.specs.declared.term.Clause.{Clause}
 use Rattle.ap_term.proofs.Induction.{term_ind}
 use Rattle.ap_world.specs.declared.entry.Entry.{Entry}
-use Rattle.ap_world.specs.declared.entry.Function.{Function}
-use Rattle.ap_world.specs.Names.{if_name, implies_name, p_name, q_name}
-use Rattle.ap_world.specs.Primitives.{nil, t, truth}
+use Rattle.ap_world.specs.Names.{if_name, implies_name}
+use Rattle.ap_world.specs.Primitives.{nil, t}
 use Rattle.ap_world.specs.Meaning.{Env, Defs, Valid}
 use Rattle.ap_world.specs.Clauses.{negate, is_nil, conjuncts, flat}
-use Rattle.ap_world.specs.Ground.{not_function, implies_function, ground_functions}
 use Rattle.ap_world.specs.World.{function_of}
-use Rattle.ap_world.specs.Sound.{known, is_head, takes, given_function, DefinedAlike, Sound}
-use Rattle.ap_world.proofs.Knowing.{known_head, known_args, each_true, true_each}
-use Rattle.ap_world.proofs.Looking.{good_of}
-use Rattle.ap_world.proofs.TotalMeaning.{Apply, Models, models, val, val_quote, AnyTrue, apply_is, valid_is, valid_of}
-use Rattle.ap_world.proofs.Equations.{names_open, vals, prim_of_implies, val_defined, val_if, nil-eq, t_isnt_nil}
-use Rattle.ap_world.proofs.Written.{is_nil_var, is_nil_quote, is_nil_call, conjuncts_var, conjuncts_quote, flat_var, flat_quote}
+use Rattle.ap_world.specs.Sound.{known, Sound}
+use Rattle.ap_world.proofs.Knowing.{known_args, each_true, true_each}
+use Rattle.ap_world.proofs.TotalMeaning.{Apply, Models, models, val, AnyTrue, valid_is, valid_of}
+use Rattle.ap_world.proofs.Equations.{val_if, nil-eq, t_isnt_nil}
+use Rattle.ap_world.proofs.Written.{conjuncts_var, conjuncts_quote, flat_var, flat_quote}
+use Rattle.ap_world.proofs.Given.{conjuncts_at, conjuncts_called, constant_nil, implies_is}
 use Rattle.ap_kernel.specs.Standing.{HasGround}
 use Rattle.ap_kernel.proofs.ChoicesStand.{known_not}
 use Rattle.ap_kernel.proofs.Reduced.{any_either, each_append}
 use Rattle.ap_kernel.proofs.Splitting.{negate_turns, negate_known}
 use Rattle.ap_clausify.specs.Flattening.{Clausifies}
-use Rattle.ap_clausify.proofs.Flattened.{negations_append, conjuncts_at, conjuncts_called, flat_at, flat_called}
+use Rattle.ap_clausify.proofs.Flattened.{negations_append, flat_at, flat_called}
 
 no : {P : Type 0} → false ≡ true → P
 no h = cc
@@ -84,22 +82,6 @@ flat_known D ground = term_ind Goal variable quoted call
     call : (f : Symbol) (ts : List Term) → Each Goal ts → Goal (Call f ts)
     call f ts es k = rw (flat_called f ts) (go (symbol_eq f implies_name) f ts es k)
 
--- a constant that means nil
-constant_nil : (A : Apply) (e : Env) (u : Term) → is_nil u ≡ true → val A u e ≡ nil
-constant_nil A e = term_ind Goal variable quoted call
-  where
-    Goal : Term → Type 0
-    Goal u = is_nil u ≡ true → val A u e ≡ nil
-
-    variable : (x : Symbol) → Goal (Var x)
-    variable x h = no (sym (is_nil_var x) ∙ h)
-
-    quoted : (v : Value) → Goal (Quote v)
-    quoted v h = val_quote A v e ∙ nil-eq (val_of v) (sym (is_nil_quote v) ∙ h)
-
-    call : (f : Symbol) (ts : List Term) → Each Goal ts → Goal (Call f ts)
-    call f ts es h = no (sym (is_nil_call f ts) ∙ h)
-
 module _ (D : Defs) (A : Apply) (ms : Models D A) (ground : HasGround D) (e : Env) where
   negation_true : (u : Term) → val A (negate u) e ≢ nil → val A u e ≡ nil
   negation_true u h = go (value_eq (val A u e) nil) refl
@@ -153,46 +135,7 @@ module _ (D : Defs) (A : Apply) (ms : Models D A) (ground : HasGround D) (e : En
       call : (f : Symbol) (ts : List Term) → Each Goal ts → Goal (Call f ts)
       call f ts es = rw (conjuncts_called f ts) (go (symbol_eq f if_name) f ts refl es)
 
--- `implies` is the one given, where it is known
-given_implies : given_function implies_name ≡ Some implies_function
-unfolding ground_functions not_function implies_function names_open
-given_implies = refl
-
-truth-choose : (b : Bool) → cond b nil t ≡ truth (not b)
-truth-choose true = refl
-truth-choose false = refl
-
-implies_body : (A : Apply) (v w : V) → val A implies_function.body ((p_name, v) ∷ (q_name, w) ∷ []) ≡ cond (value_eq v nil) t (truth (not (value_eq w nil)))
-unfolding implies_function p_name q_name
-implies_body A v w = simp (vals, truth-choose)
-
-implies_formals : implies_function.formals ≡ p_name ∷ q_name ∷ []
-unfolding implies_function
-implies_formals = refl
-
-alike_value : (A : Apply) (g : Function) (v w : V) → DefinedAlike g implies_function → val A g.body (zip g.formals (v ∷ w ∷ [])) ≡ cond (value_eq v nil) t (truth (not (value_eq w nil)))
-alike_value A g v w same =
-    ap (λ b. val A b (zip g.formals (v ∷ w ∷ []))) same.body
-    ∙ ap (λ xs. val A implies_function.body (zip xs (v ∷ w ∷ []))) (same.formals ∙ implies_formals)
-    ∙ implies_body A v w
-
-implies_is : (W : List Entry) → Sound W → (A : Apply) → Models (function_of W) A → (h c : Term) (e : Env) → known (function_of W) (Call implies_name (h ∷ c ∷ [])) ≡ true
-    → val A (Call implies_name (h ∷ c ∷ [])) e ≡ cond (value_eq (val A h e) nil) t (truth (not (value_eq (val A c e) nil)))
-implies_is W sound A ms h c e k =
-    val_defined A implies_name (h ∷ c ∷ []) e prim_of_implies
-    ∙ defined (function_of W implies_name) refl (subst (λ o. is_head (function_of W) implies_name o 2 ≡ true) prim_of_implies (known_head (function_of W) implies_name (h ∷ c ∷ []) k))
-  where
-    alike : (g : Function) → function_of W implies_name ≡ Some g → DefinedAlike g implies_function → A implies_name (val A h e ∷ val A c e ∷ []) ≡ cond (value_eq (val A h e) nil) t (truth (not (value_eq (val A c e) nil)))
-    alike g here same =
-        apply_is (function_of W) A ms implies_name g (val A h e ∷ val A c e ∷ []) here (ap length (same.formals ∙ implies_formals))
-        ∙ alike_value A g (val A h e) (val A c e) same
-
-    defined : (o : Option Function) → function_of W implies_name ≡ o → takes o 2 ≡ true → A implies_name (val A h e ∷ val A c e ∷ []) ≡ cond (value_eq (val A h e) nil) t (truth (not (value_eq (val A c e) nil)))
-    defined None here l = no l
-    defined (Some g) here l =
-        let p = good_of W sound implies_name g here in
-        alike g here (subst (λ o. IfSome o (DefinedAlike g)) (ap given_function p.1 ∙ given_implies) p.0.given)
-
+-- a term isn't nil where a literal of its clause isn't
 flat_true : (W : List Entry) → Sound W → HasGround (function_of W) → (A : Apply) → Models (function_of W) A → (e : Env) (u : Term) → known (function_of W) u ≡ true → AnyTrue A e (flat u) → val A u e ≢ nil
 flat_true W sound ground A ms e = term_ind Goal variable quoted call
   where
@@ -209,13 +152,13 @@ flat_true W sound ground A ms e = term_ind Goal variable quoted call
     quoted : (v : Value) → Goal (Quote v)
     quoted v k = rw (flat_quote v) (alone (Quote v))
 
-    refuted_true : (x y : V) → x ≡ nil → cond (value_eq x nil) t (truth (not (value_eq y nil))) ≢ nil
-    refuted_true x y h = subst (λ v. cond (value_eq v nil) t (truth (not (value_eq y nil))) ≢ nil) (sym h) (subst (λ b. cond b t (truth (not (value_eq y nil))) ≢ nil) (sym (value_eq-same nil)) t_isnt_nil)
+    refuted_true : (x y : V) → x ≡ nil → cond (value_eq x nil) t (cond (value_eq y nil) nil t) ≢ nil
+    refuted_true x y h = subst (λ v. cond (value_eq v nil) t (cond (value_eq y nil) nil t) ≢ nil) (sym h) (subst (λ b. cond b t (cond (value_eq y nil) nil t) ≢ nil) (sym (value_eq-same nil)) t_isnt_nil)
 
-    shown_true : (x y : V) → y ≢ nil → cond (value_eq x nil) t (truth (not (value_eq y nil))) ≢ nil
+    shown_true : (x y : V) → y ≢ nil → cond (value_eq x nil) t (cond (value_eq y nil) nil t) ≢ nil
     shown_true x y h = go (value_eq x nil) (value_eq y nil) refl
       where
-        go : (a b : Bool) → value_eq y nil ≡ b → cond a t (truth (not b)) ≢ nil
+        go : (a b : Bool) → value_eq y nil ≡ b → cond a t (cond b nil t) ≢ nil
         go true b q = t_isnt_nil
         go false true q = absurd (h (nil-eq y q))
         go false false q = t_isnt_nil

@@ -126,7 +126,7 @@ fn decrease(
     ensures { IfOk result (λ c. c ≡ clause_of (decrease formals.now m.now case.now call.now)) }
 {
     let pairs = pairs_of(alloc, formals, call)?;
-    let at_call = subst_all(alloc, m, pairs.as_slice())?;
+    let at_call = subst_all(alloc, m, &pairs)?;
     let falls = less(alloc, at_call.as_slice(), m)?;
     let conjecture = under(alloc, case.tests.as_slice(), falls)?;
     let clause = flat(alloc, &conjecture)?;
