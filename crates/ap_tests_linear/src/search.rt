@@ -1,0 +1,93 @@
+use crate::text::{literals, sides};
+use ap_linear::{Linear, LinearOracle, Poly, refute};
+use ap_list::{Bytes, NoMemory, Seq};
+use ap_world::World;
+use std::alloc::Global;
+
+/// Literals, and the multipliers that refute their polynomials.
+const LISTS: &str = r#"+ (< y x) ; - (< y x) => 1 1
+- (< x 0) => none
++ (< x y) ; + (< y z) ; + (< z x) => 1 1 1
+- (< y x) ; - (< x y) => none
++ (< (+ x y) 1) ; + (< 0 x) ; + (< 0 y) => 1 1 1
++ (< 0 x) ; - (< 0 x) ; + (< 0 y) ; - (< 0 y) => 0 0 1 1
++ (< 0 z) ; - (< 0 z) ; + (< 0 (len a)) ; - (< 0 (len a)) => 0 0 1 1
+- (< (* 4 y) (* 2 x)) ; - (< 5 0) ; + (< (* 6 y) (* 3 x)) => 3 0 2
++ (< (* 1267650600228229401496703205376 x) (* 1267650600228229401496703205376 y)) ; - (< (* 1267650600228229401496703205376 x) (* 1267650600228229401496703205376 y)) => 1 1
+- (< (* 170141183460469231731687303715884105727 x) y) ; - (< y (- x)) ; + (< x 0) => none
++ (< x x) => 1
++ (< 3 5) => none
++ (< 5 3) => 1"#;
+
+/// The multipliers as text, or `none`.
+fn shown(alloc: Global, found: Option<Seq<u64>>) -> Result<Bytes, NoMemory> {
+    let mut out = Bytes::new(alloc);
+    let Some(by) = found else {
+        out.extend(b"none")?;
+        return Ok(out);
+    };
+    for n in by.as_slice() {
+        if !out.is_empty() {
+            out.push(b' ')?;
+        }
+        let number = format!(in alloc; "{n}")?;
+        out.extend(number.as_bytes())?;
+    }
+    Ok(out)
+}
+
+#[test]
+fn each_list_has_its_first_certificate(rt: HostRuntime) -> Result<(), NoMemory> {
+    let world = World::bare(rt.alloc());
+    assert_eq!(rt; LISTS.lines().count(), 13);
+    for line in LISTS.lines() {
+        let (text, wanted) = sides(line);
+        let polys = literals(rt.alloc(), text)?;
+        let found = shown(rt.alloc(), Linear.refute(rt.alloc(), &world, &polys)?)?;
+        let found = str::from_utf8(found.as_slice()).unwrap_or("no text");
+        assert_eq!(rt; found, wanted, "{line}");
+    }
+    Ok(())
+}
+
+/// So many times `x` and `100 - x`, but for one `x - 10` and one `9 - x`.
+fn crowd(alloc: Global, count: usize, low: usize, high: usize) -> Result<Seq<Poly>, NoMemory> {
+    let mut polys = Seq::new(alloc);
+    for i in 0..count {
+        let text = if i == low { "- (< x 10)" } else { "- (< x 0)" };
+        polys.append(literals(alloc, text)?)?;
+    }
+    for i in 0..count {
+        let text = if i == high {
+            "- (< 9 x)"
+        } else {
+            "- (< 100 x)"
+        };
+        polys.append(literals(alloc, text)?)?;
+    }
+    Ok(polys)
+}
+
+/// Whether such a crowd is refuted.
+fn is_refuted(
+    alloc: Global,
+    w: &World,
+    count: usize,
+    low: usize,
+    high: usize,
+) -> Result<bool, NoMemory> {
+    let polys = crowd(alloc, count, low, high)?;
+    Ok(refute(alloc, w, &polys)?.is_some())
+}
+
+#[test]
+fn of_more_than_64_sums_the_first_are_kept(rt: HostRuntime) -> Result<(), NoMemory> {
+    let world = World::bare(rt.alloc());
+    // 64 sums, the last one negative
+    assert!(rt; is_refuted(rt.alloc(), &world, 8, 7, 7)?);
+    // 81 sums: the 64th negative, the 65th, the last
+    assert!(rt; is_refuted(rt.alloc(), &world, 9, 7, 0)?);
+    assert!(rt; !is_refuted(rt.alloc(), &world, 9, 7, 1)?);
+    assert!(rt; !is_refuted(rt.alloc(), &world, 9, 8, 8)?);
+    Ok(())
+}
