@@ -1,5 +1,5 @@
 -- The test of equality on terms says what it says.
-use Rattle.std.proofs.Common.{◌≡◌, Bool, true, List, [], ◌∷◌, map, refl, sym, ap, ◌∙◌}
+use Rattle.std.proofs.Common.{◌≡◌, ◌↔◌, IsTrue, Bool, true, false, List, [], ◌∷◌, map, refl, sym, ap, ◌∙◌, subst}
 use Rattle.ap_list.specs.Lists.{Each}
 use Rattle.ap_value.specs.declared.symbol.Symbol.{Symbol}
 use Rattle.ap_value.specs.declared.value.Value.{Value}
@@ -85,3 +85,19 @@ term_eq-same = term_ind (λ t. term_eq t t ≡ true) variable quoted call
     call f ts es =
         at_call (Call f ts) f ts ∙ ap (same_step (Term-F.Call f (map term_eq ts))) (outs-Call f ts)
         ∙ and_true (symbol_eq f f) (tests_pass (map term_eq ts) ts) (symbol_eq-same f) (all_same ts es)
+
+pub term_eq-is : (a b : Term) → a ≡ b → term_eq a b ≡ true
+term_eq-is a b h = subst (λ c. term_eq a c ≡ true) h (term_eq-same a)
+
+-- two tests are one where each is true with the other
+pub tests_same : (p q : Bool) → (p ≡ true → q ≡ true) → (q ≡ true → p ≡ true) → p ≡ q
+tests_same true q h k = sym (h refl)
+tests_same false true h k = k refl
+tests_same false false h k = refl
+
+-- a test that tells whether two terms are one, and one of symbols, is the definitions' test
+pub same_is : (r : Bool) (a b : Term) → (IsTrue r ↔ (a ≡ b)) → r ≡ term_eq a b
+same_is r a b h = tests_same r (term_eq a b) (λ p. term_eq-is a b (h.0 p)) (λ q. h.1 (term_eq-true a b q))
+
+pub symbol_is : (r : Bool) (a b : Symbol) → (IsTrue r ↔ (a ≡ b)) → r ≡ symbol_eq a b
+symbol_is r a b h = tests_same r (symbol_eq a b) (λ p. subst (λ c. symbol_eq a c ≡ true) (h.0 p) (symbol_eq-same a)) (λ q. h.1 (symbol_eq-true a b q))

@@ -5,6 +5,7 @@ pub mod Equals
 pub mod Folds
 pub mod Induction
 pub mod Less
+pub mod Matches
 pub mod Parts
 pub mod PrintedApart
 pub mod StrictOrder

@@ -1,6 +1,8 @@
 pub mod Atoms
 pub mod Compared
 pub mod Equal
+pub mod Matching
+pub mod Metered
 pub mod Order
 pub mod Pieces
 pub mod Printed

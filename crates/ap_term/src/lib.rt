@@ -5,6 +5,8 @@
 mod atoms;
 mod compare;
 mod counts;
+mod instance;
+mod matching;
 mod order;
 mod piece;
 mod starts;
@@ -14,9 +16,11 @@ mod term;
 pub use ap_list::SharedSeq;
 pub use ap_value::{Boxed, Bytes, NoMemory, Seq, Shared, Symbol, Text, Value};
 pub use atoms::reads_back;
+pub use instance::{is_symbol, pairs_of, subst, subst_all, vars};
+pub use matching::{is_same, matches_are_least, one_way_match};
 pub use order::{term_less, term_order_is_total, terms_print_apart};
 pub use steps::{Spent, Steps};
 pub use term::{
     Clause, Subst, Term, copy_symbols, copy_term, copy_terms, equality_of_terms, owned, same_term,
-    size,
+    same_terms, size,
 };

@@ -49,8 +49,9 @@ pub fn same_term(a: &Term, b: &Term) -> bool
     }
 }
 
+/// Whether two lists of terms are one. Takes no memory.
 #[cycle(sameness)]
-fn same_terms(a: &[Term], b: &[Term]) -> bool
+pub fn same_terms(a: &[Term], b: &[Term]) -> bool
     ensures { IsTrue result ↔ (a.now ≡ b.now) }
 {
     if a.len() != b.len() {

@@ -11,6 +11,7 @@ use Rattle.ap_term.specs.declared.term.Term.{Term, Call}
 use Rattle.ap_world.specs.Names.{nil_name, t_name, list_name, if_name, equal_name, consp_name, integerp_name, symbolp_name, stringp_name, characterp_name, cons_name, car_name, cdr_name, plus_name, times_name, minus_name, less_name, char_code_name, code_char_name, symbol_name_name, coerce_name, not_name, implies_name, natp_name, acl2_count_name, iff_name, atom_name, endp_name, null_name, eq_name, eql_name, numeric_equal_name, acl2_numberp_name, rationalp_name, booleanp_name, fix_name, ifix_name, posp_name, nfix_name, zp_name, zip_name, zerop_name, plusp_name, minusp_name, max_name, min_name, abs_name, integer_abs_name, true_listp_name, len_name, length_name, append_name, member_equal_name, make_character_list_name, p_name, q_name, a_name, x_name, y_name, z_name, string_name}
 use Rattle.ap_world.specs.Primitives.{symbol_value, nil, t, truth, Prim, If, Equal, Consp, Integerp, Symbolp, Stringp, Characterp, Cons, Car, Cdr, Plus, Times, Minus, Less, CharCode, CodeChar, SymbolName, Coerce, primitives, prim_of, is_cons, is_integer, is_symbol, is_string, is_character, car_of, cdr_of, int_of, char_code_of, code_char_of, symbol_name_of, coerce_of}
 use Rattle.ap_world.specs.Meaning.{Env}
+use Rattle.ap_world.specs.Recursion.{nil_constant, t_constant}
 use Rattle.ap_world.proofs.Knowing.{known_var, known_quote, known_call}
 use Rattle.ap_world.proofs.TotalMeaning.{Apply, head_val, val, values_of, val_var, val_quote, val_call}
 
@@ -215,6 +216,13 @@ not_nil-eq v h = go (value_eq v nil) refl
 
 pub eq-not_nil : (v : V) → value_eq v nil ≡ false → v ≢ nil
 eq-not_nil v h e = absurd (true≢false (sym (value_eq-same nil) ∙ (rw e at h)))
+
+-- the constants nil and t
+pub val_nil_constant : (A : Apply) (e : Env) → val A nil_constant e ≡ nil
+val_nil_constant A e = val_quote A _ e ∙ val_of_nil
+
+pub val_t_constant : (A : Apply) (e : Env) → val A t_constant e ≡ t
+val_t_constant A e = val_quote A _ e ∙ val_of_t
 
 -- what each written term means
 pub ruleset vals = (val_var, val_quote, val_of_nil, val_of_t, val_if, val_equal, val_consp, val_integerp, val_symbolp, val_stringp, val_characterp, val_cons, val_car, val_cdr, val_plus, val_times, val_minus, val_less, val_char_code, val_code_char, val_symbol_name, val_coerce)

@@ -8,6 +8,7 @@ pub mod Equations
 pub mod Extending
 pub mod Fuel
 pub mod Given
+pub mod Instances
 pub mod Knowing
 pub mod Looking
 pub mod Parts
@@ -15,6 +16,7 @@ pub mod Places
 pub mod Placing
 pub mod Prescribed
 pub mod Recognising
+pub mod RulesStand
 pub mod Sets
 pub mod Shaped
 pub mod Starting

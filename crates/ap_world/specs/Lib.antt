@@ -9,9 +9,11 @@ pub mod Sound
 pub mod Facts
 pub mod Shapes
 pub mod Assume
+pub mod Rules
 pub mod Theories
 pub mod RuneTables
 pub mod World
+pub mod Holding
 pub mod Prescribing
 pub mod Kept
 pub mod Alike

@@ -1,4 +1,5 @@
 //! The laws of meaning and soundness, each the contract of a function that does nothing.
+ghost use Rattle.ap_world.specs.Holding.{PartsHold, RulesHold, InstancesKeepValues, InstancesAreKnown, MatchesAreKnown};
 ghost use Rattle.ap_world.specs.Laws.{MoreFuelKeeps, ValuesAreUnique, CallsAreUnique, KnownTermsHaveValues, EntriesKeepValues, EntriesKeepValidity, EntriesAddNoValidity, WorldsThatAgree, AlikeKeepsValues, AlikeKeepsCalls, AlikeKeepsKnown, AlikeKeepsValidity, AlikeAddsNoValidity, AlikeAddsNoValues, NamesAreNoPrimitives, EqualSidesAreValid, StartingWorldIsSound, ConjunctsOfIf, FlatOfImplies, CasesOfIf, DecreaseIsFlat};
 
 /// A value that some number of units gives, every greater number gives.
@@ -68,4 +69,19 @@ pub fn equations_of_terms()
 /// An obligation is the clause of the conjecture that the tests imply that the measure is less.
 pub fn decrease_is_a_clause()
     ensures { DecreaseIsFlat }
+{}
+
+/// A term's instance is a term of the world, and has the values that the term has where each variable has its
+/// replacement's value. The terms that a match of a term of the world gives are terms of the world.
+pub fn instances_keep_values()
+    ensures values { InstancesKeepValues }
+    ensures known { InstancesAreKnown }
+    ensures matches { MatchesAreKnown }
+{}
+
+/// In a sound world with `not` each part of a theorem holds wherever the theorem's hypotheses do, and so does
+/// each rewrite rule.
+pub fn rules_hold()
+    ensures parts { PartsHold }
+    ensures rules { RulesHold }
 {}

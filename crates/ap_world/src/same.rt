@@ -5,23 +5,8 @@ use crate::entry::{Case, Entry, Function, Measure, RuleClass, Theorem};
 use crate::theory::{Rune, Theory, same_rune};
 use crate::world::World;
 use ap_list::Seq;
-use ap_term::{Term, same_term};
+use ap_term::{Term, same_term, same_terms};
 use ap_value::{Symbol, same, same_symbol};
-
-/// Whether two lists of terms are one. Takes no memory.
-fn same_terms(a: &[Term], b: &[Term]) -> bool
-    ensures { IsTrue result ↔ (a.now ≡ b.now) }
-{
-    if a.len() != b.len() {
-        return false;
-    }
-    for i in 0..a.len() {
-        if !same_term(&a[i], &b[i]) {
-            return false;
-        }
-    }
-    true
-}
 
 /// Whether two lists of symbols are one. Takes no memory.
 fn same_symbols(a: &[Symbol], b: &[Symbol]) -> bool
