@@ -1,17 +1,19 @@
 -- A sound world's own rules, definitions, masks and values are right.
-use Rattle.std.proofs.Common.{◌≡◌, true≢false, sym, [], Some, refl, subst}
+use Rattle.std.proofs.Common.{◌≡◌, [], Some, refl, subst}
 use Rattle.ap_value.specs.declared.value.Value.{Value}
 use Rattle.ap_value.specs.Values.{val_of}
 use Rattle.ap_term.specs.declared.term.Term.{Term}
 use Rattle.ap_world.specs.World.{Shown, function_of}
-use Rattle.ap_world.specs.Meaning.{Defs, HasValue}
+use Rattle.ap_world.specs.Meaning.{HasValue}
+use Rattle.ap_world.specs.Sound.{Sound}
 use Rattle.ap_world.specs.Units.{Outcome, gives, wide, spent, large, metered}
 use Rattle.ap_types.proofs.KeptHolds.{types_mask}
 use Rattle.ap_eval.proofs.Meant.{metered_means}
-use Rattle.ap_rewrite.specs.Arithmetic.{no_arithmetic, SoundArithmetic}
+use Rattle.ap_rewrite.specs.Arithmetic.{Arithmetic, no_arithmetic, linear_arithmetic, SoundArithmetic}
 use Rattle.ap_rewrite.specs.InWorld.{value_in, most_units, setting_in}
 use Rattle.ap_rewrite.specs.Laws.{WorldIsSoundSetting, InWorldStands}
 use Rattle.ap_rewrite.proofs.RulesStand.{rules_hold}
+use Rattle.ap_rewrite.proofs.ArithmeticSound.{nothing_sound, polynomials_sound}
 use Rattle.ap_rewrite.proofs.RewritingStands.{rewriting_stands}
 
 value_means : (w : Shown) (u : Term) (v : Value) → value_in (metered (function_of w.entries) u [] most_units) ≡ Some v → HasValue (function_of w.entries) u [] (val_of v)
@@ -25,17 +27,6 @@ value_means w u v h = go (metered (function_of w.entries) u [] most_units) refl 
     go spent q h = cc
     go large q h = cc
 
--- arithmetic that decides nothing is right
-pub nothing_decided : (D : Defs) → SoundArithmetic no_arithmetic D
-nothing_decided D = record {
-  literal = λ u s k e h. tt;
-  literal_known = λ u s k. tt;
-  atoms = λ ps ks. tt;
-  bound = λ x m k e v is has. tt;
-  refutes = λ ps h e hs. true≢false (sym h);
-  rules = tt;
-}
-
 pub sound_setting : WorldIsSoundSetting
 sound_setting w h us l sound ground distinct arithmetic = record {
   sound = sound;
@@ -48,6 +39,11 @@ sound_setting w h us l sound ground distinct arithmetic = record {
   value = λ u v k q. value_means w u v q;
 }
 
-pub in_world_stands : InWorldStands
-in_world_stands w h us sound ground distinct =
-    rewriting_stands (setting_in w h us no_arithmetic) (sound_setting w h us no_arithmetic sound ground distinct (nothing_decided (function_of w.entries)))
+pub in_world_stands : (l : Arithmetic) → ((w : Shown) → Sound w.entries → SoundArithmetic l (function_of w.entries)) → InWorldStands l
+in_world_stands l right w h us sound ground distinct = rewriting_stands (setting_in w h us l) (sound_setting w h us l sound ground distinct (right w sound))
+
+pub plain_stands : InWorldStands no_arithmetic
+plain_stands = in_world_stands no_arithmetic (λ w sound. nothing_sound (function_of w.entries))
+
+pub linear_stands : InWorldStands (linear_arithmetic [])
+linear_stands = in_world_stands (linear_arithmetic []) (λ w sound. polynomials_sound (function_of w.entries) sound.total [] tt)

@@ -21,6 +21,7 @@ use Rattle.ap_world.specs.Types.{Has}
 use Rattle.ap_world.specs.Clauses.{not_of}
 use Rattle.ap_world.specs.Sound.{known, is_head}
 use Rattle.ap_world.specs.Recursion.{nil_constant, t_constant}
+use Rattle.ap_world.specs.Ground.{zero_constant}
 use Rattle.ap_world.specs.Theories.{is_enabled}
 use Rattle.ap_world.specs.Facts.{Facts, KnownFacts, FactsHold}
 use Rattle.ap_world.specs.Shapes.{Shape, negation, shape_of}
@@ -31,6 +32,7 @@ use Rattle.ap_world.proofs.Equations.{nil-eq, eq-not_nil, t_isnt_nil, val_of_nil
 use Rattle.ap_world.proofs.Starting.{val_not}
 use Rattle.ap_world.proofs.Shaped.{Says, shape_says}
 use Rattle.ap_world.proofs.Assumed.{Signed, assume_holds}
+use Rattle.ap_poly.specs.Bounds.{lacks}
 use Rattle.ap_kernel.specs.declared.objects.Mode.{Mode}
 use Rattle.ap_kernel.specs.declared.objects.Mode.TheVariants.{Equal, Iff}
 use Rattle.ap_kernel.specs.declared.objects.Sequent.{Sequent}
@@ -49,7 +51,7 @@ use Rattle.ap_kernel.proofs.OpeningStands.{known_subst, open_stands, fold_stands
 use Rattle.ap_rewrite.specs.Rules.{Rule}
 use Rattle.ap_rewrite.specs.Matching.{Pairs}
 use Rattle.ap_rewrite.specs.Settings.{Setting, Place}
-use Rattle.ap_rewrite.specs.Rewriting.{truth_of, constant_in, lacks, is_iff, zero_constant, settled, shaped, unwrapped, negated, run, settle, fits_mode}
+use Rattle.ap_rewrite.specs.Rewriting.{truth_of, constant_in, is_iff, settled, shaped, unwrapped, negated, run, settle, fits_mode}
 use Rattle.ap_rewrite.specs.Holding.{KnownPairs, AgreeUnder, RuleHolds}
 use Rattle.ap_rewrite.specs.SoundSettings.{defs_of, SoundSetting}
 use Rattle.ap_rewrite.proofs.Yields.{When}

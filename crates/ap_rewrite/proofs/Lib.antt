@@ -15,4 +15,6 @@ pub mod LinearStands
 pub mod RewritingStands
 pub mod LiteralsReduce
 pub mod SimplifyingReduces
+pub mod ArithmeticSound
 pub mod InWorldStands
+pub mod Samples

@@ -10,22 +10,23 @@ use Rattle.ap_rewrite.specs.Matching.{Pairs, matched}
 use Rattle.ap_rewrite.specs.Settings.{Setting, Place, Inner}
 use Rattle.ap_rewrite.specs.Relieving.{relieve}
 use Rattle.ap_rewrite.specs.Costs.{Metered}
-use Rattle.ap_rewrite.specs.Arithmetic.{Poly, LinearRule}
+use Rattle.ap_poly.specs.Polynomials.{Polynomial}
+use Rattle.ap_rewrite.specs.Arithmetic.{LinearRule}
 use Rattle.ap_rewrite.specs.Linear.{bounds, given, at_match, at_atoms, with_rules, refuted, or_refuted, then_refuted, less_of, if_refuted, by_pair, by_arithmetic}
 use Rattle.ap_rewrite.proofs.Costs.{metered_known, metered_after, metered_cond}
 use Rattle.ap_rewrite.proofs.RelievingCosts.{AllMetered, metered_relieve}
 
 module _ (S : Setting) (r : Inner) (mr : AllMetered r) (p : Place) where
-  at_match_metered : (g : LinearRule) (ps : List Poly) (o : Option Pairs) → Metered (at_match S r p g ps o)
+  at_match_metered : (g : LinearRule) (ps : List Polynomial) (o : Option Pairs) → Metered (at_match S r p g ps o)
   at_match_metered g ps None = metered_known ps
   at_match_metered g ps (Some s) = metered_after (relieve r p g.hyps s) _ (metered_relieve r mr p g.hyps s) (λ o. metered_known _)
 
-  at_atoms_metered : (g : LinearRule) (xs : List Term) (ps : List Poly) → Metered (at_atoms S r p g xs ps)
+  at_atoms_metered : (g : LinearRule) (xs : List Term) (ps : List Polynomial) → Metered (at_atoms S r p g xs ps)
   at_atoms_metered g [] ps = metered_known ps
   at_atoms_metered g (x ∷ xs) ps = metered_cond _ _ _ (metered_known ps)
       (metered_after (at_match S r p g ps (matched g.trigger x [])) (at_atoms S r p g xs) (at_match_metered g ps (matched g.trigger x [])) (at_atoms_metered g xs))
 
-  with_rules_metered : (gs : List LinearRule) (xs : List Term) (ps : List Poly) → Metered (with_rules S r p gs xs ps)
+  with_rules_metered : (gs : List LinearRule) (xs : List Term) (ps : List Polynomial) → Metered (with_rules S r p gs xs ps)
   with_rules_metered [] xs ps = metered_known ps
   with_rules_metered (g ∷ gs) xs ps = metered_after (at_atoms S r p g xs ps) (with_rules S r p gs xs) (at_atoms_metered g xs ps) (with_rules_metered gs xs)
 

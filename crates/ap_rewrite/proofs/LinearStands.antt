@@ -29,7 +29,10 @@ use Rattle.ap_rewrite.specs.Metered.{By, after}
 use Rattle.ap_rewrite.specs.Matching.{Pairs, matched}
 use Rattle.ap_rewrite.specs.Settings.{Setting, Place, Inner}
 use Rattle.ap_rewrite.specs.Relieving.{relieve}
-use Rattle.ap_rewrite.specs.Arithmetic.{Poly, PolyHolds, PolyKnown, LinearRule, LinearHolds}
+use Rattle.ap_poly.specs.Polynomials.{Polynomial}
+use Rattle.ap_poly.specs.Holding.{PolyHolds}
+use Rattle.ap_poly.specs.Bounds.{PolyKnown}
+use Rattle.ap_rewrite.specs.Arithmetic.{LinearRule, LinearHolds}
 use Rattle.ap_rewrite.specs.Linear.{most_polys, of_facts, bounds, given, with_instance, at_match, at_atoms, with_rules, refuted, or_refuted, then_refuted, by_less, less_of, if_refuted, by_equal, are_integers, by_pair, by_arithmetic}
 use Rattle.ap_rewrite.specs.SoundSettings.{defs_of, SoundSetting}
 use Rattle.ap_rewrite.proofs.Yields.{Yields, When, yields_known, yields_after, yields_cond, yields_same}
@@ -88,14 +91,14 @@ module _ (S : Setting) (H : SoundSetting S) (A : Apply) (ms : Models (defs_of S)
 
   -- polynomials that hold wherever the facts do and the literal has the sign
   module _ (u : Term) (s : Bool) (uk : Known u) where
-    abbrev AllHold : List Poly → Type 0
+    abbrev AllHold : List Polynomial → Type 0
     AllHold ps = (e : Env) → FactsHold (defs_of S) e p.facts → FactHolds (defs_of S) e (u, s) → Each (PolyHolds (defs_of S) e) ps
 
     -- where the answer is yes, nowhere do the facts hold and has the literal the sign
     abbrev pub Never : Bool → Type 0
     Never b = b ≡ true → (e : Env) → FactsHold (defs_of S) e p.facts → FactHolds (defs_of S) e (u, s) → ⊥
 
-    more_holds : (ps : List Poly) (g : LinearRule) (z : Pairs) → LinearHolds (defs_of S) g → KnownPairs (defs_of S) z → known (defs_of S) (subst_of z g.concl) ≡ true
+    more_holds : (ps : List Polynomial) (g : LinearRule) (z : Pairs) → LinearHolds (defs_of S) g → KnownPairs (defs_of S) z → known (defs_of S) (subst_of z g.concl) ≡ true
         → Each (HypHolds S H A ms p.facts z) g.hyps → AllHold ps → AllHold (ps ++ S.arithmetic.of_literal (subst_of z g.concl) g.sign)
     more_holds ps g z holds kz ck hyps all e hs us = each_append (PolyHolds (defs_of S) e) ps (S.arithmetic.of_literal (subst_of z g.concl) g.sign) (all e hs us)
         (H.arithmetic.literal (subst_of z g.concl) g.sign ck e
@@ -106,7 +109,7 @@ module _ (S : Setting) (H : SoundSetting S) (A : Apply) (ms : Models (defs_of S)
         held [] ks hyps = tt
         held (h ∷ ts) ks hyps = ((val A h (replaced A z e), val_is (defs_of S) A ms h ks.0 (replaced A z e), λ n. hyps.0 e hs (val_subst A z h e ∙ n)), held ts ks.1 hyps.1)
 
-    match_stands : (g : LinearRule) → LinearHolds (defs_of S) g → (ps : List Poly) → AllHold ps → (x : Term) → Known x → (o : Option Pairs) → matched g.trigger x [] ≡ o
+    match_stands : (g : LinearRule) → LinearHolds (defs_of S) g → (ps : List Polynomial) → AllHold ps → (x : Term) → Known x → (o : Option Pairs) → matched g.trigger x [] ≡ o
         → Yields AllHold (at_match S r p g ps o)
     match_stands g holds ps all x xk None m = yields_known AllHold ps all
     match_stands g holds ps all x xk (Some z) m =
@@ -118,14 +121,14 @@ module _ (S : Setting) (H : SoundSetting S) (A : Apply) (ms : Models (defs_of S)
         go None q = all
         go (Some y) q = more_holds ps g y holds q.1 (known_subst (defs_of S) y q.1 g.concl holds.concl) (q.2 y (λ w h k. k)) all
 
-    atoms_stand : (g : LinearRule) → LinearHolds (defs_of S) g → (xs : List Term) → Each (λ x. known (defs_of S) x ≡ true) xs → (ps : List Poly) → AllHold ps → Yields AllHold (at_atoms S r p g xs ps)
+    atoms_stand : (g : LinearRule) → LinearHolds (defs_of S) g → (xs : List Term) → Each (λ x. known (defs_of S) x ≡ true) xs → (ps : List Polynomial) → AllHold ps → Yields AllHold (at_atoms S r p g xs ps)
     atoms_stand g holds [] ks ps all = yields_known AllHold ps all
     atoms_stand g holds (x ∷ xs) ks ps all = yields_cond AllHold (nat_le most_polys (length ps)) _ _
         (λ q. yields_known AllHold ps all)
         (λ q. yields_after AllHold AllHold (at_match S r p g ps (matched g.trigger x [])) (at_atoms S r p g xs) (match_stands g holds ps all x ks.0 (matched g.trigger x []) refl)
         (λ qs all. atoms_stand g holds xs ks.1 qs all))
 
-    rules_stand : (gs : List LinearRule) → Each (LinearHolds (defs_of S)) gs → (xs : List Term) → Each (λ x. known (defs_of S) x ≡ true) xs → (ps : List Poly) → AllHold ps → Yields AllHold (with_rules S r p gs xs ps)
+    rules_stand : (gs : List LinearRule) → Each (LinearHolds (defs_of S)) gs → (xs : List Term) → Each (λ x. known (defs_of S) x ≡ true) xs → (ps : List Polynomial) → AllHold ps → Yields AllHold (with_rules S r p gs xs ps)
     rules_stand [] hs xs ks ps all = yields_known AllHold ps all
     rules_stand (g ∷ gs) hs xs ks ps all = yields_after AllHold AllHold (at_atoms S r p g xs ps) (with_rules S r p gs xs) (atoms_stand g hs.0 xs ks ps all)
         (λ qs all. rules_stand gs hs.1 xs ks qs all)

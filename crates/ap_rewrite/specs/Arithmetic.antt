@@ -1,39 +1,18 @@
--- What linear arithmetic hands to rewriting: the polynomials of a literal, their atoms, what a mask says of an atom,
+-- What rewriting takes of linear arithmetic: the polynomials of a literal, their atoms, what a mask says of an atom,
 -- whether polynomials are refuted, and linear rules.
-use Rattle.std.specs.Prelude.{◌≡◌, ℕ, Bool, true, false, ℤ, pos, ◌+ℤ◌, ◌*ℤ◌, ◌≤ℤ◌, List, [], ◌∷◌}
+use Rattle.std.specs.Prelude.{◌≡◌, ℕ, Bool, true, false, List, [], is_some}
 use Rattle.ap_list.specs.Lists.{Each}
 use Rattle.ap_value.specs.declared.symbol.Symbol.{Symbol}
 use Rattle.ap_value.specs.Values.{V}
 use Rattle.ap_term.specs.declared.term.Term.{Term}
-use Rattle.ap_world.specs.Primitives.{int_of}
 use Rattle.ap_world.specs.Types.{Has}
 use Rattle.ap_world.specs.Meaning.{Env, Defs, HasValue, IsHeld, FactHolds}
 use Rattle.ap_world.specs.Sound.{known}
-
--- a constant and integer multiples of terms, its atoms
-pub record Poly : Type 0 where
-  pub constant : ℤ
-  pub parts : List (Term × ℤ)
-
--- its value, where each atom reads as an integer
-abbrev pub parts_value : (Term → ℤ) → List (Term × ℤ) → ℤ
-parts_value r [] = pos 0
-parts_value r (p ∷ ps) = p.1 *ℤ r p.0 +ℤ parts_value r ps
-
-abbrev pub poly_value : (Term → ℤ) → Poly → ℤ
-poly_value r p = p.constant +ℤ parts_value r p.parts
-
--- each term that has a value reads as the integer that it is, any other value as 0
-abbrev pub Reads : Defs → Env → (Term → ℤ) → Type 0
-Reads D e r = (u : Term) (v : V) → HasValue D u e v → r u ≡ int_of v
-
--- under an assignment a polynomial is at least 0
-abbrev pub PolyHolds : Defs → Env → Poly → Type 0
-PolyHolds D e p = (r : Term → ℤ) → Reads D e r → pos 0 ≤ℤ poly_value r p
-
--- its atoms are terms of the world
-abbrev pub PolyKnown : Defs → Poly → Type 0
-PolyKnown D p = Each (λ (q : Term × ℤ). known D q.0 ≡ true) p.parts
+use Rattle.ap_poly.specs.Polynomials.{Polynomial}
+use Rattle.ap_poly.specs.Literals.{of_literal}
+use Rattle.ap_poly.specs.Elimination.{lin}
+use Rattle.ap_poly.specs.Bounds.{PolyKnown, first_atoms, bound}
+use Rattle.ap_poly.specs.Holding.{PolyHolds}
 
 -- a linear rule: where its hypotheses are relieved, its conclusion has the sign; it is tried on atoms that its
 -- trigger matches
@@ -46,19 +25,23 @@ pub record LinearRule : Type 0 where
 
 pub record Arithmetic : Type 0 where
   -- what a term says that isn't nil, or, with the sign false, that is
-  pub of_literal : Term → Bool → List Poly
+  pub of_literal : Term → Bool → List Polynomial
   -- in order of first occurrence
-  pub atoms_of : List Poly → List Term
+  pub atoms_of : List Polynomial → List Term
   -- what an atom's mask says
-  pub bound : Term → ℕ → List Poly
+  pub bound : Term → ℕ → List Polynomial
   -- the polynomials can't all hold
-  pub refutes : List Poly → Bool
+  pub refutes : List Polynomial → Bool
   -- the enabled ones, newest first
   pub rules : List LinearRule
 
 -- arithmetic that decides nothing
 abbrev pub no_arithmetic : Arithmetic
 no_arithmetic = record { of_literal = λ u s. []; atoms_of = λ ps. []; bound = λ x m. []; refutes = λ ps. false; rules = [] }
+
+-- that of polynomials, where a certificate is found, by these rules
+abbrev pub linear_arithmetic : List LinearRule → Arithmetic
+linear_arithmetic gs = record { of_literal = of_literal; atoms_of = first_atoms; bound = bound; refutes = λ ps. is_some (lin ps); rules = gs }
 
 -- a linear rule of terms of the world, whose conclusion has its sign wherever its hypotheses are other than nil
 pub record LinearHolds (D : Defs) (g : LinearRule) : Type 0 where
@@ -71,7 +54,7 @@ pub record LinearHolds (D : Defs) (g : LinearRule) : Type 0 where
 pub record SoundArithmetic (L : Arithmetic) (D : Defs) : Type 0 where
   pub literal : (u : Term) (s : Bool) → known D u ≡ true → (e : Env) → FactHolds D e (u, s) → Each (PolyHolds D e) (L.of_literal u s)
   pub literal_known : (u : Term) (s : Bool) → known D u ≡ true → Each (PolyKnown D) (L.of_literal u s)
-  pub atoms : (ps : List Poly) → Each (PolyKnown D) ps → Each (λ x. known D x ≡ true) (L.atoms_of ps)
+  pub atoms : (ps : List Polynomial) → Each (PolyKnown D) ps → Each (λ x. known D x ≡ true) (L.atoms_of ps)
   pub bound : (x : Term) (m : ℕ) → known D x ≡ true → (e : Env) (v : V) → HasValue D x e v → Has (record { 0 = m }) v → Each (PolyHolds D e) (L.bound x m)
-  pub refutes : (ps : List Poly) → L.refutes ps ≡ true → (e : Env) → Each (PolyHolds D e) ps → ⊥
+  pub refutes : (ps : List Polynomial) → L.refutes ps ≡ true → (e : Env) → Each (PolyHolds D e) ps → ⊥
   pub rules : Each (LinearHolds D) L.rules

@@ -1,9 +1,11 @@
 -- The laws of rewriting, as its public functions of no effect state them.
 use Rattle.std.specs.Prelude.{◌≡◌, ℕ, true, List, [], Option, Some, map}
+use Rattle.ap_list.specs.Lists.{Each}
 use Rattle.ap_value.specs.declared.symbol.Symbol.{Symbol}
 use Rattle.ap_term.specs.declared.term.Term.{Term, Call}
 use Rattle.ap_term.specs.declared.term.Clause.{Clause}
 use Rattle.ap_world.specs.declared.theory.Theory.{Theory}
+use Rattle.ap_world.specs.Meaning.{Defs, Total}
 use Rattle.ap_world.specs.Sound.{known, Sound}
 use Rattle.ap_world.specs.World.{Shown, function_of, are_distinct}
 use Rattle.ap_world.specs.Facts.{KnownFacts}
@@ -12,7 +14,7 @@ use Rattle.ap_kernel.specs.Standing.{HasGround, Holds}
 use Rattle.ap_kernel.specs.Reductions.{KnownClause, Follows}
 use Rattle.ap_rewrite.specs.Metered.{first_that}
 use Rattle.ap_rewrite.specs.Costs.{Metered}
-use Rattle.ap_rewrite.specs.Arithmetic.{Arithmetic, no_arithmetic, SoundArithmetic}
+use Rattle.ap_rewrite.specs.Arithmetic.{LinearRule, Arithmetic, no_arithmetic, linear_arithmetic, LinearHolds, SoundArithmetic}
 use Rattle.ap_rewrite.specs.Settings.{Setting, Place, Inner}
 use Rattle.ap_rewrite.specs.Rewriting.{try_rule, by_rules, rewrite_to}
 use Rattle.ap_rewrite.specs.Literals.{rewrite_literals, rewritten_to, simplify_of}
@@ -54,9 +56,16 @@ abbrev pub WorldIsSoundSetting : Type 0
 WorldIsSoundSetting = (w : Shown) (h : Theory) (us : List Term) (l : Arithmetic) → Sound w.entries → HasGround (function_of w.entries) → are_distinct w.entries ≡ true
     → SoundArithmetic l (function_of w.entries) → SoundSetting (setting_in w h us l)
 
+-- arithmetic is right in a total world, that which decides nothing and that of polynomials
+abbrev pub NothingIsSound : Type 0
+NothingIsSound = (D : Defs) → SoundArithmetic no_arithmetic D
+
+abbrev pub PolynomialsAreSound : Type 0
+PolynomialsAreSound = (D : Defs) → Total D → (gs : List LinearRule) → Each (LinearHolds D) gs → SoundArithmetic (linear_arithmetic gs) D
+
 -- so what rewriting answers in such a world stands, with nothing else assumed
-abbrev pub InWorldStands : Type 0
-InWorldStands = (w : Shown) (h : Theory) (us : List Term) → Sound w.entries → HasGround (function_of w.entries) → are_distinct w.entries ≡ true
+abbrev pub InWorldStands : Arithmetic → Type 0
+InWorldStands l = (w : Shown) (h : Theory) (us : List Term) → Sound w.entries → HasGround (function_of w.entries) → are_distinct w.entries ≡ true
     → (d : ℕ) (o : Mode) (p : Place) (u : Term) (n : ℕ) (v : Term) (m : ℕ) → KnownFacts (function_of w.entries) p.facts → known (function_of w.entries) u ≡ true
-    → rewrite_to (setting_in w h us no_arithmetic) d o p u n ≡ Some (v, m)
+    → rewrite_to (setting_in w h us l) d o p u n ≡ Some (v, m)
     → Holds (function_of w.entries) (record { ctx = record { 0 = p.facts }; mode = o; lhs = u; rhs = v })

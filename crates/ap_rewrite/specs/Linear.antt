@@ -1,6 +1,6 @@
--- Linear arithmetic within rewriting: what is refuted, and what that decides. Of polynomials it knows what a literal
--- gives, which atoms stand in some, what a mask bounds, and whether a list is refuted.
-use Rattle.std.specs.Prelude.{ℕ, nat_le, nat_eq, Bool, true, false, cond, not, ◌&&◌, List, [], ◌∷◌, ◌++◌, take, length, Option, Some, None, bit_and}
+-- Linear arithmetic within rewriting: what is refuted, and what that decides. Of polynomials it knows what the
+-- setting's arithmetic says.
+use Rattle.std.specs.Prelude.{ℕ, nat_le, Bool, true, false, cond, not, ◌&&◌, List, [], ◌∷◌, ◌++◌, take, length, Option, Some, None}
 use Rattle.ap_value.specs.declared.symbol.Symbol.{Symbol}
 use Rattle.ap_term.specs.declared.term.Term.{Term, Call}
 use Rattle.ap_term.specs.Terms.{subst_of}
@@ -12,7 +12,9 @@ use Rattle.ap_world.specs.Facts.{Facts}
 use Rattle.ap_kernel.specs.Equations.{truth_constant}
 use Rattle.ap_rewrite.specs.Metered.{By, known, after}
 use Rattle.ap_rewrite.specs.Matching.{Pairs, matched}
-use Rattle.ap_rewrite.specs.Arithmetic.{Poly, LinearRule}
+use Rattle.ap_poly.specs.Polynomials.{Polynomial}
+use Rattle.ap_poly.specs.Bounds.{lacks}
+use Rattle.ap_rewrite.specs.Arithmetic.{LinearRule}
 use Rattle.ap_rewrite.specs.Settings.{Setting, Place, Inner}
 use Rattle.ap_rewrite.specs.Relieving.{relieve}
 
@@ -36,39 +38,39 @@ if_refuted true k = k
 if_refuted false k = known false
 
 module _ (S : Setting) where
-  abbrev pub of_facts : Facts → List Poly
+  abbrev pub of_facts : Facts → List Polynomial
   of_facts [] = []
   of_facts (f ∷ fs) = S.arithmetic.of_literal f.0 f.1 ++ of_facts fs
 
-  abbrev pub bounds : Facts → List Term → List Poly
+  abbrev pub bounds : Facts → List Term → List Polynomial
   bounds fs [] = []
   bounds fs (x ∷ xs) = S.arithmetic.bound x (S.types fs x) ++ bounds fs xs
 
-  abbrev pub given : Facts → Term → Bool → List Poly
+  abbrev pub given : Facts → Term → Bool → List Polynomial
   given fs u s = S.arithmetic.of_literal u s ++ of_facts fs
 
   -- a rule at an atom that its trigger matches
-  abbrev pub with_instance : LinearRule → List Poly → Option Pairs → List Poly
+  abbrev pub with_instance : LinearRule → List Polynomial → Option Pairs → List Polynomial
   with_instance g ps None = ps
   with_instance g ps (Some s) = ps ++ S.arithmetic.of_literal (subst_of s g.concl) g.sign
 
   abbrev pub are_integers : Facts → Term → Term → Bool
-  are_integers fs a b = nat_eq (bit_and (S.types fs a) 1016) 0 && nat_eq (bit_and (S.types fs b) 1016) 0
+  are_integers fs a b = lacks (S.types fs a) 1016 && lacks (S.types fs b) 1016
 
   module _ (r : Inner) (p : Place) where
-    abbrev pub at_match : LinearRule → List Poly → Option Pairs → By (List Poly)
+    abbrev pub at_match : LinearRule → List Polynomial → Option Pairs → By (List Polynomial)
     at_match g ps None n = known ps n
     at_match g ps (Some s) n = after (relieve r p g.hyps s n) (λ o. known (with_instance g ps o))
 
-    abbrev pub at_atoms : LinearRule → List Term → List Poly → By (List Poly)
+    abbrev pub at_atoms : LinearRule → List Term → List Polynomial → By (List Polynomial)
     at_atoms g [] ps n = known ps n
     at_atoms g (x ∷ xs) ps n = cond (nat_le most_polys (length ps)) (known ps n) (after (at_match g ps (matched g.trigger x []) n) (at_atoms g xs))
 
-    abbrev pub with_rules : List LinearRule → List Term → List Poly → By (List Poly)
+    abbrev pub with_rules : List LinearRule → List Term → List Polynomial → By (List Polynomial)
     with_rules [] xs ps n = known ps n
     with_rules (g ∷ gs) xs ps n = after (at_atoms g xs ps n) (with_rules gs xs)
 
-    abbrev pub from_given : List Poly → List Term → By Bool
+    abbrev pub from_given : List Polynomial → List Term → By Bool
     from_given ps xs n = after (with_rules S.arithmetic.rules xs (ps ++ bounds p.facts xs) n) (λ qs. known (S.arithmetic.refutes (take most_polys qs)))
 
     -- whether the literal that the term has this sign is refuted

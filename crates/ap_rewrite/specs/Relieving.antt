@@ -1,5 +1,5 @@
 -- The hypotheses of a rule, and how each is relieved.
-use Rattle.std.specs.Prelude.{ℕ, nat_lt, Bool, true, false, cond, not, List, [], ◌∷◌, Option, Some, None}
+use Rattle.std.specs.Prelude.{ℕ, nat_lt, Bool, true, false, cond, List, [], ◌∷◌, Option, Some, None}
 use Rattle.ap_term.specs.declared.term.Term.{Term}
 use Rattle.ap_term.specs.Terms.{subst_of}
 use Rattle.ap_world.specs.Facts.{Facts}

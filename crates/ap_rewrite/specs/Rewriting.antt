@@ -1,10 +1,9 @@
 -- Rewriting a term: one definition for each thing that is tried, and the level above it.
-use Rattle.std.specs.Prelude.{ℕ, zero, suc, nat_le, nat_eq, Bool, true, false, cond, not, ◌&&◌, ◌||◌, pos, List, [], ◌∷◌, map, Option, Some, None, unwrap_or, bit_and, is_some}
+use Rattle.std.specs.Prelude.{ℕ, zero, suc, nat_le, Bool, true, false, cond, not, ◌&&◌, ◌||◌, List, [], ◌∷◌, map, Option, Some, None, unwrap_or, is_some}
 use Rattle.std.specs.Option.{option_map}
 use Rattle.ap_list.specs.Lists.{is_among}
 use Rattle.ap_value.specs.declared.symbol.Symbol.{Symbol}
 use Rattle.ap_value.specs.declared.value.Value.{Value}
-use Rattle.ap_value.specs.declared.value.Value.TheVariants.{Int}
 use Rattle.ap_value.specs.Values.{symbol_eq, val_of, value_eq}
 use Rattle.ap_term.specs.declared.term.Term.{Term, Call, Quote, out-Term, para-Term}
 use Rattle.ap_term.specs.declared.term.Term.TheOpen.{Term-F}
@@ -16,10 +15,12 @@ use Rattle.ap_world.specs.declared.theory.Rune.TheVariants as rune
 use Rattle.ap_world.specs.Primitives.{nil}
 use Rattle.ap_world.specs.Clauses.{not_of}
 use Rattle.ap_world.specs.Recursion.{nil_constant, t_constant}
+use Rattle.ap_world.specs.Ground.{zero_constant}
 use Rattle.ap_world.specs.Theories.{is_enabled}
 use Rattle.ap_world.specs.Facts.{Facts}
 use Rattle.ap_world.specs.Shapes.{Shape, constant, choice, negation, shape_of, layer_shape}
 use Rattle.ap_world.specs.Assume.{whole}
+use Rattle.ap_poly.specs.Bounds.{lacks}
 use Rattle.ap_kernel.specs.declared.objects.Mode.{Mode}
 use Rattle.ap_kernel.specs.declared.objects.Mode.TheVariants.{Equal, Iff}
 use Rattle.ap_kernel.specs.Choices.{bare, is_truth, if_shape}
@@ -56,17 +57,11 @@ abbrev pub constant_in : Mode → Value → Term
 constant_in Equal v = Quote v
 constant_in Iff v = cond (value_eq (val_of v) nil) (Quote v) t_constant
 
--- what a mask settles: nothing but nil, t or 0 is left, or under iff not nil
-abbrev pub lacks : ℕ → ℕ → Bool
-lacks m types = nat_eq (bit_and m types) 0
-
 abbrev pub is_iff : Mode → Bool
 is_iff Equal = false
 is_iff Iff = true
 
-abbrev pub zero_constant : Term
-zero_constant = Quote (Int (pos 0))
-
+-- what a mask settles: nothing but nil, t or 0 is left, or under iff not nil
 abbrev pub by_mask : Mode → ℕ → Option Term
 by_mask o m =
     cond (is_iff o && lacks m 8) (Some t_constant)

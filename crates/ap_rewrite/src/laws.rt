@@ -1,5 +1,7 @@
 //! What is proved of rewriting, each the contract of a function that does nothing.
-ghost use Rattle.ap_rewrite.specs.Laws.{RewritingIsMetered, LiteralsAreMetered, SearchByHead, RewritingStands, LiteralsReduce, SimplifyingReduces, WorldIsSoundSetting, InWorldStands};
+ghost use Rattle.std.specs.Prelude.{[]};
+ghost use Rattle.ap_rewrite.specs.Arithmetic.{no_arithmetic, linear_arithmetic};
+ghost use Rattle.ap_rewrite.specs.Laws.{RewritingIsMetered, LiteralsAreMetered, SearchByHead, RewritingStands, LiteralsReduce, SimplifyingReduces, WorldIsSoundSetting, NothingIsSound, PolynomialsAreSound, InWorldStands};
 
 /// What a rewriting costs doesn't depend on the steps that are left: with more steps it is the same, with fewer
 /// than it costs it runs out. So it is for a term, and for the literals of a clause.
@@ -29,10 +31,18 @@ pub fn simplifying_reduces()
     ensures { SimplifyingReduces }
 {}
 
+/// Arithmetic that decides nothing is right, and so is that of polynomials in a total world, by linear rules that
+/// hold.
+pub fn arithmetic_is_sound()
+    ensures nothing { NothingIsSound }
+    ensures polynomials { PolynomialsAreSound }
+{}
+
 /// In a sound world with the ground functions, whose names are distinct, the world's own rules, definitions and
 /// masks, and the values that running gives, are right: so what rewriting answers there stands, with nothing else
-/// assumed.
+/// assumed, without arithmetic and with that of polynomials.
 pub fn in_world_stands()
     ensures setting { WorldIsSoundSetting }
-    ensures stands { InWorldStands }
+    ensures plain { InWorldStands no_arithmetic }
+    ensures linear { InWorldStands (linear_arithmetic []) }
 {}
