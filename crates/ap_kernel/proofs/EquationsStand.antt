@@ -9,7 +9,7 @@ use Rattle.ap_term.specs.declared.term.Term.{Term, Quote}
 use Rattle.ap_term.specs.Equal.{term_eq}
 use Rattle.ap_term.proofs.Equals.{term_eq-true}
 use Rattle.ap_world.specs.Names.{equal_name, cons_name}
-use Rattle.ap_world.specs.Primitives.{nil, t, truth}
+use Rattle.ap_world.specs.Primitives.{nil, truth}
 use Rattle.ap_world.specs.Meaning.{Env, Defs, Total, FactHolds}
 use Rattle.ap_world.specs.Sound.{known}
 use Rattle.ap_world.specs.Recursion.{nil_constant, t_constant}
@@ -17,7 +17,7 @@ use Rattle.ap_world.specs.Facts.{Facts, KnownFacts, FactsHold}
 use Rattle.ap_world.specs.Shapes.{Shape, constant, equation, pair, shape_of}
 use Rattle.ap_world.proofs.Knowing.{known_by, known_quote, known_args, each_true, true_each}
 use Rattle.ap_world.proofs.TotalMeaning.{Apply, Models, models, val, val_quote}
-use Rattle.ap_world.proofs.Equations.{val_if, val_equal, val_cons, val_of_nil, val_of_t, t-not_nil, t_isnt_nil, prim_of_equal}
+use Rattle.ap_world.proofs.Equations.{val_if, val_equal, val_cons, val_nil_constant, val_t_constant, t-not_nil, t_isnt_nil, prim_of_equal}
 use Rattle.ap_world.proofs.Shaped.{Says, shape_says}
 use Rattle.ap_world.proofs.Assumed.{Signed, fact_says}
 use Rattle.ap_kernel.specs.declared.objects.Ctx.{Ctx}
@@ -53,12 +53,6 @@ both_truths false y = sym (ap (λ b. cond b nil (truth y)) (value_eq-same nil))
 cons_truth : (a b c d : V) → truth (value_eq (cons a b) (cons c d)) ≡ cond (value_eq (truth (value_eq a c)) nil) nil (truth (value_eq b d))
 unfolding value_eq
 cons_truth a b c d = both_truths (value_eq a c) (value_eq b d)
-
-pub val_nil_constant : (A : Apply) (e : Env) → val A nil_constant e ≡ nil
-val_nil_constant A e = val_quote A _ e ∙ val_of_nil
-
-pub val_t_constant : (A : Apply) (e : Env) → val A t_constant e ≡ t
-val_t_constant A e = val_quote A _ e ∙ val_of_t
 
 pub val_truth_constant : (A : Apply) (s : Bool) (e : Env) → val A (truth_constant s) e ≡ truth s
 val_truth_constant A true e = val_t_constant A e

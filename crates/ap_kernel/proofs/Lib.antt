@@ -10,3 +10,5 @@ pub mod Splitting
 pub mod Tidied
 pub mod Solved
 pub mod OpeningStands
+pub mod PartsFound
+pub mod ApplyingStands

@@ -1,9 +1,9 @@
 -- Whether two terms are one, as a test, and whether a term is an equation of two terms.
-use Rattle.std.proofs.Common.{◌≡◌, ◌↔◌, IsTrue, Bool, true, false, ◌&&◌, true≢false, [], ◌∷◌, refl, ap, sym, ◌∙◌, subst, Bor}
+use Rattle.std.proofs.Common.{◌≡◌, Bool, true, false, ◌&&◌, true≢false, [], ◌∷◌, refl, ap, sym, ◌∙◌, Bor}
 use Rattle.ap_value.proofs.Equals.{both, and_true}
 use Rattle.ap_term.specs.declared.term.Term.{Term}
 use Rattle.ap_term.specs.Equal.{term_eq}
-use Rattle.ap_term.proofs.Equals.{term_eq-true, term_eq-same}
+use Rattle.ap_term.proofs.Equals.{term_eq-true, term_eq-is, tests_same}
 use Rattle.ap_world.specs.Names.{equal_name}
 use Rattle.ap_world.specs.Shapes.{Shape, constant, choice, negation, equation, pair, other, head_of, call_shape, shape_of, equal_head}
 use Rattle.ap_world.proofs.Equations.{names_open}
@@ -12,19 +12,6 @@ use Rattle.ap_kernel.specs.declared.shapes.ShapeRef.{ShapeRef}
 use Rattle.ap_kernel.specs.declared.shapes.ShapeRef.TheVariants as lent
 use Rattle.ap_kernel.specs.Shapes.{seen}
 use Rattle.ap_kernel.specs.Equations.{equal_of}
-
--- two tests are one where each is true with the other
-pub tests_same : (p q : Bool) → (p ≡ true → q ≡ true) → (q ≡ true → p ≡ true) → p ≡ q
-tests_same true q h k = sym (h refl)
-tests_same false true h k = k refl
-tests_same false false h k = refl
-
-pub term_eq-is : (a b : Term) → a ≡ b → term_eq a b ≡ true
-term_eq-is a b h = subst (λ c. term_eq a c ≡ true) h (term_eq-same a)
-
--- a test that tells whether two terms are one
-pub same_is : (r : Bool) (a b : Term) → (IsTrue r ↔ (a ≡ b)) → r ≡ term_eq a b
-same_is r a b h = tests_same r (term_eq a b) (λ p. term_eq-is a b (h.0 p)) (λ q. h.1 (term_eq-true a b q))
 
 head_equal : head_of equal_name ≡ equal_head
 unfolding head_of names_open

@@ -1,6 +1,5 @@
 -- A variable replaced by what it equals: the values stay.
 use Rattle.std.proofs.Common.{◌≡◌, ◌≢◌, ℕ, Bool, true, false, cond, List, [], ◌∷◌, map, Option, Some, None, slice_get, unwrap_or, ◌⊎◌, inl, inr, refl, ap, sym, ◌∙◌, subst}
-use Rattle.std.proofs.Math.ListN.{length-map}
 use Rattle.ap_list.specs.Lists.{Each, lookup_by}
 use Rattle.ap_value.specs.declared.symbol.Symbol.{Symbol}
 use Rattle.ap_value.specs.declared.value.Value.{Value}
@@ -10,15 +9,15 @@ use Rattle.ap_term.specs.declared.term.Term.{Term, out-Term, roll-Term, roll-out
 use Rattle.ap_term.specs.declared.term.Term.TheOpen.{Term-F}
 use Rattle.ap_term.specs.declared.term.Term.TheVariants.{rolls-Var}
 use Rattle.ap_term.specs.declared.term.Clause.{Clause}
-use Rattle.ap_term.specs.Terms.{subst_step, subst_of}
-use Rattle.ap_term.proofs.Induction.{term_ind, fold_var, fold_quote, fold_call}
+use Rattle.ap_term.specs.Terms.{subst_of}
+use Rattle.ap_term.proofs.Induction.{term_ind}
 use Rattle.ap_world.specs.Names.{not_name, equal_name}
 use Rattle.ap_world.specs.Primitives.{nil, truth, prim_of}
 use Rattle.ap_world.specs.Meaning.{Env, value_at, Defs, Total}
 use Rattle.ap_world.specs.Clauses.{not_of}
 use Rattle.ap_world.specs.Sound.{known}
 use Rattle.ap_world.specs.Shapes.{Shape, negation, equation, shape_of}
-use Rattle.ap_world.proofs.Knowing.{known_var, known_quote, known_by, known_args, known_head, each_true, true_each}
+use Rattle.ap_world.proofs.Knowing.{known_args, each_true}
 use Rattle.ap_world.proofs.TotalMeaning.{Apply, Models, val, values_of, val_var, val_quote, val_call, head_val, replaced, val_subst, AnyTrue}
 use Rattle.ap_world.proofs.Equations.{val_equal, eq-not_nil, t_isnt_nil}
 use Rattle.ap_world.proofs.Starting.{val_not}
@@ -32,7 +31,7 @@ use Rattle.ap_kernel.specs.Solving.{occurs, side_solved, left_first, sides_solve
 use Rattle.ap_kernel.proofs.Typed.{each_at}
 use Rattle.ap_kernel.proofs.Reduced.{each_put, any_others, any_at, to_one_reduces}
 use Rattle.ap_kernel.proofs.Splitting.{then_some}
-use Rattle.ap_kernel.proofs.OpeningStands.{known_subst}
+use Rattle.ap_world.proofs.Instances.{known_subst}
 
 -- assignments that give each variable the same value give each term the same value
 alike : (A : Apply) (d e : Env) → ((x : Symbol) → value_at d x ≡ value_at e x) → (u : Term) → val A u d ≡ val A u e

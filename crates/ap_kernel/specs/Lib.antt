@@ -10,4 +10,5 @@ pub mod Splits
 pub mod Tidying
 pub mod Solving
 pub mod Opening
+pub mod Applying
 pub mod Laws

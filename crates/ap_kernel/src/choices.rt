@@ -12,11 +12,10 @@ ghost use Rattle.ap_kernel.specs.Choices.{bare, bare_test, is_t_constant, is_tru
 use crate::assuming::is_constant;
 use crate::calls::if_term;
 use crate::constants::{is_nil, is_t, not_symbol};
-use crate::equations::is_same;
 use crate::objects::{Ctx, Equiv, Mode};
 use crate::shapes::{ShapeRef, shape_of};
 use ap_list::{NoMemory, Seq};
-use ap_term::{Term, copy_term};
+use ap_term::{Term, copy_term, is_same};
 use ap_world::{Mask, World};
 use std::alloc::Global;
 

@@ -13,7 +13,7 @@ use crate::constants::{equal_symbol, nil_term, t_term};
 use crate::objects::{Ctx, Equiv, Mode};
 use crate::shapes::{ShapeRef, shape_of};
 use ap_list::{NoMemory, Seq};
-use ap_term::{Term, copy_term, same_term};
+use ap_term::{Term, copy_term, is_same};
 use ap_value::{Value, copy};
 use ap_world::World;
 use std::alloc::Global;
@@ -30,13 +30,6 @@ enum Parts<'a> {
 enum Leads<'a> {
     Truth(bool),
     Apart(Parts<'a>, Parts<'a>),
-}
-
-/// Whether two terms are one, as the test that definitions choose by. Takes no memory.
-pub fn is_same(a: &Term, b: &Term) -> bool
-    ensures { result ≡ term_eq a.now b.now }
-{
-    same_term(a, b)
 }
 
 /// Whether a term is `(equal a b)`. Takes no memory.

@@ -22,7 +22,7 @@
 //! | [`cons_equal`] | an equation to what its sides, a fact or the parts of conses say | the equation, and the conses' parts |
 //! | [`if_shape`] | an `if` to the branch that is chosen, or to its simplest shape | the `if`, and what the right side has of it |
 //! | [`open_def`] | a call of a defined function to its body's instance | the formals' names |
-//! | `apply_theorem` | the instance of a theorem's left side to that of its right side | not built yet |
+//! | [`apply_theorem`] | the instance of a theorem's left side to that of its right side | the heads of the instances |
 //! | [`fold`] | a call on constants to its value | nothing |
 //! | `by_certificate`, `both_not_less` | an inequality or an equation to `'T` or `'NIL` | not built yet |
 //!
@@ -54,12 +54,14 @@
 //! [`assume`] gives the facts that a term's truth or falsehood adds to a context, [`others_false`] those under
 //! which a clause's literal is rewritten. [`equation_leads`] and [`is_choice`] test what [`cons_equal`] and
 //! [`if_shape`] ask of a term, [`can_open`] and [`is_constant_call`] what [`open_def`] and [`fold`] do,
-//! [`is_choice_in`] and [`is_solvable`] what [`split_if`] and [`use_equality`] ask of a literal, and
-//! [`bare_test`] finds the term whose mask [`if_shape`] is handed. A [`TypeOracle`] says which types a term
-//! can have. [`shape_of`] tells a term by its head, its parts lent; what terms the rows build, others build by
-//! the same calls ([`if_term`], [`not_term`], [`equal_term`], [`negated`], [`subst`]).
+//! [`are_relieved`] what [`apply_theorem`] does, [`is_choice_in`] and [`is_solvable`] what [`split_if`] and
+//! [`use_equality`] ask of a literal, and [`bare_test`] finds the term whose mask [`if_shape`] is handed. A
+//! [`TypeOracle`] says which types a term can have. [`shape_of`] tells a term by its head, its parts lent;
+//! what terms the rows build, others build by the same calls ([`if_term`], [`not_term`], [`equal_term`],
+//! [`negated`], [`subst`]).
 #![tactic(auto)]
 
+mod applying;
 mod assuming;
 mod calls;
 mod chaining;
@@ -67,12 +69,13 @@ mod choices;
 mod constants;
 mod equations;
 mod facts;
-mod instance;
 mod literals;
 mod objects;
 mod opening;
+mod parts;
 mod plain;
 mod reductions;
+mod relieving;
 mod shapes;
 mod solving;
 mod splits;
@@ -80,9 +83,10 @@ mod tidying;
 mod types;
 
 pub use ap_list::{NoMemory, Seq, Shared};
-pub use ap_term::{Clause, Term};
+pub use ap_term::{Clause, Subst, Term, is_same, is_symbol, pairs_of, subst, subst_all};
 pub use ap_value::{Symbol, Value};
 pub use ap_world::{Mask, World};
+pub use applying::{apply_theorem, has_part};
 pub use assuming::{all_false, assume, assumed_facts_hold, is_constant, others_false};
 pub use calls::{branch, cong, if_term};
 pub use chaining::chain;
@@ -90,16 +94,17 @@ pub use choices::{bare_test, if_shape, is_choice, not_term};
 pub use constants::{
     equal_symbol, if_symbol, is_acl2, is_nil, is_nil_term, is_t, nil_term, not_symbol, t_term,
 };
-pub use equations::{cons_equal, equal_term, equation_leads, is_same, truth_term};
+pub use equations::{cons_equal, equal_term, equation_leads, truth_term};
 pub use facts::by_fact;
-pub use instance::{pairs_of, subst, subst_all};
 pub use literals::{drop_literal, put_at, rewrite_literal};
 pub use objects::{Ctx, Equiv, Mode, Sequent};
 pub use opening::{can_open, fold, is_constant_call, open_def};
+pub use parts::{conclusion, conclusion_part, hypotheses, is_iff};
 pub use plain::{refl, trans, weaken_mode};
 pub use reductions::{Inference, Reduction};
+pub use relieving::are_relieved;
 pub use shapes::{Head, ShapeRef, head_of, is_equal, is_if, is_implies, is_not, shape_of};
-pub use solving::{is_solvable, is_symbol, use_equality};
+pub use solving::{is_solvable, use_equality};
 pub use splits::{is_choice_in, negated, split_if};
 pub use tidying::{is_among, tidy};
 pub use types::{TypeOracle, by_type};

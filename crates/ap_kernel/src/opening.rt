@@ -10,10 +10,9 @@ ghost use Rattle.ap_kernel.specs.Standing.{Stands};
 ghost use Rattle.ap_kernel.specs.Equations.{equation_made};
 ghost use Rattle.ap_kernel.specs.Opening.{opened, is_quoted, is_constant_call};
 
-use crate::instance::{pairs_of, subst};
 use crate::objects::{Ctx, Equiv, Mode};
 use ap_list::NoMemory;
-use ap_term::{Term, copy_term};
+use ap_term::{Term, copy_term, pairs_of, subst};
 use ap_value::Value;
 use ap_world::World;
 use std::alloc::Global;
@@ -74,7 +73,7 @@ fn opened(alloc: Global, w: &World, t: &Term) -> Result<Option<Term>, NoMemory>
         return Ok(None);
     };
     let pairs = pairs_of(alloc, function.formals.as_slice(), ts.as_slice())?;
-    Ok(Some(subst(alloc, &function.body, pairs.as_slice())?))
+    Ok(Some(subst(alloc, &function.body, &pairs)?))
 }
 
 /// From a call of a defined function, under equality, to its body with the arguments for the formals. It

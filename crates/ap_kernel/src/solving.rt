@@ -1,28 +1,19 @@
 ghost use Rattle.std.specs.Prelude.{◌≡◌, IfOk, IsTrue, is_some, map, Some};
 ghost use Rattle.std.specs.Option.{option_map};
-ghost use Rattle.ap_value.specs.Values.{symbol_eq};
 ghost use Rattle.ap_term.specs.declared.term.Term.{out-Term};
 ghost use Rattle.ap_world.specs.World.{function_of};
 ghost use Rattle.ap_kernel.specs.Standing.{HasGround};
 ghost use Rattle.ap_kernel.specs.Reductions.{KnownClause, Reduces, to_one};
 ghost use Rattle.ap_kernel.specs.Solving.{any_true, occurs, side_solved, sides_solved, solved_by, solved_made};
 
-use crate::instance::subst_all;
 use crate::literals::{put_at, to_one};
 use crate::reductions::Reduction;
 use crate::shapes::{ShapeRef, shape_of};
 use ap_list::{NoMemory, Seq};
-use ap_term::{Clause, Term, copy_term};
+use ap_term::{Clause, Subst, Term, copy_term, is_symbol, subst_all};
 use ap_value::{Symbol, copy_symbol};
 use ap_world::World;
 use std::alloc::Global;
-
-/// Whether two symbols are one, as the test that definitions choose by. Takes no memory.
-pub fn is_symbol(a: &Symbol, b: &Symbol) -> bool
-    ensures { result ≡ symbol_eq a.now b.now }
-{
-    a.keyword == b.keyword && a.name.as_slice() == b.name.as_slice()
-}
 
 /// Whether a variable occurs in a term. Takes no memory.
 #[cycle(occurring)]
@@ -111,7 +102,7 @@ fn solved_literals(alloc: Global, c: &Clause, index: usize) -> Result<Option<Seq
     let others = put_at(alloc, c.0.as_slice(), index, Seq::new(alloc))?;
     let mut pair = Seq::new(alloc);
     pair.push((copy_symbol(alloc, x)?, copy_term(alloc, by)?))?;
-    Ok(Some(subst_all(alloc, others.as_slice(), pair.as_slice())?))
+    Ok(Some(subst_all(alloc, others.as_slice(), &Subst(pair))?))
 }
 
 /// From a clause to the clause without the literal at a place, the negation of an equation, and with a

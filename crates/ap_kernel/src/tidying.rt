@@ -10,11 +10,11 @@ ghost use Rattle.ap_kernel.specs.Tidying.{negated_bare, plain, tidied, is_oppose
 use crate::assuming::is_constant;
 use crate::choices::{bare, not_term};
 use crate::constants::is_nil;
-use crate::equations::{is_same, truth_term};
+use crate::equations::truth_term;
 use crate::reductions::Reduction;
 use crate::shapes::{ShapeRef, shape_of};
 use ap_list::{NoMemory, Seq};
-use ap_term::{Clause, Term, copy_term};
+use ap_term::{Clause, Term, copy_term, is_same};
 use ap_world::World;
 use std::alloc::Global;
 

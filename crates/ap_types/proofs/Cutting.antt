@@ -30,7 +30,7 @@ use Rattle.ap_world.proofs.Assumed.{Signed, fact_says}
 use Rattle.ap_world.proofs.Sets.{In, in_own, all_in, in_both, in_without, one_or_none, meets_own, recognises, nil_recognised, without_recognised, signed_in}
 use Rattle.ap_world.proofs.Recognising.{TrueLists, tests, recognised_tested, negatives_recognised, positives_recognised}
 use Rattle.ap_kernel.specs.Standing.{HasGround}
-use Rattle.ap_kernel.proofs.SameTerms.{tests_same}
+use Rattle.ap_term.proofs.Equals.{tests_same}
 use Rattle.ap_types.proofs.RowsHold.{same_kind, kinds_apart}
 
 -- the sign of a test's value
