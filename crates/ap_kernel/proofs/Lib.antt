@@ -12,3 +12,4 @@ pub mod Solved
 pub mod OpeningStands
 pub mod PartsFound
 pub mod ApplyingStands
+pub mod NegationsStand
