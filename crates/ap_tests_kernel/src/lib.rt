@@ -8,6 +8,8 @@ mod kernel;
 #[cfg(test)]
 mod known;
 #[cfg(test)]
+mod matches;
+#[cfg(test)]
 mod splitting;
 #[cfg(test)]
 mod tables;
