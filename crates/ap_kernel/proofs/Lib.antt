@@ -13,3 +13,4 @@ pub mod OpeningStands
 pub mod PartsFound
 pub mod ApplyingStands
 pub mod LinearStands
+pub mod NegationsStand

@@ -81,6 +81,10 @@ is_choice y = false
 abbrev pub choice_made : Ctx → Mode → Term → Mask → Sequent
 choice_made c o u m = record { ctx = c; mode = o; lhs = u; rhs = choice_leads (is_truth o m) u (shape_of u) }
 
+-- two calls of `not` taken off
+abbrev pub double_not_made : Ctx → Mode → Term → Sequent
+double_not_made c o z = record { ctx = c; mode = o; lhs = not_of (not_of z); rhs = z }
+
 -- where it leads, as it is lent
 abbrev pub seen_chosen : Chosen → Term
 seen_chosen (lent.One a) = a.now

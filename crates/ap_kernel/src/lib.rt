@@ -21,6 +21,7 @@
 //! | [`by_type`] | a term to the one value that its mask leaves | the term |
 //! | [`cons_equal`] | an equation to what its sides, a fact or the parts of conses say | the equation, and the conses' parts |
 //! | [`if_shape`] | an `if` to the branch that is chosen, or to its simplest shape | the `if`, and what the right side has of it |
+//! | [`double_not`] | a term under two calls of `not` to the term | the term, once for each side |
 //! | [`open_def`] | a call of a defined function to its body's instance | the formals' names |
 //! | [`apply_theorem`] | the instance of a theorem's left side to that of its right side | the heads of the instances |
 //! | [`fold`] | a call on constants to its value | nothing |
@@ -73,6 +74,7 @@ mod equations;
 mod facts;
 mod linear;
 mod literals;
+mod negations;
 mod objects;
 mod opening;
 mod parts;
@@ -101,6 +103,7 @@ pub use equations::{cons_equal, equal_term, equation_leads, truth_term};
 pub use facts::by_fact;
 pub use linear::{LinearOracle, both_not_less, by_certificate, is_comparison};
 pub use literals::{drop_literal, put_at, rewrite_literal};
+pub use negations::double_not;
 pub use objects::{Ctx, Equiv, Mode, Sequent};
 pub use opening::{can_open, fold, is_constant_call, open_def};
 pub use parts::{conclusion, conclusion_part, hypotheses, is_iff};

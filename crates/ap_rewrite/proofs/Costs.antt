@@ -1,7 +1,7 @@
 -- What is done with answers by steps keeps that their cost doesn't depend on the steps that are left.
 use Rattle.std.proofs.Common.{◌≡◌, ℕ, zero, suc, ◌+◌, ◌-◌, ◌<◌, ◌≤◌, Bool, true, false, cond, Option, None, Some, List, [], ◌∷◌, map, ◌⊎◌, inl, inr, refl, ap, ◌∙◌, arith}
 use Rattle.ap_list.specs.Lists.{Each}
-use Rattle.ap_rewrite.specs.Metered.{Got, By, known, after, spend, mapped, or_else, first_that}
+use Rattle.ap_term.specs.Metered.{Got, By, known, after, spend, mapped, or_else, first_that}
 use Rattle.ap_rewrite.specs.Costs.{Costs, Metered}
 
 pub metered_known : {A : Type 0} (a : A) → Metered (known a)

@@ -12,7 +12,7 @@ use Rattle.ap_eval.proofs.Meant.{metered_means}
 use Rattle.ap_rewrite.specs.Arithmetic.{Arithmetic, no_arithmetic, linear_arithmetic, SoundArithmetic}
 use Rattle.ap_rewrite.specs.InWorld.{value_in, most_units, setting_in}
 use Rattle.ap_rewrite.specs.Laws.{WorldIsSoundSetting, InWorldStands}
-use Rattle.ap_rewrite.proofs.RulesStand.{rules_hold}
+use Rattle.ap_world.proofs.RulesStand.{rules_hold}
 use Rattle.ap_rewrite.proofs.ArithmeticSound.{nothing_sound, polynomials_sound}
 use Rattle.ap_rewrite.proofs.RewritingStands.{rewriting_stands}
 

@@ -28,7 +28,8 @@ use Rattle.ap_world.specs.Shapes.{Shape, negation, shape_of}
 use Rattle.ap_world.specs.Assume.{assume}
 use Rattle.ap_world.proofs.Knowing.{known_quote, known_head, known_args, known_by, each_true, true_each, each_same}
 use Rattle.ap_world.proofs.TotalMeaning.{Apply, Models, head_val, val, values_of, val_is, val_quote, val_call}
-use Rattle.ap_world.proofs.Equations.{nil-eq, eq-not_nil, t_isnt_nil, val_of_nil, val_of_t, val_of_int, val_if}
+use Rattle.ap_world.proofs.Equations.{nil-eq, eq-not_nil, t_isnt_nil, val_t_constant, val_of_nil, val_of_t, val_of_int, val_if}
+use Rattle.ap_world.proofs.RulesStand.{rule_same}
 use Rattle.ap_world.proofs.Starting.{val_not}
 use Rattle.ap_world.proofs.Shaped.{Says, shape_says}
 use Rattle.ap_world.proofs.Assumed.{Signed, assume_holds}
@@ -45,17 +46,17 @@ use Rattle.ap_kernel.specs.Opening.{body_at, is_constant_call}
 use Rattle.ap_kernel.proofs.Standing.{same_refl, same_trans, same_iff, same_of, agree}
 use Rattle.ap_kernel.proofs.CallsStand.{nil_test, known_if}
 use Rattle.ap_kernel.proofs.Typed.{only_says, lacks_says}
-use Rattle.ap_kernel.proofs.EquationsStand.{val_t_constant, val_truth_constant, equation_stands}
-use Rattle.ap_kernel.proofs.ChoicesStand.{bare_known, known_not, choice_stands}
-use Rattle.ap_kernel.proofs.OpeningStands.{known_subst, open_stands, fold_stands}
-use Rattle.ap_rewrite.specs.Rules.{Rule}
-use Rattle.ap_rewrite.specs.Matching.{Pairs}
+use Rattle.ap_kernel.proofs.EquationsStand.{val_truth_constant, equation_stands}
+use Rattle.ap_kernel.proofs.ChoicesStand.{bare_known, known_not, choice_stands, not_nil, truth_same}
+use Rattle.ap_kernel.proofs.OpeningStands.{open_stands, fold_stands}
+use Rattle.ap_world.proofs.Instances.{known_subst}
+use Rattle.ap_world.specs.Rules.{Rule}
+use Rattle.ap_term.specs.Matching.{Pairs}
 use Rattle.ap_rewrite.specs.Settings.{Setting, Place}
 use Rattle.ap_rewrite.specs.Rewriting.{truth_of, constant_in, is_iff, settled, shaped, unwrapped, negated, run, settle, fits_mode}
-use Rattle.ap_rewrite.specs.Holding.{KnownPairs, AgreeUnder, RuleHolds}
+use Rattle.ap_world.specs.Holding.{KnownPairs, AgreeUnder, RuleHolds}
 use Rattle.ap_rewrite.specs.SoundSettings.{defs_of, SoundSetting}
 use Rattle.ap_rewrite.proofs.Yields.{When}
-use Rattle.ap_rewrite.proofs.RowsStand.{rule_same, double_not_stands}
 use Rattle.ap_rewrite.proofs.Truths.{others_nil, others_t, others_zero, shape_if, truth_says, no_constant}
 
 module _ (S : Setting) (H : SoundSetting S) (A : Apply) (ms : Models (defs_of S) A) where
@@ -157,6 +158,10 @@ module _ (S : Setting) (H : SoundSetting S) (A : Apply) (ms : Models (defs_of S)
       truth_known true = known_quote (defs_of S) _
       truth_known false = known_quote (defs_of S) _
 
+      turned : (x : Bool) → truth (not x) ≡ cond x nil t
+      turned true = refl
+      turned false = refl
+
       by_shape : (y : Shape Term) → Says z y → Leads o fs (not_of z) (unwrapped S o fs z y)
       by_shape (negation w) q = go (is_truth o (record { 0 = S.types fs w })) refl
         where
@@ -164,9 +169,14 @@ module _ (S : Setting) (H : SoundSetting S) (A : Apply) (ms : Models (defs_of S)
           w_known = (each_true (known (defs_of S)) (w ∷ []) (known_args (defs_of S) not_name (w ∷ []) (subst (λ u. known (defs_of S) u ≡ true) q p.0))).0
 
           go : (b : Bool) → is_truth o (record { 0 = S.types fs w }) ≡ b → Leads o fs (not_of z) (cond b w (not_of z))
-          go true r = subst (λ u. Leads o fs (not_of u) w) (sym q)
-              (of_holds (record { ctx = record { 0 = fs }; mode = o; lhs = not_of (not_of w); rhs = w })
-              (double_not_stands (defs_of S) H.sound.total H.ground (record { 0 = fs }) o w (record { 0 = S.types fs w }) fk w_known (H.types fs w fk w_known) r))
+          go true r = (
+            w_known,
+            λ e h.
+                let twice : val A (not_of z) e ≡ cond (value_eq (val A w e) nil) nil t =
+                val_not (defs_of S) A ms H.ground z e ∙ ap (λ u. truth (value_eq (val A u e) nil)) q ∙ ap (λ v. truth (value_eq v nil)) (val_not (defs_of S) A ms H.ground w e)
+                ∙ ap truth (not_nil (value_eq (val A w e) nil)) ∙ turned (value_eq (val A w e) nil) in
+                subst (λ x. Same o x (val A w e)) (sym twice) (truth_same o (record { 0 = S.types fs w }) (val A w e) r (has fs w fk w_known e h)),
+          )
           go false r = leads_refl o fs (not_of z) (known_not (defs_of S) H.ground z p.0)
       by_shape y q = leads_refl o fs (not_of z) (known_not (defs_of S) H.ground z p.0)
 

@@ -3,12 +3,8 @@ pub mod RelievingCosts
 pub mod LinearCosts
 pub mod RewritingCosts
 pub mod SearchByHead
-pub mod Matches
-pub mod Instances
-pub mod RulesStand
 pub mod Yields
 pub mod Truths
-pub mod RowsStand
 pub mod Leads
 pub mod Relieved
 pub mod LinearStands

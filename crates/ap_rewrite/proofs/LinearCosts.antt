@@ -5,8 +5,8 @@ use Rattle.ap_term.specs.declared.term.Term.{Term, Call}
 use Rattle.ap_world.specs.declared.primitive.Primitive.{Primitive as Prim}
 use Rattle.ap_world.specs.declared.primitive.Primitive.TheVariants as prim
 use Rattle.ap_world.specs.Primitives.{prim_of}
-use Rattle.ap_rewrite.specs.Metered.{By, after}
-use Rattle.ap_rewrite.specs.Matching.{Pairs, matched}
+use Rattle.ap_term.specs.Metered.{By, after}
+use Rattle.ap_term.specs.Matching.{Pairs, matched}
 use Rattle.ap_rewrite.specs.Settings.{Setting, Place, Inner}
 use Rattle.ap_rewrite.specs.Relieving.{relieve}
 use Rattle.ap_rewrite.specs.Costs.{Metered}

@@ -25,8 +25,8 @@ use Rattle.ap_world.proofs.Assumed.{Signed, fact_of, fact_says}
 use Rattle.ap_kernel.proofs.Reduced.{each_append, each_take}
 use Rattle.ap_kernel.proofs.EquationsStand.{val_truth_constant}
 use Rattle.ap_world.proofs.Sets.{apart}
-use Rattle.ap_rewrite.specs.Metered.{By, after}
-use Rattle.ap_rewrite.specs.Matching.{Pairs, matched}
+use Rattle.ap_term.specs.Metered.{By, after}
+use Rattle.ap_term.specs.Matching.{Pairs, matched}
 use Rattle.ap_rewrite.specs.Settings.{Setting, Place, Inner}
 use Rattle.ap_rewrite.specs.Relieving.{relieve}
 use Rattle.ap_poly.specs.Polynomials.{Polynomial}
@@ -36,8 +36,8 @@ use Rattle.ap_rewrite.specs.Arithmetic.{LinearRule, LinearHolds}
 use Rattle.ap_rewrite.specs.Linear.{most_polys, of_facts, bounds, given, with_instance, at_match, at_atoms, with_rules, refuted, or_refuted, then_refuted, by_less, less_of, if_refuted, by_equal, are_integers, by_pair, by_arithmetic}
 use Rattle.ap_rewrite.specs.SoundSettings.{defs_of, SoundSetting}
 use Rattle.ap_rewrite.proofs.Yields.{Yields, When, yields_known, yields_after, yields_cond, yields_same}
-use Rattle.ap_kernel.proofs.OpeningStands.{KnownPairs, known_subst}
-use Rattle.ap_rewrite.proofs.Instances.{match_fits}
+use Rattle.ap_world.proofs.Instances.{known_subst, match_fits}
+use Rattle.ap_world.specs.Holding.{KnownPairs}
 use Rattle.ap_rewrite.proofs.Leads.{Leads, leads_same, HypHolds}
 use Rattle.ap_rewrite.proofs.Relieved.{Stood, Relieved, relieve_stands}
 

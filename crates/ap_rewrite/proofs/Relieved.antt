@@ -19,16 +19,16 @@ use Rattle.ap_world.specs.Facts.{Facts, KnownFacts, FactsHold}
 use Rattle.ap_world.specs.Shapes.{Shape, constant, choice, negation, equation, pair, other, shape_of, is_constant}
 use Rattle.ap_world.proofs.Shaped.{Says, shape_says}
 use Rattle.ap_world.proofs.Assumed.{Signed, fact_says}
-use Rattle.ap_rewrite.specs.Metered.{known as answer}
-use Rattle.ap_rewrite.specs.Matching.{Pairs, matched, Extends, is_bound}
-use Rattle.ap_rewrite.specs.Rules.{same_bool}
+use Rattle.ap_term.specs.Metered.{known as answer}
+use Rattle.ap_term.specs.Matching.{Pairs, matched, Extends, is_bound}
+use Rattle.ap_world.specs.Rules.{same_bool}
 use Rattle.ap_rewrite.specs.Settings.{Setting, Place, Inner, relieving}
 use Rattle.ap_rewrite.specs.Relieving.{most_chained, found_or, by_facts, by_sign, if_so, relieve_one, then_more, relieve}
 use Rattle.ap_rewrite.specs.SoundSettings.{defs_of, SoundSetting}
 use Rattle.ap_rewrite.proofs.Yields.{Yields, When, yields_known, yields_after, yields_cond, yields_same}
-use Rattle.ap_kernel.proofs.OpeningStands.{KnownPairs, known_subst}
-use Rattle.ap_rewrite.proofs.Matches.{extends_more, bound_alike}
-use Rattle.ap_rewrite.proofs.Instances.{match_fits}
+use Rattle.ap_world.proofs.Instances.{known_subst, match_fits}
+use Rattle.ap_world.specs.Holding.{KnownPairs}
+use Rattle.ap_term.proofs.Matches.{extends_more, bound_alike}
 use Rattle.ap_rewrite.proofs.Truths.{truth_says, constant_truth}
 use Rattle.ap_rewrite.proofs.Leads.{Leads, HypHolds}
 

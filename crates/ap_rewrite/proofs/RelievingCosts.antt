@@ -5,8 +5,8 @@ use Rattle.ap_term.specs.Terms.{subst_of}
 use Rattle.ap_world.specs.Shapes.{is_constant}
 use Rattle.ap_kernel.specs.declared.objects.Mode.{Mode}
 use Rattle.ap_kernel.specs.declared.objects.Mode.TheVariants.{Iff}
-use Rattle.ap_rewrite.specs.Metered.{By, known}
-use Rattle.ap_rewrite.specs.Matching.{Pairs, is_bound}
+use Rattle.ap_term.specs.Metered.{By, known}
+use Rattle.ap_term.specs.Matching.{Pairs, is_bound}
 use Rattle.ap_rewrite.specs.Costs.{Metered}
 use Rattle.ap_rewrite.specs.Settings.{Place, Inner, relieving}
 use Rattle.ap_rewrite.specs.Relieving.{most_chained, if_so, relieve_one, then_more, relieve}

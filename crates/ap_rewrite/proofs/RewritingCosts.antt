@@ -13,9 +13,9 @@ use Rattle.ap_kernel.specs.declared.objects.Mode.{Mode}
 use Rattle.ap_kernel.specs.declared.objects.Mode.TheVariants.{Equal, Iff}
 use Rattle.ap_kernel.specs.Equations.{equation_leads}
 use Rattle.ap_kernel.specs.Opening.{body_at}
-use Rattle.ap_rewrite.specs.Metered.{mapped, first_that}
-use Rattle.ap_rewrite.specs.Matching.{Pairs, matched}
-use Rattle.ap_rewrite.specs.Rules.{Rule}
+use Rattle.ap_term.specs.Metered.{mapped, first_that}
+use Rattle.ap_term.specs.Matching.{Pairs, matched}
+use Rattle.ap_world.specs.Rules.{Rule}
 use Rattle.ap_rewrite.specs.Costs.{Metered}
 use Rattle.ap_rewrite.specs.Settings.{Setting, Place, Inner, under, closing}
 use Rattle.ap_rewrite.specs.Relieving.{relieve}

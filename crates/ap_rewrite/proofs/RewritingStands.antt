@@ -29,17 +29,17 @@ use Rattle.ap_kernel.specs.Opening.{body_at, is_quoted}
 use Rattle.ap_kernel.proofs.Standing.{stand}
 use Rattle.ap_world.proofs.Shaped.{Says, HeadSays, head_says, shape_says}
 use Rattle.ap_world.proofs.Assumed.{assume_known}
-use Rattle.ap_rewrite.specs.Metered.{By, known as answer, mapped, first_that}
-use Rattle.ap_rewrite.specs.Matching.{Pairs, matched}
-use Rattle.ap_rewrite.specs.Rules.{Rule, is_bound_by_left}
+use Rattle.ap_term.specs.Metered.{By, known as answer, mapped, first_that}
+use Rattle.ap_term.specs.Matching.{Pairs, matched}
+use Rattle.ap_world.specs.Rules.{Rule, is_bound_by_left}
 use Rattle.ap_rewrite.specs.Settings.{Setting, Place, Inner, under, closing}
 use Rattle.ap_rewrite.specs.Relieving.{relieve}
 use Rattle.ap_rewrite.specs.Rewriting.{most_nodes, truth_of, constant_in, settled, negated, shaped, both, branches, rewrite_if, rewrite_not, rewrite_args, run, settle, led, equate, in_order, fits_mode, right, relieved, apply, try_rule, by_rules, Walk, walk_on, walk_shape, walk, is_recursive, open_instance, may_open, opened, tried, rewrite_call, rewrite_parts, rewrite_shape, rewrite_to}
-use Rattle.ap_rewrite.specs.Holding.{RuleHolds}
+use Rattle.ap_world.specs.Holding.{RuleHolds}
 use Rattle.ap_rewrite.specs.SoundSettings.{defs_of, SoundSetting}
 use Rattle.ap_rewrite.specs.Laws.{RewritingStands}
 use Rattle.ap_rewrite.proofs.Yields.{Yields, When, yields_known, yields_after, yields_cond, yields_spend, yields_mapped, yields_first, yields_same, each_mapped}
-use Rattle.ap_rewrite.proofs.Instances.{match_fits}
+use Rattle.ap_world.proofs.Instances.{match_fits}
 use Rattle.ap_rewrite.proofs.Truths.{truth_says, chosen}
 use Rattle.ap_rewrite.proofs.Leads.{Leads, leads_refl, leads_more, leads_same, leads_from, settled_leads, if_test, both_leads, not_leads, EachLeads, call_leads, constant_leads, run_leads, settle_leads, equation_is, rule_leads, instance_leads}
 use Rattle.ap_rewrite.proofs.LinearStands.{arithmetic_stands}

@@ -7,8 +7,8 @@ use Rattle.ap_term.specs.Terms.{size_step, term_size, subst_of}
 use Rattle.ap_term.proofs.Induction.{fold_var, fold_call}
 use Rattle.ap_world.specs.Facts.{Facts}
 use Rattle.ap_world.proofs.Written.{subst_var, subst_call}
-use Rattle.ap_rewrite.specs.Matching.{Pairs, match_step, matched, bound_step, is_bound}
-use Rattle.ap_rewrite.specs.Rules.{Rule, rename_step, is_permutative, is_bound_by_left}
+use Rattle.ap_term.specs.Matching.{Pairs, match_step, matched, bound_step, is_bound}
+use Rattle.ap_world.specs.Rules.{Rule, rename_step, is_permutative, is_bound_by_left}
 use Rattle.ap_value.specs.declared.symbol.Symbol.{Symbol}
 use Rattle.ap_value.specs.declared.value.Value.{Value}
 use Rattle.ap_term.specs.declared.term.Term.{Term, Var, Quote, Call}
@@ -25,7 +25,7 @@ use Rattle.ap_world.proofs.Shaped.{shape_call}
 use Rattle.ap_kernel.specs.declared.objects.Mode.{Mode}
 use Rattle.ap_kernel.specs.declared.objects.Mode.TheVariants.{Equal, Iff}
 use Rattle.ap_kernel.specs.Answers.{if_of}
-use Rattle.ap_rewrite.specs.Metered.{By, known, after, mapped, or_else, first_that}
+use Rattle.ap_term.specs.Metered.{By, known, after, mapped, or_else, first_that}
 use Rattle.ap_rewrite.specs.Relieving.{by_sign, if_so, then_more, relieve}
 use Rattle.ap_rewrite.specs.Settings.{Setting, Place, under, relieving}
 use Rattle.ap_rewrite.specs.Linear.{by_arithmetic}

@@ -8,9 +8,9 @@ use Rattle.ap_term.proofs.Induction.{OutSays, out_says, fold_call}
 use Rattle.ap_world.specs.declared.theory.Rune.TheVariants as rune
 use Rattle.ap_world.specs.Theories.{is_enabled}
 use Rattle.ap_kernel.specs.declared.objects.Mode.{Mode}
-use Rattle.ap_rewrite.specs.Metered.{Got, By, known, after, or_else, first_that}
-use Rattle.ap_rewrite.specs.Matching.{Pairs, match_step, matched}
-use Rattle.ap_rewrite.specs.Rules.{Rule}
+use Rattle.ap_term.specs.Metered.{Got, By, known, after, or_else, first_that}
+use Rattle.ap_term.specs.Matching.{Pairs, match_step, matched}
+use Rattle.ap_world.specs.Rules.{Rule}
 use Rattle.ap_rewrite.specs.Settings.{Setting, Place, Inner}
 use Rattle.ap_rewrite.specs.Rewriting.{fits_mode, apply, try_rule, by_rules}
 use Rattle.ap_rewrite.specs.Indexed.{kept, may_begin, begins, rules_for}

@@ -4,7 +4,7 @@ use Rattle.ap_term.specs.declared.term.Term.{Term}
 use Rattle.ap_term.specs.declared.term.Clause.{Clause}
 use Rattle.ap_kernel.specs.Reductions.{Follows}
 use Rattle.ap_clausify.proofs.SplitStands.{split_reduces}
-use Rattle.ap_rewrite.specs.Metered.{Got, after}
+use Rattle.ap_term.specs.Metered.{Got, after}
 use Rattle.ap_rewrite.specs.Literals.{rewrite_literals, split_left}
 use Rattle.ap_rewrite.specs.SoundSettings.{defs_of}
 use Rattle.ap_rewrite.specs.Laws.{SimplifyingReduces}

@@ -1,7 +1,7 @@
 -- What holds of every answer: each word on steps hands it on.
 use Rattle.std.proofs.Common.{◌≡◌, ℕ, zero, suc, Bool, true, false, cond, Option, None, Some, List, [], ◌∷◌, map, refl, ap, subst}
 use Rattle.ap_list.specs.Lists.{Each}
-use Rattle.ap_rewrite.specs.Metered.{Got, By, known, after, spend, mapped, or_else, first_that}
+use Rattle.ap_term.specs.Metered.{Got, By, known, after, spend, mapped, or_else, first_that}
 
 abbrev pub Yields : {A : Type 0} → (A → Type 0) → By A → Type 0
 Yields {A} P g = (n : ℕ) (a : A) (m : ℕ) → g n ≡ Some (a, m) → P a

@@ -6,7 +6,7 @@ use Rattle.ap_world.specs.declared.theory.Theory.{Theory}
 use Rattle.ap_world.specs.World.{Shown, function_of}
 use Rattle.ap_world.specs.Units.{Outcome, gives, metered}
 use Rattle.ap_world.specs.Typing.{types}
-use Rattle.ap_rewrite.specs.Rules.{rules_in}
+use Rattle.ap_world.specs.Rules.{rules_in}
 use Rattle.ap_rewrite.specs.Arithmetic.{Arithmetic}
 use Rattle.ap_rewrite.specs.Settings.{Setting}
 

@@ -4,7 +4,7 @@ use Rattle.ap_value.specs.declared.symbol.Symbol.{Symbol}
 use Rattle.ap_value.specs.Values.{symbol_eq}
 use Rattle.ap_term.specs.declared.term.Term.{Term, out-Term}
 use Rattle.ap_term.specs.declared.term.Term.TheOpen.{Term-F}
-use Rattle.ap_rewrite.specs.Rules.{Rule}
+use Rattle.ap_world.specs.Rules.{Rule}
 
 -- those of a list that pass a test, in their order
 abbrev pub kept : {R : Type 0} → (R → Bool) → List R → List R

@@ -12,7 +12,7 @@ use Rattle.ap_world.specs.Facts.{KnownFacts}
 use Rattle.ap_kernel.specs.declared.objects.Mode.{Mode}
 use Rattle.ap_kernel.specs.Standing.{HasGround, Holds}
 use Rattle.ap_kernel.specs.Reductions.{KnownClause, Follows}
-use Rattle.ap_rewrite.specs.Metered.{first_that}
+use Rattle.ap_term.specs.Metered.{first_that}
 use Rattle.ap_rewrite.specs.Costs.{Metered}
 use Rattle.ap_rewrite.specs.Arithmetic.{LinearRule, Arithmetic, no_arithmetic, linear_arithmetic, LinearHolds, SoundArithmetic}
 use Rattle.ap_rewrite.specs.Settings.{Setting, Place, Inner}

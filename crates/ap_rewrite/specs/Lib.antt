@@ -1,7 +1,4 @@
-pub mod Metered
 pub mod Costs
-pub mod Matching
-pub mod Rules
 pub mod Arithmetic
 pub mod Settings
 pub mod Relieving
@@ -9,7 +6,6 @@ pub mod Linear
 pub mod Rewriting
 pub mod Literals
 pub mod InWorld
-pub mod Holding
 pub mod SoundSettings
 pub mod Indexed
 pub mod Laws

@@ -10,8 +10,8 @@ use Rattle.ap_world.specs.Primitives.{prim_of}
 use Rattle.ap_world.specs.Names.{less_name}
 use Rattle.ap_world.specs.Facts.{Facts}
 use Rattle.ap_kernel.specs.Equations.{truth_constant}
-use Rattle.ap_rewrite.specs.Metered.{By, known, after}
-use Rattle.ap_rewrite.specs.Matching.{Pairs, matched}
+use Rattle.ap_term.specs.Metered.{By, known, after}
+use Rattle.ap_term.specs.Matching.{Pairs, matched}
 use Rattle.ap_poly.specs.Polynomials.{Polynomial}
 use Rattle.ap_poly.specs.Bounds.{lacks}
 use Rattle.ap_rewrite.specs.Arithmetic.{LinearRule}

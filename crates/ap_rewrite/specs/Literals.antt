@@ -7,7 +7,7 @@ use Rattle.ap_kernel.specs.declared.objects.Mode.TheVariants.{Iff}
 use Rattle.ap_kernel.specs.declared.reductions.Inference.{Inference}
 use Rattle.ap_kernel.specs.Reductions.{all_false}
 use Rattle.ap_clausify.specs.Splitting.{Left, split_of}
-use Rattle.ap_rewrite.specs.Metered.{By, known, after}
+use Rattle.ap_term.specs.Metered.{By, known, after}
 use Rattle.ap_rewrite.specs.Settings.{Setting, Place}
 use Rattle.ap_rewrite.specs.Rewriting.{rewrite_of}
 

@@ -5,9 +5,9 @@ use Rattle.ap_term.specs.Terms.{subst_of}
 use Rattle.ap_world.specs.Facts.{Facts}
 use Rattle.ap_world.specs.Shapes.{Shape, negation, shape_of, is_constant}
 use Rattle.ap_kernel.specs.declared.objects.Mode.TheVariants.{Iff}
-use Rattle.ap_rewrite.specs.Metered.{By, known, after}
-use Rattle.ap_rewrite.specs.Matching.{Pairs, matched, is_bound}
-use Rattle.ap_rewrite.specs.Rules.{same_bool}
+use Rattle.ap_term.specs.Metered.{By, known, after}
+use Rattle.ap_term.specs.Matching.{Pairs, matched, is_bound}
+use Rattle.ap_world.specs.Rules.{same_bool}
 use Rattle.ap_rewrite.specs.Settings.{Place, Inner, relieving}
 
 -- at most so many hypotheses are relieved within each other

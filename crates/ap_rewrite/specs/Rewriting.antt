@@ -26,9 +26,9 @@ use Rattle.ap_kernel.specs.declared.objects.Mode.TheVariants.{Equal, Iff}
 use Rattle.ap_kernel.specs.Choices.{bare, is_truth, if_shape}
 use Rattle.ap_kernel.specs.Equations.{equation_leads, truth_constant}
 use Rattle.ap_kernel.specs.Opening.{body_at, is_quoted, is_constant_call}
-use Rattle.ap_rewrite.specs.Metered.{Got, By, known, after, spend, mapped, first_that}
-use Rattle.ap_rewrite.specs.Matching.{Pairs, matched}
-use Rattle.ap_rewrite.specs.Rules.{Rule, is_permutative, is_bound_by_left}
+use Rattle.ap_term.specs.Metered.{Got, By, known, after, spend, mapped, first_that}
+use Rattle.ap_term.specs.Matching.{Pairs, matched}
+use Rattle.ap_world.specs.Rules.{Rule, is_permutative, is_bound_by_left}
 use Rattle.ap_rewrite.specs.Settings.{Setting, Place, Inner, under, closing}
 use Rattle.ap_rewrite.specs.Relieving.{relieve}
 use Rattle.ap_rewrite.specs.Linear.{by_arithmetic}

@@ -3,13 +3,13 @@ use Rattle.std.specs.Prelude.{ℕ, ◌+◌, Bool, List, ◌∷◌, Option}
 use Rattle.ap_value.specs.declared.symbol.Symbol.{Symbol}
 use Rattle.ap_value.specs.declared.value.Value.{Value}
 use Rattle.ap_term.specs.declared.term.Term.{Term}
-use Rattle.ap_rewrite.specs.Metered.{By}
+use Rattle.ap_term.specs.Metered.{By}
 use Rattle.ap_world.specs.declared.theory.Theory.{Theory}
 use Rattle.ap_world.specs.World.{Shown}
 use Rattle.ap_world.specs.Meaning.{Defs}
 use Rattle.ap_world.specs.Facts.{Facts}
 use Rattle.ap_world.specs.Assume.{assume}
-use Rattle.ap_rewrite.specs.Rules.{Rule}
+use Rattle.ap_world.specs.Rules.{Rule}
 use Rattle.ap_kernel.specs.declared.objects.Mode.{Mode}
 use Rattle.ap_rewrite.specs.Arithmetic.{Arithmetic}
 

@@ -12,7 +12,7 @@ use Rattle.ap_world.specs.World.{function_of, are_distinct}
 use Rattle.ap_world.specs.Facts.{Facts, KnownFacts}
 use Rattle.ap_kernel.specs.Standing.{HasGround}
 use Rattle.ap_kernel.specs.Masks.{MaskHolds}
-use Rattle.ap_rewrite.specs.Holding.{RuleHolds}
+use Rattle.ap_world.specs.Holding.{RuleHolds}
 use Rattle.ap_rewrite.specs.Arithmetic.{SoundArithmetic}
 use Rattle.ap_rewrite.specs.Settings.{Setting}
 

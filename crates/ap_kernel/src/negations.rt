@@ -1,0 +1,39 @@
+ghost use Rattle.std.specs.Prelude.{◌≡◌, IsTrue, IfOk};
+ghost use Rattle.ap_world.specs.Sound.{known};
+ghost use Rattle.ap_world.specs.World.{function_of};
+ghost use Rattle.ap_world.specs.Facts.{KnownFacts};
+ghost use Rattle.ap_kernel.specs.Standing.{HasGround, Stands};
+ghost use Rattle.ap_kernel.specs.Masks.{MaskHolds};
+ghost use Rattle.ap_kernel.specs.Choices.{is_truth, double_not_made};
+
+use crate::choices::not_term;
+use crate::objects::{Ctx, Equiv, Mode};
+use ap_list::NoMemory;
+use ap_term::{Term, copy_term};
+use ap_world::{Mask, World};
+use std::alloc::Global;
+
+/// From `(not (not t))` to `t`, under `iff`, or under equality where the mask of `t` has no value but `t` and
+/// `nil`. It copies the term once for each side.
+pub fn double_not(
+    alloc: Global,
+    w: &World,
+    ctx: &Ctx,
+    mode: Mode,
+    t: &Term,
+    mask: Mask,
+) -> Result<Equiv, NoMemory>
+    requires ground { HasGround (function_of w.now.entries) }
+    requires facts { KnownFacts (function_of w.now.entries) ctx.now.0 }
+    requires term { IsTrue (known (function_of w.now.entries) t.now) }
+    requires mask { MaskHolds (function_of w.now.entries) ctx.now.0 t.now mask }
+    requires truth { IsTrue (is_truth mode mask) }
+    ensures stands { IfOk result (λ q. Stands w.now q) }
+    ensures made { IfOk result (λ q. q.says ≡ double_not_made ctx.now mode t.now) }
+{
+    w.is_sound();
+    let once = not_term(alloc, copy_term(alloc, t)?)?;
+    let lhs = not_term(alloc, once)?;
+    let rhs = copy_term(alloc, t)?;
+    Ok(Equiv::made(ctx.share()?, mode, lhs, rhs))
+}
