@@ -16,10 +16,10 @@ use Rattle.ap_world.proofs.Extending.{not_taken}
 use Rattle.ap_types.proofs.KeptHolds.{plain_kept}
 use Rattle.ap_admit.specs.Admission.{with_function, Admissible}
 use Rattle.ap_admit.specs.Condition.{admitted_by, IsMeasured, IsAdmissible, owed, clause_of, AdmittedIsSound, OwedIsKnown}
-use Rattle.ap_admit.proofs.Lists.{each_map}
-use Rattle.ap_admit.proofs.Cases.{clear, adds_last}
-use Rattle.ap_admit.proofs.Grounded.{has_not, given_free}
-use Rattle.ap_admit.proofs.Chosen.{chosen_fits}
+use Rattle.ap_world.proofs.Lists.{each_map}
+use Rattle.ap_world.proofs.Cases.{clear, adds_last}
+use Rattle.ap_world.proofs.Grounded.{has_not, given_free}
+use Rattle.ap_world.proofs.Chosen.{chosen_fits}
 use Rattle.ap_admit.proofs.Known.{obligations_known}
 use Rattle.ap_admit.proofs.Masked.{admission_keeps_sound}
 

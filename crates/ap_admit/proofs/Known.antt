@@ -8,10 +8,10 @@ use Rattle.ap_world.specs.World.{function_of}
 use Rattle.ap_world.proofs.Knowing.{each_true}
 use Rattle.ap_world.proofs.Adding.{each_append}
 use Rattle.ap_admit.specs.Admission.{with_function, ObligationsAreKnown, ChosenMeasureFits}
-use Rattle.ap_admit.proofs.Cases.{CaseKnown, cases_known, adds_last}
-use Rattle.ap_admit.proofs.Grounded.{nots}
-use Rattle.ap_admit.proofs.KnownTerms.{falling_known, natural_known}
-use Rattle.ap_admit.proofs.Chosen.{chosen_fits}
+use Rattle.ap_world.proofs.Cases.{CaseKnown, cases_known, adds_last}
+use Rattle.ap_world.proofs.Grounded.{nots}
+use Rattle.ap_world.proofs.KnownTerms.{falling_known, natural_known}
+use Rattle.ap_world.proofs.Chosen.{chosen_fits}
 
 pub obligations_known : ObligationsAreKnown
 obligations_known W f m given functions a = go given

@@ -1,15 +1,3 @@
-pub mod Lists
-pub mod Lex
-pub mod Repeats
-pub mod Negations
-pub mod Falling
-pub mod Ready
-pub mod Cases
-pub mod Taken
-pub mod Natural
-pub mod Grounded
-pub mod KnownTerms
-pub mod Chosen
 pub mod Totals
 pub mod Ranked
 pub mod Soundness

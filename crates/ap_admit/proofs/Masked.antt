@@ -17,7 +17,7 @@ use Rattle.ap_world.proofs.Extending.{not_taken, function_of-here, function_of-o
 use Rattle.ap_types.proofs.KeptHolds.{kept_holds}
 use Rattle.ap_admit.specs.Admission.{with_function}
 use Rattle.ap_admit.specs.Kept.{AdmissionKeepsSound, StubsKnow}
-use Rattle.ap_admit.proofs.Grounded.{has_not, given_free}
+use Rattle.ap_world.proofs.Grounded.{has_not, given_free}
 use Rattle.ap_admit.proofs.Soundness.{obligations_suffice}
 
 pub admission_keeps_sound : AdmissionKeepsSound

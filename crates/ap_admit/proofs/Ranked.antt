@@ -16,11 +16,11 @@ use Rattle.ap_world.proofs.Knowing.{each_same}
 use Rattle.ap_world.proofs.TotalMeaning.{Apply, Models, AllTrue, val, values_of, valid_is}
 use Rattle.ap_world.proofs.Coinciding.{val_instance}
 use Rattle.std.proofs.Common.{pos}
-use Rattle.ap_admit.proofs.Lists.{each_map, each_joined}
-use Rattle.ap_admit.proofs.Lex.{LexLess}
-use Rattle.ap_admit.proofs.Negations.{HasNot, past_tests}
-use Rattle.ap_admit.proofs.Falling.{nat_of, IsNat, less_is}
-use Rattle.ap_admit.proofs.Cases.{Adds}
+use Rattle.ap_world.proofs.Lists.{each_map, each_joined}
+use Rattle.ap_world.proofs.Lex.{LexLess}
+use Rattle.ap_world.proofs.Negations.{HasNot, past_tests}
+use Rattle.ap_world.proofs.Falling.{nat_of, IsNat, less_is}
+use Rattle.ap_world.proofs.Cases.{Adds}
 use Rattle.ap_admit.proofs.Totals.{Falls, total_more}
 
 module _ (D E : Defs) (F : Symbol) (f : Function) (adds : Adds D E F f) (A : Apply) (models : Models D A) (has : HasNot A) (nots : (u : Term) → known D u ≡ true → known D (not_of u) ≡ true)

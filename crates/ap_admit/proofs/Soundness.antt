@@ -12,11 +12,11 @@ use Rattle.ap_world.proofs.Starting.{val_not}
 use Rattle.ap_world.proofs.Extending.{Extends, extends-append, not_taken, all_known_extend, valid_extend}
 use Rattle.ap_world.proofs.Adding.{sound-function}
 use Rattle.ap_admit.specs.Admission.{AdmissionIsSound, ObligationsSuffice}
-use Rattle.ap_admit.proofs.Lists.{each_left, each_right}
-use Rattle.ap_admit.proofs.Natural.{natural_from, count_natural}
-use Rattle.ap_admit.proofs.Cases.{adds_last}
-use Rattle.ap_admit.proofs.Grounded.{has_not, has_natp, has_count, nots, given_free}
-use Rattle.ap_admit.proofs.Chosen.{chosen_count}
+use Rattle.ap_world.proofs.Lists.{each_left, each_right}
+use Rattle.ap_world.proofs.Natural.{natural_from, count_natural}
+use Rattle.ap_world.proofs.Cases.{adds_last}
+use Rattle.ap_world.proofs.Grounded.{has_not, has_natp, has_count, nots, given_free}
+use Rattle.ap_world.proofs.Chosen.{chosen_count}
 use Rattle.ap_admit.proofs.Ranked.{total_admit}
 
 pub sound_admit : AdmissionIsSound

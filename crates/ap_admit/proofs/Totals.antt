@@ -14,12 +14,12 @@ use Rattle.ap_world.specs.Sound.{known}
 use Rattle.ap_world.proofs.Knowing.{each_same}
 use Rattle.ap_world.proofs.TotalMeaning.{Apply, Models, AllTrue, val, val_is, values_of, values_of-length}
 use Rattle.ap_world.proofs.Extending.{value_extend, call_extend}
-use Rattle.ap_admit.proofs.Lists.{any_each, each_zip}
-use Rattle.ap_admit.proofs.Lex.{LexLess, lex_ind}
-use Rattle.ap_admit.proofs.Negations.{HasNot}
-use Rattle.ap_admit.proofs.Ready.{ready_call, gather_values, call_value}
-use Rattle.ap_admit.proofs.Cases.{Adds, CallKnown, CaseKnown, cases_known}
-use Rattle.ap_admit.proofs.Taken.{CallValued, TakenBy, taken}
+use Rattle.ap_world.proofs.Lists.{any_each, each_zip}
+use Rattle.ap_world.proofs.Lex.{LexLess, lex_ind}
+use Rattle.ap_world.proofs.Negations.{HasNot}
+use Rattle.ap_world.proofs.Ready.{ready_call, gather_values, call_value}
+use Rattle.ap_world.proofs.Cases.{Adds, CallKnown, CaseKnown, cases_known}
+use Rattle.ap_world.proofs.Taken.{CallValued, TakenBy, taken}
 
 -- the calls of a case rank lower than the formals' values under which its tests hold
 abbrev pub Falls : Apply → Function → (List V → List ℕ) → Case → Type 0

@@ -11,9 +11,9 @@ use Rattle.ap_world.specs.Clauses.{negate}
 use Rattle.ap_world.proofs.Knowing.{each_same}
 use Rattle.ap_world.proofs.TotalMeaning.{Apply, val, AllTrue, AnyTrue, replaced, val_subst}
 use Rattle.ap_induct.specs.Induction.{choices, Moving, negated_at, with_choice, case_clauses, induction}
-use Rattle.ap_admit.proofs.Lists.{any_each, any_same, any_map, any_joined, each_map, map_each, each_joined}
-use Rattle.ap_admit.proofs.Lex.{LexLess, lex_ind}
-use Rattle.ap_admit.proofs.Negations.{HasNot, not_both}
+use Rattle.ap_world.proofs.Lists.{any_each, any_same, any_map, any_joined, each_map, map_each, each_joined}
+use Rattle.ap_world.proofs.Lex.{LexLess, lex_ind}
+use Rattle.ap_world.proofs.Negations.{HasNot, not_both}
 
 choose : {A : Type 0} (P : A → Type 0) (xss : List (List A)) → Each (AnyOf P) xss → AnyOf (Each P) (choices xss)
 choose P [] h = inl tt

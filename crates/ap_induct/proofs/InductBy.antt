@@ -14,12 +14,12 @@ use Rattle.ap_world.specs.Sound.{known}
 use Rattle.ap_world.proofs.Knowing.{each_same}
 use Rattle.ap_world.proofs.TotalMeaning.{Apply, Models, val, AllTrue, AnyTrue, replaced, val_subst, valid_is}
 use Rattle.ap_induct.specs.Induction.{Moving, induction}
-use Rattle.ap_admit.proofs.Lists.{any_both, each_map, each_joined, each_zip}
-use Rattle.ap_admit.proofs.Lex.{LexLess}
-use Rattle.ap_admit.proofs.Negations.{HasNot, past_tests}
-use Rattle.ap_admit.proofs.Falling.{nat_of, IsNat, less_is}
-use Rattle.ap_admit.proofs.Cases.{Adds}
-use Rattle.ap_admit.proofs.Taken.{TakenBy, taken}
+use Rattle.ap_world.proofs.Lists.{any_both, each_map, each_joined, each_zip}
+use Rattle.ap_world.proofs.Lex.{LexLess}
+use Rattle.ap_world.proofs.Negations.{HasNot, past_tests}
+use Rattle.ap_world.proofs.Falling.{nat_of, IsNat, less_is}
+use Rattle.ap_world.proofs.Cases.{Adds}
+use Rattle.ap_world.proofs.Taken.{TakenBy, taken}
 use Rattle.ap_induct.proofs.Induct.{Descends, induct_core}
 
 -- the replacement moves the measure of the actuals to that of the call

@@ -14,8 +14,8 @@ use Rattle.ap_world.proofs.TotalMeaning.{models, true_held}
 use Rattle.ap_world.proofs.Starting.{val_not}
 use Rattle.ap_world.proofs.Extending.{extends_self}
 use Rattle.ap_induct.specs.Induction.{Place, moved_names, moved_at, formals_of, actuals_of, pairs_of, induction, induction_at}
-use Rattle.ap_admit.proofs.Natural.{natural_from}
-use Rattle.ap_admit.proofs.Grounded.{has_not, has_natp}
+use Rattle.ap_world.proofs.Natural.{natural_from}
+use Rattle.ap_world.proofs.Grounded.{has_not, has_natp}
 use Rattle.ap_induct.proofs.InductBy.{Moves, induct_valid}
 use Rattle.ap_induct.proofs.Moving.{GoodPlace, is_measured_at, moves_call}
 

@@ -23,10 +23,10 @@ use Rattle.ap_world.proofs.Extending.{extends_self}
 use Rattle.ap_world.proofs.Places.{neither}
 use Rattle.ap_world.proofs.Adding.{each_append}
 use Rattle.ap_induct.specs.Induction.{choices, negated_at, with_choice, case_clauses, induction_at, Place, moved_at, moved_names, formals_of, actuals_of, pairs_of, variable_of, is_variable, occurs, count_true, any_true, is_apart, changes, led_names, place_of, places_of, fits, is_candidate, InductionIsSound, InductionIsKnown}
-use Rattle.ap_admit.proofs.Lists.{each_zip, map_each, joined_each}
-use Rattle.ap_admit.proofs.Cases.{CaseKnown, cases_known}
-use Rattle.ap_admit.proofs.Grounded.{nots}
-use Rattle.ap_admit.proofs.KnownTerms.{known_subst, known_negate, zip_known}
+use Rattle.ap_world.proofs.Lists.{each_zip, map_each, joined_each}
+use Rattle.ap_world.proofs.Cases.{CaseKnown, cases_known}
+use Rattle.ap_world.proofs.Grounded.{nots}
+use Rattle.ap_world.proofs.KnownTerms.{known_subst, known_negate, zip_known}
 use Rattle.ap_induct.proofs.Moving.{not_true, GoodPlace, is_measured_at}
 use Rattle.ap_induct.proofs.InductRow.{GoodCall, induct_row}
 use Rattle.ap_induct.proofs.Candidate.{each_all, or_left, or_right, variable_is, each_among, none_of, unchanged, Led, Follows, number, whole, HasVariable, has_variable, source, distinct_names, stays}

@@ -10,7 +10,7 @@ use Rattle.ap_world.proofs.Knowing.{each_same}
 use Rattle.ap_world.proofs.Written.{subst_var}
 use Rattle.ap_world.proofs.Places.{neither, symbol_eq-false}
 use Rattle.ap_induct.specs.Induction.{Place, variable_of, moved_names, moved_at, formals_of, actuals_of, pairs_of}
-use Rattle.ap_admit.proofs.Lists.{each_zip}
+use Rattle.ap_world.proofs.Lists.{each_zip}
 use Rattle.ap_induct.proofs.Varying.{moves_term, untouched}
 use Rattle.ap_induct.proofs.InductBy.{Moves}
 

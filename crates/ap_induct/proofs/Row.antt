@@ -7,7 +7,7 @@ use Rattle.ap_world.proofs.Knowing.{each_true, true_each, each_same, known_args}
 use Rattle.ap_kernel.specs.Reductions.{KnownClause}
 use Rattle.ap_induct.specs.Induction.{places_of, induction_at}
 use Rattle.ap_induct.specs.Row.{InductionFollows}
-use Rattle.ap_admit.proofs.Lists.{each_map, map_each}
+use Rattle.ap_world.proofs.Lists.{each_map, map_each}
 use Rattle.ap_induct.proofs.Inducting.{sound_induct, known_induct}
 
 pub induction_follows : InductionFollows

@@ -9,7 +9,7 @@ use Rattle.ap_term.specs.declared.term.Term.{Term, Var, Quote, Call}
 use Rattle.ap_term.specs.Terms.{vars_after, subst_of}
 use Rattle.ap_term.proofs.Induction.{term_ind}
 use Rattle.ap_world.proofs.Written.{vars_var, vars_quote, vars_call, subst_var, subst_quote, subst_call}
-use Rattle.ap_admit.proofs.Lists.{each_left, each_right}
+use Rattle.ap_world.proofs.Lists.{each_left, each_right}
 
 -- what holds of each of the symbols holds of one of them
 pub among_symbol : (P : Symbol → Type 0) (x : Symbol) (xs : List Symbol) → is_among symbol_eq x xs ≡ true → Each P xs → P x

@@ -23,3 +23,15 @@ pub mod Starting
 pub mod Theories
 pub mod TotalMeaning
 pub mod Written
+pub mod Lists
+pub mod Lex
+pub mod Repeats
+pub mod Negations
+pub mod Falling
+pub mod Ready
+pub mod Cases
+pub mod Taken
+pub mod Natural
+pub mod Grounded
+pub mod KnownTerms
+pub mod Chosen

@@ -20,11 +20,11 @@ use Rattle.ap_world.proofs.TotalMeaning.{Apply, Models, AllTrue, val, val_is}
 use Rattle.ap_world.proofs.Equations.{eq-not_nil, t_isnt_nil}
 use Rattle.ap_world.proofs.Extending.{value_extend, call_extend}
 use Rattle.ap_world.proofs.Written.{calls_call, cases_var, cases_quote, cases_call, unnested_call}
-use Rattle.ap_admit.proofs.Lists.{any_left, any_right, any_map, each_left, each_right, each_joined}
-use Rattle.ap_admit.proofs.Repeats.{of_distinct}
-use Rattle.ap_admit.proofs.Negations.{HasNot}
-use Rattle.ap_admit.proofs.Ready.{ready_head, gather, gathered_length, call_value, if_then, if_else}
-use Rattle.ap_admit.proofs.Cases.{Adds, clear}
+use Rattle.ap_world.proofs.Lists.{any_left, any_right, any_map, each_left, each_right, each_joined}
+use Rattle.ap_world.proofs.Repeats.{of_distinct}
+use Rattle.ap_world.proofs.Negations.{HasNot}
+use Rattle.ap_world.proofs.Ready.{ready_head, gather, gathered_length, call_value, if_then, if_else}
+use Rattle.ap_world.proofs.Cases.{Adds, clear}
 
 abbrev pub CallValued : Defs → Symbol → Env → List Term → Type 0
 CallValued E F e c = (v : V) × HasValue E (Call F c) e v

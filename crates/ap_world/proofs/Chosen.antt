@@ -14,7 +14,7 @@ use Rattle.ap_world.specs.Ground.{acl2_count_function}
 use Rattle.ap_world.specs.Sound.{known, speaks_of, HasFunctions}
 use Rattle.ap_world.proofs.Equations.{knowing, prim_of_acl2_count}
 use Rattle.ap_world.proofs.Written.{vars_var, vars_call}
-use Rattle.ap_admit.proofs.Grounded.{has_count}
+use Rattle.ap_world.proofs.Grounded.{has_count}
 
 -- a measure that was chosen is the count of a formal
 pub chosen_count : (formals xs : List Symbol) (ks : List Case) (m : List Term) → first_suiting formals xs ks ≡ Some m → (x : Symbol) × (m ≡ count_of x ∷ []) × (is_among symbol_eq x xs ≡ true)

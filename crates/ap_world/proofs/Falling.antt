@@ -12,7 +12,7 @@ use Rattle.ap_world.specs.Meaning.{Env}
 use Rattle.ap_world.specs.Recursion.{less, t_constant, nil_constant}
 use Rattle.ap_world.proofs.TotalMeaning.{Apply, val, val_quote}
 use Rattle.ap_world.proofs.Equations.{val_if, val_less, val_equal, val_of_nil, eq-not_nil}
-use Rattle.ap_admit.proofs.Lex.{LexLess}
+use Rattle.ap_world.proofs.Lex.{LexLess}
 
 -- the number that a value is
 abbrev pub nat_of : V → ℕ

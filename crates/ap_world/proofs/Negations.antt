@@ -17,7 +17,7 @@ use Rattle.ap_world.proofs.Equations.{val_if, not_nil-eq, eq-not_nil}
 use Rattle.ap_world.proofs.Written.{negate_var, negate_quote, negate_call, conjuncts_var, conjuncts_quote, conjuncts_call}
 use Rattle.ap_world.proofs.Adding.{each_append}
 use Rattle.ap_world.proofs.Given.{constant_nil}
-use Rattle.ap_admit.proofs.Lists.{joined_each}
+use Rattle.ap_world.proofs.Lists.{joined_each}
 
 -- what a world's `not` gives
 abbrev pub HasNot : Apply → Type 0

@@ -22,8 +22,8 @@ use Rattle.ap_world.proofs.Knowing.{known_var, known_quote, known_head, known_ar
 use Rattle.ap_world.proofs.Extending.{Extends, extends-append, not_taken, function_of-here, function_of-other}
 use Rattle.ap_world.proofs.Written.{calls_var, calls_quote, calls_call, cases_var, cases_quote, cases_call, unnested_call}
 use Rattle.ap_world.proofs.Adding.{each_append}
-use Rattle.ap_admit.proofs.Lists.{each_zip, map_each, joined_each}
-use Rattle.ap_admit.proofs.Repeats.{to_distinct}
+use Rattle.ap_world.proofs.Lists.{each_zip, map_each, joined_each}
+use Rattle.ap_world.proofs.Repeats.{to_distinct}
 
 -- E is D with the function f of the name F
 pub record Adds (D E : Defs) (F : Symbol) (f : Function) : Type 0 where

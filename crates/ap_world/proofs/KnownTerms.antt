@@ -18,10 +18,10 @@ use Rattle.ap_world.proofs.Knowing.{known_var, known_quote, known_head, known_ar
 use Rattle.ap_world.proofs.Equations.{knowing}
 use Rattle.ap_world.proofs.Written.{subst_var, subst_quote, subst_call, negate_var, negate_quote, negate_call, conjuncts_var, conjuncts_quote, conjuncts_call}
 use Rattle.ap_world.proofs.Adding.{each_append}
-use Rattle.ap_admit.proofs.Lists.{map_each, joined_each}
-use Rattle.ap_admit.proofs.Natural.{natp_is_known}
-use Rattle.ap_admit.proofs.Cases.{CaseKnown}
-use Rattle.ap_admit.proofs.Grounded.{has_natp}
+use Rattle.ap_world.proofs.Lists.{map_each, joined_each}
+use Rattle.ap_world.proofs.Natural.{natp_is_known}
+use Rattle.ap_world.proofs.Cases.{CaseKnown}
+use Rattle.ap_world.proofs.Grounded.{has_natp}
 
 module _ (D : Defs) where
   abbrev Known : Term → Type 0

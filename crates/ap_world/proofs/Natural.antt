@@ -20,7 +20,7 @@ use Rattle.ap_world.proofs.TotalMeaning.{Apply, Models, models, val, apply_is, v
 use Rattle.ap_world.proofs.Equations.{vals, knowing, t-not_nil, t_isnt_nil, prim_of_natp, prim_of_acl2_count, prim_of_not, val_defined, val_of_int}
 use Rattle.ap_world.proofs.Starting.{not_is}
 use Rattle.ap_world.proofs.Looking.{mask_holds}
-use Rattle.ap_admit.proofs.Falling.{nat_of, IsNat}
+use Rattle.ap_world.proofs.Falling.{nat_of, IsNat}
 
 nil-is_nil : value_eq nil nil ≡ true
 nil-is_nil = value_eq-same nil
