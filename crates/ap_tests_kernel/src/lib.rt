@@ -14,6 +14,8 @@ mod splitting;
 #[cfg(test)]
 mod tables;
 #[cfg(test)]
+mod theorems;
+#[cfg(test)]
 mod types;
 #[cfg(test)]
 mod waterfall;

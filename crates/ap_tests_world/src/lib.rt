@@ -4,6 +4,8 @@
 #[cfg(test)]
 mod evaluation;
 #[cfg(test)]
+mod going_back;
+#[cfg(test)]
 mod grounds;
 #[cfg(test)]
 mod worlds;

@@ -1,14 +1,14 @@
-ghost use Rattle.std.specs.Prelude.{◌≡◌, ◌≤◌, ◌<◌, ◌+◌, ◌∷◌, [], IfOk, IfSome, IfNone, OnSome, length, map, option_map, zip, Some};
+ghost use Rattle.std.specs.Prelude.{◌≡◌, ◌≤◌, ◌<◌, ◌+◌, ◌∷◌, [], IfOk, IfSome, IfNone, OnSome, length, map, option_map, unwrap_or, zip, Some};
 ghost use Rattle.ap_list.specs.Lists.{lookup_by};
 ghost use Rattle.ap_value.specs.Values.{symbol_eq};
 ghost use Rattle.ap_term.specs.declared.term.Term.TheVariants.{Var};
-ghost use Rattle.ap_term.specs.Terms.{term_size, subst_of};
-ghost use Rattle.ap_translate.specs.Instances.{nodes_found, sum_known, nodes_of, more_than, known_pairs, replaced_by, kept_instance, kept_in_turn, kept_either, kept_by};
+ghost use Rattle.ap_term.specs.Terms.{term_size};
+ghost use Rattle.ap_translate.specs.Instances.{nodes_found, sum_known, nodes_of, more_than, known_pairs, kept_instance, kept_in_turn, kept_either, kept_by};
 
 use crate::names::is_same;
 use crate::sizes::{MOST_NODES, more_nodes};
 use ap_list::{NoMemory, Seq};
-use ap_term::{Term, copy_term};
+use ap_term::{Subst, Term, copy_term, subst};
 use ap_value::{Symbol, copy_symbol};
 use std::alloc::Global;
 use std::slice::from_ref;
@@ -99,51 +99,34 @@ fn count_all(names: &[Symbol], terms: &[Option<Term>], parts: &[Term], before: u
     Some(total)
 }
 
-/// What a variable is replaced by, where it is kept; else itself.
-fn replaced(alloc: Global, found: Option<&Option<Term>>, name: &Symbol) -> Result<Term, NoMemory>
-    ensures { IfOk result (λ u. u ≡ replaced_by (option_map (λ o. o.now) found.entry) name.now) }
+/// What a variable becomes: the term that is kept for it, or itself.
+fn term_for(alloc: Global, name: &Symbol, kept: &Option<Term>) -> Result<Term, NoMemory>
+    ensures { IfOk result (λ u. u ≡ unwrap_or kept.now (Var name.now)) }
 {
-    if let Some(kept) = found {
-        if let Some(term) = kept {
-            return copy_term(alloc, term);
-        }
-    }
-    Ok(Term::Var(copy_symbol(alloc, name)?))
-}
-
-/// A copy of a term with its variables replaced, but for those whose terms aren't kept.
-#[cycle(copying)]
-#[tactic(auto, using(crate::proofs::Counted::copies))]
-fn copied(
-    alloc: Global,
-    names: &[Symbol],
-    terms: &[Option<Term>],
-    term: &Term,
-) -> Result<Term, NoMemory>
-    ensures { IfOk result (λ u. u ≡ subst_of (known_pairs (zip names.now terms.now)) term.now) }
-{
-    match term {
-        Term::Var(name) => replaced(alloc, found(names, terms, name), name),
-        Term::Quote(_) => copy_term(alloc, term),
-        Term::Call(head, parts) => {
-            let parts = copied_all(alloc, names, terms, parts.as_slice())?;
-            Term::call(alloc, copy_symbol(alloc, head)?, parts)
-        }
+    match kept {
+        Some(term) => copy_term(alloc, term),
+        None => Ok(Term::Var(copy_symbol(alloc, name)?)),
     }
 }
 
-#[cycle(copying)]
-fn copied_all(
+/// Each variable with what it becomes, up to the end of the shorter list.
+fn pairs_kept(
     alloc: Global,
     names: &[Symbol],
     terms: &[Option<Term>],
-    parts: &[Term],
-) -> Result<Seq<Term>, NoMemory>
-    ensures { IfOk result (λ us. us ≡ map (subst_of (known_pairs (zip names.now terms.now))) parts.now) }
+) -> Result<Seq<(Symbol, Term)>, NoMemory>
+    ensures { IfOk result (λ ps. ps ≡ known_pairs (zip names.now terms.now)) }
 {
+    let mut left = names;
+    let mut values = terms;
     let mut out = Seq::new(alloc);
-    for part in parts {
-        out.push(copied(alloc, names, terms, part)?)?;
+    while let [name, rest @ ..] = left {
+        let [kept, more @ ..] = values else {
+            return Ok(out);
+        };
+        out.push((copy_symbol(alloc, name)?, term_for(alloc, name, kept)?))?;
+        left = rest;
+        values = more;
     }
     Ok(out)
 }
@@ -160,7 +143,10 @@ fn instance(
 {
     match count(names, terms, term, 0) {
         None => Ok(None),
-        Some(_) => Ok(Some(copied(alloc, names, terms, term)?)),
+        Some(_) => {
+            let pairs = Subst(pairs_kept(alloc, names, terms)?);
+            Ok(Some(subst(alloc, term, &pairs)?))
+        }
     }
 }
 

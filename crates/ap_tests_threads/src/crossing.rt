@@ -1,0 +1,129 @@
+//! A world that another thread reads and drops, and a task of the waterfall that another thread walks.
+ghost use Rattle.std.specs.Prelude.{IfOk};
+ghost use denote.Param.Send.{IsSend, IsSync};
+ghost use Rattle.ap_world.specs.Sound.{HasFunctions};
+ghost use Rattle.ap_strategy.specs.Goals.{defs_of};
+
+use ap_eval::is_known;
+use ap_ground::ground_world;
+use ap_ground::laws::ground_has_its_functions;
+use ap_list::{NoMemory, Seq};
+use ap_strategy::{Acl2Step, Plan, Task};
+use ap_term::Term;
+use ap_value::{Value, acl2};
+use ap_walk::{Rule, Step, serial};
+use ap_world::World;
+use std::alloc::{AllocError, Global};
+use std::sync::Wait;
+use std::test::Fail;
+use std::thread;
+use std::thread::Threads;
+
+/// That a type may cross, as a fact of the caller's proof. Costs nothing.
+fn shown<T: Send + Sync>()
+    ensures send { IsSend T.row }
+    ensures sync { IsSync T.row }
+{
+}
+
+/// The number of a world's entries, which another thread counts, and which drops the world.
+fn counted_elsewhere(rt: &impl Threads, w: World) -> Result<usize, NoMemory> {
+    shown::<Term>();
+    shown::<Value>();
+    let child = thread::spawn(rt, move || w.count())?;
+    Ok(child.join(rt))
+}
+
+#[test]
+fn a_world_is_read_and_dropped_elsewhere(rt: HostRuntime) -> Result<(), Fail> {
+    let here = ground_world(rt.alloc())?;
+    let there = ground_world(rt.alloc())?;
+    assert!(rt; counted_elsewhere(&rt, there)? == here.count());
+    Ok(())
+}
+
+/// How many tasks the walk of a task visits. Task and walk are dropped.
+fn visits<S: Step>(alloc: Global, step: &S, task: S::Task) -> Result<usize, NoMemory> {
+    let rule = Rule {
+        initial: true,
+        otf: true,
+        goal_limit: 100,
+    };
+    let walked = serial(alloc, step, &task, rule)?;
+    Ok(walked.marks.len())
+}
+
+/// The same by another thread, for any step whose tasks may cross.
+fn visits_elsewhere<S: Step + Sync, R: Threads + Wait + Sync>(
+    rt: &R,
+    alloc: Global,
+    step: &S,
+    task: S::Task,
+) -> Result<usize, NoMemory>
+where
+    S::Task: Send,
+{
+    thread::scope(
+        thread::scope_env(),
+        rt,
+        |scope| -> Result<usize, NoMemory> {
+            let child = scope.spawn(move || visits(alloc, step, task))?;
+            child.join(rt)
+        },
+    )
+}
+
+/// `(IF X (IF Y Z W) V)`, a conjecture that splits into three goals.
+fn conjecture(alloc: Global) -> Result<Term, NoMemory> {
+    let inner = choice(alloc, variable(alloc, b"Y")?, variable(alloc, b"Z")?, variable(alloc, b"W")?)?;
+    choice(alloc, variable(alloc, b"X")?, inner, variable(alloc, b"V")?)
+}
+
+fn variable(alloc: Global, name: &[u8]) -> Result<Term, NoMemory> {
+    Ok(Term::Var(acl2(alloc, name)?))
+}
+
+fn choice(alloc: Global, test: Term, yes: Term, no: Term) -> Result<Term, NoMemory> {
+    let mut parts = Seq::new(alloc);
+    parts.push(test)?;
+    parts.push(yes)?;
+    parts.push(no)?;
+    Term::call(alloc, acl2(alloc, b"IF")?, parts)
+}
+
+/// A plan of the ground world.
+fn first_plan(alloc: Global) -> Result<Plan, NoMemory>
+    ensures { IfOk result (λ p. HasFunctions (defs_of p)) }
+{
+    ground_has_its_functions();
+    let world = ground_world(alloc)?;
+    Ok(Plan { world, step_limit: 100 })
+}
+
+/// The task of a term, which is one of the plan's world.
+fn root<'a>(alloc: Global, plan: &'a Plan, t: &Term) -> Result<Task<'a>, NoMemory>
+    requires { HasFunctions (defs_of plan.now) }
+{
+    if is_known(&plan.world, t) {
+        Acl2Step::new(plan).root(alloc, t)
+    } else {
+        Err(AllocError)
+    }
+}
+
+/// How many goals the waterfall visits in the walk of the conjecture, by another thread.
+fn waterfall_elsewhere<R: Threads + Wait + Sync>(rt: &R, alloc: Global, plan: &Plan) -> Result<usize, NoMemory>
+    requires { HasFunctions (defs_of plan.now) }
+{
+    shown::<Term>();
+    shown::<Value>();
+    let task = root(alloc, plan, &conjecture(alloc)?)?;
+    visits_elsewhere(rt, alloc, &Acl2Step::new(plan), task)
+}
+
+#[test]
+fn a_goal_is_walked_and_dropped_elsewhere(rt: HostRuntime) -> Result<(), Fail> {
+    let plan = first_plan(rt.alloc())?;
+    assert!(rt; waterfall_elsewhere(&rt, rt.alloc(), &plan)? == 4);
+    Ok(())
+}
