@@ -14,8 +14,6 @@ mod splitting;
 #[cfg(test)]
 mod tables;
 #[cfg(test)]
-mod theorems;
-#[cfg(test)]
 mod types;
 #[cfg(test)]
 mod waterfall;

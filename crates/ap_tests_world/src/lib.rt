@@ -4,8 +4,6 @@
 #[cfg(test)]
 mod evaluation;
 #[cfg(test)]
-mod going_back;
-#[cfg(test)]
 mod grounds;
 #[cfg(test)]
 mod worlds;

@@ -81,7 +81,7 @@ fn a_copy_answers_what_was_added(rt: HostRuntime) -> Result<(), NoMemory> {
 }
 
 /// A theory that disables rewriting by `f`.
-pub(crate) fn without_f(alloc: Global) -> Result<Theory, NoMemory> {
+fn without_f(alloc: Global) -> Result<Theory, NoMemory> {
     let mut disabled = Seq::new(alloc);
     disabled.push(Rune::Rewrite(acl2(alloc, b"F")?))?;
     Theory::disabling(alloc, disabled)
@@ -165,7 +165,7 @@ fn counter_measure(alloc: Global) -> Result<Measure, NoMemory> {
 }
 
 /// A function of one case.
-pub(crate) fn counter(alloc: Global) -> Result<Function, NoMemory> {
+fn counter(alloc: Global) -> Result<Function, NoMemory> {
     let name = acl2(alloc, b"F")?;
     let formals = one(alloc, acl2(alloc, b"N")?)?;
     let body = same_sides(alloc)?;
@@ -249,7 +249,7 @@ fn measures_are_copied(rt: HostRuntime) -> Result<(), NoMemory> {
 }
 
 /// The theorem `u`, that 7 equals itself.
-pub(crate) fn theorem(alloc: Global) -> Result<Theorem, NoMemory> {
+fn theorem(alloc: Global) -> Result<Theorem, NoMemory> {
     let name = acl2(alloc, b"U")?;
     let term = same_sides(alloc)?;
     Ok(Theorem {

@@ -1,7 +1,0 @@
-use Rattle.ap_list.specs.Lists.{Each}
-use Rattle.ap_kernel.specs.Standing.{Stands}
-use Rattle.ap_tests_kernel.proofs.theorems.all_facts.Given as goal
-
--- each that was made stands
-abbrev pub invariant-loop-i : goal.invariant-loop-i
-invariant-loop-i l = Each (Stands l.w) l.out
