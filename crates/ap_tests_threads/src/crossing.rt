@@ -23,8 +23,7 @@ use std::thread::Threads;
 fn shown<T: Send + Sync>()
     ensures send { IsSend T.row }
     ensures sync { IsSync T.row }
-{
-}
+{}
 
 /// The number of a world's entries, which another thread counts, and which drops the world.
 fn counted_elsewhere(rt: &impl Threads, w: World) -> Result<usize, NoMemory> {
@@ -75,7 +74,12 @@ where
 
 /// `(IF X (IF Y Z W) V)`, a conjecture that splits into three goals.
 fn conjecture(alloc: Global) -> Result<Term, NoMemory> {
-    let inner = choice(alloc, variable(alloc, b"Y")?, variable(alloc, b"Z")?, variable(alloc, b"W")?)?;
+    let inner = choice(
+        alloc,
+        variable(alloc, b"Y")?,
+        variable(alloc, b"Z")?,
+        variable(alloc, b"W")?,
+    )?;
     choice(alloc, variable(alloc, b"X")?, inner, variable(alloc, b"V")?)
 }
 
@@ -97,7 +101,10 @@ fn first_plan(alloc: Global) -> Result<Plan, NoMemory>
 {
     ground_has_its_functions();
     let world = ground_world(alloc)?;
-    Ok(Plan { world, step_limit: 100 })
+    Ok(Plan {
+        world,
+        step_limit: 100,
+    })
 }
 
 /// The task of a term, which is one of the plan's world.
@@ -112,7 +119,11 @@ fn root<'a>(alloc: Global, plan: &'a Plan, t: &Term) -> Result<Task<'a>, NoMemor
 }
 
 /// How many goals the waterfall visits in the walk of the conjecture, by another thread.
-fn waterfall_elsewhere<R: Threads + Wait + Sync>(rt: &R, alloc: Global, plan: &Plan) -> Result<usize, NoMemory>
+fn waterfall_elsewhere<R: Threads + Wait + Sync>(
+    rt: &R,
+    alloc: Global,
+    plan: &Plan,
+) -> Result<usize, NoMemory>
     requires { HasFunctions (defs_of plan.now) }
 {
     shown::<Term>();
