@@ -1,38 +1,30 @@
 // What a value is, as a test, and the constants that tests give.
-ghost use Rattle.std.specs.Prelude.{◌≡◌, ◌<◌, ◌↔◌, ℕ, IsTrue, IfOk, map, slice_index};
+ghost use Rattle.std.specs.Prelude.{◌≡◌, ◌<◌, ◌↔◌, ℕ, IsTrue, map, slice_index};
 ghost use Rattle.ap_value.specs.Values.{val_of, byte_of, value_eq, acl2};
 ghost use Rattle.ap_world.specs.Primitives.{symbol_value, nil, is_cons, is_integer, is_symbol, is_string, is_character};
 ghost use Rattle.ap_world.specs.Names.{list_name};
 ghost use Rattle.ap_world.specs.Units.{nil_constant, truth_constant};
 
-use ap_list::{NoMemory, Text};
-use ap_value::{Value, acl2, same};
-use std::alloc::Global;
+use ap_list::Text;
+use ap_value::{Value, named, same};
 
-/// The symbol of package `ACL2` with a name.
-fn named(alloc: Global, name: &[u8]) -> Result<Value, NoMemory>
-    ensures { IfOk result (λ v. v ≡ Value.Sym (acl2 name.now)) }
-{
-    Ok(Value::Sym(acl2(alloc, name)?))
-}
-
-/// The symbol `nil`.
+/// The symbol `nil`. Takes no memory.
 #[tactic(auto, unfolding(ap_world::specs::Names::nil_name))]
-pub(crate) fn nil_value(alloc: Global) -> Result<Value, NoMemory>
-    ensures { IfOk result (λ v. v ≡ nil_constant) }
+pub(crate) fn nil_value() -> Value
+    ensures { result ≡ nil_constant }
 {
-    named(alloc, b"NIL")
+    Value::Sym(named(b"NIL"))
 }
 
-/// `t` or `nil`.
+/// `t` or `nil`. Takes no memory.
 #[tactic(auto, unfolding(ap_world::specs::Names::t_name))]
-pub(crate) fn truth_value(alloc: Global, holds: bool) -> Result<Value, NoMemory>
-    ensures { IfOk result (λ v. v ≡ truth_constant holds) }
+pub(crate) fn truth_value(holds: bool) -> Value
+    ensures { result ≡ truth_constant holds }
 {
     if holds {
-        named(alloc, b"T")
+        Value::Sym(named(b"T"))
     } else {
-        nil_value(alloc)
+        nil_value()
     }
 }
 

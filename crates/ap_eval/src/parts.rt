@@ -85,7 +85,7 @@ pub(crate) fn first_of(alloc: Global, v: &Value) -> Result<Value, NoMemory>
 {
     match v {
         Value::Cons(first, _) => copy(alloc, first.get()),
-        _ => nil_value(alloc),
+        _ => Ok(nil_value()),
     }
 }
 
@@ -95,7 +95,7 @@ pub(crate) fn rest_of(alloc: Global, v: &Value) -> Result<Value, NoMemory>
 {
     match v {
         Value::Cons(_, rest) => copy(alloc, rest.get()),
-        _ => nil_value(alloc),
+        _ => Ok(nil_value()),
     }
 }
 

@@ -17,11 +17,11 @@ fn applied_to_one(alloc: Global, p: Primitive, x: &Value) -> Result<Option<Value
     ensures { IfOk result (λ r. r ≡ unary p x.now) }
 {
     match p {
-        Primitive::Consp => Ok(Some(truth_value(alloc, is_pair(x))?)),
-        Primitive::Integerp => Ok(Some(truth_value(alloc, is_int(x))?)),
-        Primitive::Symbolp => Ok(Some(truth_value(alloc, is_sym(x))?)),
-        Primitive::Stringp => Ok(Some(truth_value(alloc, is_text(x))?)),
-        Primitive::Characterp => Ok(Some(truth_value(alloc, is_char(x))?)),
+        Primitive::Consp => Ok(Some(truth_value(is_pair(x)))),
+        Primitive::Integerp => Ok(Some(truth_value(is_int(x)))),
+        Primitive::Symbolp => Ok(Some(truth_value(is_sym(x)))),
+        Primitive::Stringp => Ok(Some(truth_value(is_text(x)))),
+        Primitive::Characterp => Ok(Some(truth_value(is_char(x)))),
         Primitive::Car => Ok(Some(first_of(alloc, x)?)),
         Primitive::Cdr => Ok(Some(rest_of(alloc, x)?)),
         Primitive::Minus => Ok(negation(x)),
@@ -49,11 +49,11 @@ fn applied_to_two(
     ensures { IfOk result (λ r. r ≡ binary p x.now y.now) }
 {
     match p {
-        Primitive::Equal => Ok(Some(truth_value(alloc, is_same(x, y))?)),
+        Primitive::Equal => Ok(Some(truth_value(is_same(x, y)))),
         Primitive::Cons => Ok(Some(pair(alloc, x, y)?)),
         Primitive::Plus => Ok(sum(x, y)),
         Primitive::Times => Ok(product(x, y)),
-        Primitive::Less => Ok(Some(truth_value(alloc, is_less(x, y))?)),
+        Primitive::Less => Ok(Some(truth_value(is_less(x, y)))),
         Primitive::Coerce => Ok(Some(coercion(alloc, x, y)?)),
         _ => Ok(None),
     }

@@ -72,7 +72,7 @@ pub(crate) fn charge_variable(
     match value_in(bindings, x) {
         Some(value) => charge(alloc, value, units),
         None => {
-            let value = nil_value(alloc)?;
+            let value = nil_value();
             charge(alloc, &value, units)
         }
     }

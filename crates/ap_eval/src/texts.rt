@@ -14,7 +14,7 @@ use std::alloc::Global;
 fn characters_of(alloc: Global, codes: &[u8]) -> Result<Value, NoMemory>
     ensures { IfOk result (λ r. r ≡ characters codes.now) }
 {
-    let mut list = nil_value(alloc)?;
+    let mut list = nil_value();
     let mut left = codes.len();
     while left > 0 {
         left -= 1;
@@ -29,7 +29,7 @@ fn list_of(alloc: Global, v: &Value) -> Result<Value, NoMemory>
 {
     match v {
         Value::Str(codes) => characters_of(alloc, codes.as_slice()),
-        _ => nil_value(alloc),
+        _ => Ok(nil_value()),
     }
 }
 

@@ -63,7 +63,7 @@ pub fn if_term(alloc: Global, a: Term, b: Term, c: Term) -> Result<Term, NoMemor
     parts.push(a)?;
     parts.push(b)?;
     parts.push(c)?;
-    Term::call(alloc, if_symbol(alloc)?, parts)
+    Term::call(alloc, if_symbol(), parts)
 }
 
 /// From an `if` to the `if` of what its parts lead to. The branches lead under what the new test's truth

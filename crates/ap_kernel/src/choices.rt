@@ -134,7 +134,7 @@ pub fn not_term(alloc: Global, a: Term) -> Result<Term, NoMemory>
 {
     let mut parts = Seq::new(alloc);
     parts.push(a)?;
-    Term::call(alloc, not_symbol(alloc)?, parts)
+    Term::call(alloc, not_symbol(), parts)
 }
 
 /// What an `if` leads to, built.

@@ -1,4 +1,4 @@
-ghost use Rattle.std.specs.Prelude.{◌≡◌, IfOk, ℕ, ◌<◌, slice_index, [], ◌∷◌};
+ghost use Rattle.std.specs.Prelude.{◌≡◌, ℕ, ◌<◌, slice_index, [], ◌∷◌};
 ghost use Rattle.ap_value.specs.Values.{acl2, val_of, value_eq};
 ghost use Rattle.ap_term.specs.declared.term.Term.TheVariants.{Quote, Call};
 ghost use Rattle.ap_world.specs.Primitives.{symbol_value, nil, t};
@@ -6,10 +6,8 @@ ghost use Rattle.ap_world.specs.Names.{if_name, not_name, equal_name};
 ghost use Rattle.ap_world.specs.Recursion.{nil_constant, t_constant};
 ghost use Rattle.ap_world.specs.Clauses.{is_nil};
 
-use ap_list::NoMemory;
 use ap_term::Term;
-use ap_value::{Symbol, Value, acl2, is_named};
-use std::alloc::Global;
+use ap_value::{Symbol, Value, is_named, named};
 
 /// Each byte is below 256. Costs nothing: a caller's proof learns it so.
 fn are_bytes(bytes: &[u8])
@@ -62,42 +60,42 @@ pub fn is_nil_term(t: &Term) -> bool
     }
 }
 
-/// The constant `'NIL`.
+/// The constant `'NIL`. Takes no memory.
 #[tactic(auto, unfolding(ap_world::specs::Names::nil_name))]
-pub fn nil_term(alloc: Global) -> Result<Term, NoMemory>
-    ensures { IfOk result (λ u. u ≡ nil_constant) }
+pub fn nil_term() -> Term
+    ensures { result ≡ nil_constant }
 {
-    Ok(Term::Quote(Value::Sym(acl2(alloc, b"NIL")?)))
+    Term::Quote(Value::Sym(named(b"NIL")))
 }
 
-/// The constant `'T`.
+/// The constant `'T`. Takes no memory.
 #[tactic(auto, unfolding(ap_world::specs::Names::t_name))]
-pub fn t_term(alloc: Global) -> Result<Term, NoMemory>
-    ensures { IfOk result (λ u. u ≡ t_constant) }
+pub fn t_term() -> Term
+    ensures { result ≡ t_constant }
 {
-    Ok(Term::Quote(Value::Sym(acl2(alloc, b"T")?)))
+    Term::Quote(Value::Sym(named(b"T")))
 }
 
-/// The symbol `equal`.
+/// The symbol `equal`. Takes no memory.
 #[tactic(auto, unfolding(ap_world::specs::Names::equal_name))]
-pub fn equal_symbol(alloc: Global) -> Result<Symbol, NoMemory>
-    ensures { IfOk result (λ s. s ≡ equal_name) }
+pub fn equal_symbol() -> Symbol
+    ensures { result ≡ equal_name }
 {
-    acl2(alloc, b"EQUAL")
+    named(b"EQUAL")
 }
 
-/// The symbol `not`.
+/// The symbol `not`. Takes no memory.
 #[tactic(auto, unfolding(ap_world::specs::Names::not_name))]
-pub fn not_symbol(alloc: Global) -> Result<Symbol, NoMemory>
-    ensures { IfOk result (λ s. s ≡ not_name) }
+pub fn not_symbol() -> Symbol
+    ensures { result ≡ not_name }
 {
-    acl2(alloc, b"NOT")
+    named(b"NOT")
 }
 
-/// The symbol `if`.
+/// The symbol `if`. Takes no memory.
 #[tactic(auto, unfolding(ap_world::specs::Names::if_name))]
-pub fn if_symbol(alloc: Global) -> Result<Symbol, NoMemory>
-    ensures { IfOk result (λ s. s ≡ if_name) }
+pub fn if_symbol() -> Symbol
+    ensures { result ≡ if_name }
 {
-    acl2(alloc, b"IF")
+    named(b"IF")
 }

@@ -97,14 +97,14 @@ pub fn equal_term(alloc: Global, a: Term, b: Term) -> Result<Term, NoMemory>
     let mut sides = Seq::new(alloc);
     sides.push(a)?;
     sides.push(b)?;
-    Term::call(alloc, equal_symbol(alloc)?, sides)
+    Term::call(alloc, equal_symbol(), sides)
 }
 
-/// `'T` or `'NIL`
-pub fn truth_term(alloc: Global, sign: bool) -> Result<Term, NoMemory>
-    ensures { IfOk result (λ u. u ≡ truth_constant sign) }
+/// `'T` or `'NIL`. Takes no memory.
+pub fn truth_term(sign: bool) -> Term
+    ensures { result ≡ truth_constant sign }
 {
-    if sign { t_term(alloc) } else { nil_term(alloc) }
+    if sign { t_term() } else { nil_term() }
 }
 
 /// The two parts, copied.
@@ -129,7 +129,7 @@ fn apart(alloc: Global, a: Parts<'_>, b: Parts<'_>) -> Result<Term, NoMemory>
     let (b_first, b_rest) = own_parts(alloc, b)?;
     let first = equal_term(alloc, a_first, b_first)?;
     let rest = equal_term(alloc, a_rest, b_rest)?;
-    if_term(alloc, first, rest, nil_term(alloc)?)
+    if_term(alloc, first, rest, nil_term())
 }
 
 /// Where an equation leads, built.
@@ -137,7 +137,7 @@ fn own_leads(alloc: Global, leads: Leads<'_>) -> Result<Term, NoMemory>
     ensures { IfOk result (λ u. u ≡ seen_leads leads.entry) }
 {
     match leads {
-        Leads::Truth(sign) => truth_term(alloc, sign),
+        Leads::Truth(sign) => Ok(truth_term(sign)),
         Leads::Apart(a, b) => apart(alloc, a, b),
     }
 }

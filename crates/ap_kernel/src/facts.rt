@@ -25,10 +25,10 @@ fn fact_equiv(alloc: Global, ctx: &Ctx, t: &Term, sign: bool) -> Result<Equiv, N
 {
     let lhs = copy_term(alloc, t)?;
     if sign {
-        let rhs = t_term(alloc)?;
+        let rhs = t_term();
         return Ok(Equiv::made(ctx.share()?, Mode::Iff, lhs, rhs));
     }
-    let rhs = nil_term(alloc)?;
+    let rhs = nil_term();
     Ok(Equiv::made(ctx.share()?, Mode::Equal, lhs, rhs))
 }
 

@@ -71,7 +71,7 @@ pub fn by_certificate(
 {
     w.is_sound();
     let lhs = copy_term(alloc, t)?;
-    let rhs = truth_term(alloc, !sign)?;
+    let rhs = truth_term(!sign);
     let answer = Equiv::made(ctx.share()?, Mode::Equal, lhs, rhs);
     Ok(answer)
 }
@@ -90,7 +90,7 @@ fn equated(alloc: Global, call: Term) -> Result<Term, NoMemory>
     ensures { IfOk result (λ u. (a b : Term) → call ≡ less_of a b → u ≡ equal_of a b) }
 {
     match call {
-        Term::Call(_, sides) => Ok(Term::Call(equal_symbol(alloc)?, sides)),
+        Term::Call(_, sides) => Ok(Term::Call(equal_symbol(), sides)),
         Term::Var(_) => unreachable!(),
         Term::Quote(_) => unreachable!(),
     }
@@ -102,7 +102,7 @@ fn equal_equiv(alloc: Global, ctx: &Ctx, call: Term) -> Result<Equiv, NoMemory>
     ensures { IfOk result (λ q. (a b : Term) → call ≡ less_of a b → q.says ≡ equal_made ctx.now a b) }
 {
     let lhs = equated(alloc, call)?;
-    let rhs = t_term(alloc)?;
+    let rhs = t_term();
     Ok(Equiv::made(ctx.share()?, Mode::Equal, lhs, rhs))
 }
 

@@ -171,7 +171,7 @@ pub(crate) fn instances(
     match read(conjunct) {
         Reading::Equal(a, b) => Ok((Mode::Equal, subst(alloc, a, s)?, subst(alloc, b, s)?)),
         Reading::Iff(a, b) => Ok((Mode::Iff, subst(alloc, a, s)?, subst(alloc, b, s)?)),
-        Reading::Nil(a) => Ok((Mode::Equal, subst(alloc, a, s)?, nil_term(alloc)?)),
-        Reading::True(u) => Ok((Mode::Iff, subst(alloc, u, s)?, t_term(alloc)?)),
+        Reading::Nil(a) => Ok((Mode::Equal, subst(alloc, a, s)?, nil_term())),
+        Reading::True(u) => Ok((Mode::Iff, subst(alloc, u, s)?, t_term())),
     }
 }

@@ -32,7 +32,7 @@ fn leads_to_true(alloc: Global, ctx: &Ctx, s: &Subst, h: &Term, q: &Equiv) -> Re
     ensures { IfOk result (λ b. IsTrue b ↔ LeadsToTrue ctx.now s.now.0 h.now q.now.says) }
 {
     let instance = subst(alloc, h, s)?;
-    let truth = t_term(alloc)?;
+    let truth = t_term();
     let facts = same_facts(q.ctx().facts(), ctx.facts());
     let left = same_term(q.lhs(), &instance);
     let right = same_term(q.rhs(), &truth);

@@ -23,7 +23,7 @@ fn negated_bare(alloc: Global, t: &Term) -> Result<Term, NoMemory>
     ensures { IfOk result (λ u. u ≡ negated_bare (shape_of t.now) t.now) }
 {
     match shape_of(t) {
-        ShapeRef::Constant(v) => truth_term(alloc, is_nil(v)),
+        ShapeRef::Constant(v) => Ok(truth_term(is_nil(v))),
         _ => not_term(alloc, copy_term(alloc, t)?),
     }
 }

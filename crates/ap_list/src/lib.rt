@@ -9,17 +9,16 @@ mod shared;
 mod shared_compared;
 mod shared_seq;
 mod tagged;
+mod text;
 
 pub use boxed::Boxed;
 pub use seq::Seq;
 pub use shared::Shared;
 pub use shared_seq::SharedSeq;
+pub use text::Text;
 
 /// Want of memory: the one answer whose cause nothing states.
 pub type NoMemory = std::alloc::AllocError;
 
 /// A list of bytes: a text of a book, a name, what is printed.
 pub type Bytes = Seq<u8>;
-
-/// A list of bytes that copies share: a symbol's name, a string's codes.
-pub type Text = SharedSeq<u8>;

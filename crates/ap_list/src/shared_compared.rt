@@ -1,10 +1,13 @@
 // Equality and hashes of what is shared, by the value, so that it may be part of a table's key.
 ghost use Rattle.std.specs.Cmp.Lexicographic.{pointwise, lists_per, lists_equiv};
+ghost use Rattle.std.specs.Cmp.Rules.{comparing};
+ghost use Rattle.std.proofs.Common.{rules};
 ghost use Rattle.std.specs.Hash as fed;
 ghost use Rattle.std.specs.Hash.{items_Alike};
 
 use crate::shared::Shared;
 use crate::shared_seq::SharedSeq;
+use crate::text::Text;
 use std::hash::{Hash, Hasher};
 
 impl<T: PartialEq> PartialEq for Shared<T> {
@@ -49,6 +52,30 @@ impl<T: Hash> Hash for SharedSeq<T> {
     ghost hash_input = { fed.slice T.hash_input };
 
     ghost respects_eq = { (items_Alike (record { fed = T.respects_eq })).fed };
+
+    fn hash<H: Hasher>(&self, state: &mut H) {
+        self.as_slice().hash(state);
+    }
+}
+
+impl PartialEq for Text {
+    ghost eq = { pointwise ⟦<u8 as PartialEq>⟧.eq };
+
+    ghost laws = { lists_per (Prim.search comparing) };
+
+    fn eq(&self, other: &Text) -> bool {
+        self.as_slice() == other.as_slice()
+    }
+}
+
+impl Eq for Text {
+    ghost laws = { lists_equiv (Prim.search comparing) };
+}
+
+impl Hash for Text {
+    ghost hash_input = { fed.slice ⟦<u8 as Hash>⟧.hash_input };
+
+    ghost respects_eq = { (items_Alike {F = ⟦<u8 as Hash>⟧.hash_input} (record { fed = Prim.search rules })).fed };
 
     fn hash<H: Hasher>(&self, state: &mut H) {
         self.as_slice().hash(state);

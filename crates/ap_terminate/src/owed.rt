@@ -10,7 +10,7 @@ use ap_clausify::flat;
 use ap_kernel::{equal_term, if_term, nil_term, pairs_of, subst_all, t_term};
 use ap_list::{NoMemory, Seq};
 use ap_term::{Clause, Term, copy_term};
-use ap_value::{Symbol, acl2};
+use ap_value::{Symbol, named};
 use ap_world::{Case, Defun, Measure};
 use std::alloc::Global;
 
@@ -31,7 +31,7 @@ fn natp_term(alloc: Global, u: &Term) -> Result<Term, NoMemory>
 {
     let mut arguments = Seq::new(alloc);
     arguments.push(copy_term(alloc, u)?)?;
-    Term::call(alloc, acl2(alloc, b"NATP")?, arguments)
+    Term::call(alloc, named(b"NATP"), arguments)
 }
 
 /// `(< a b)`
@@ -39,7 +39,7 @@ fn natp_term(alloc: Global, u: &Term) -> Result<Term, NoMemory>
 fn less_term(alloc: Global, a: &Term, b: &Term) -> Result<Term, NoMemory>
     ensures { IfOk result (λ r. r ≡ two less_name a.now b.now) }
 {
-    let head = acl2(alloc, b"<")?;
+    let head = named(b"<");
     pair_call(alloc, head, copy_term(alloc, a)?, copy_term(alloc, b)?)
 }
 
@@ -48,7 +48,7 @@ fn less_term(alloc: Global, a: &Term, b: &Term) -> Result<Term, NoMemory>
 fn implies_term(alloc: Global, h: Term, c: Term) -> Result<Term, NoMemory>
     ensures { IfOk result (λ r. r ≡ two implies_name h c) }
 {
-    let head = acl2(alloc, b"IMPLIES")?;
+    let head = named(b"IMPLIES");
     pair_call(alloc, head, h, c)
 }
 
@@ -67,8 +67,8 @@ fn or_later(alloc: Global, a: &Term, b: &Term, rest: Term) -> Result<Term, NoMem
     ensures { IfOk result (λ u. u ≡ or_later a.now b.now rest) }
 {
     let same = equal_term(alloc, copy_term(alloc, a)?, copy_term(alloc, b)?)?;
-    let later = if_term(alloc, same, rest, nil_term(alloc)?)?;
-    if_term(alloc, less_term(alloc, a, b)?, t_term(alloc)?, later)
+    let later = if_term(alloc, same, rest, nil_term())?;
+    if_term(alloc, less_term(alloc, a, b)?, t_term(), later)
 }
 
 /// That the first list is less than the second, component by component; of one component `(< a b)`.
@@ -77,10 +77,10 @@ fn less(alloc: Global, xs: &[Term], ys: &[Term]) -> Result<Term, NoMemory>
     ensures { IfOk result (λ u. u ≡ less xs.now ys.now) }
 {
     let [a, left @ ..] = xs else {
-        return nil_term(alloc);
+        return Ok(nil_term());
     };
     let [b, right @ ..] = ys else {
-        return nil_term(alloc);
+        return Ok(nil_term());
     };
     if are_last(left, right) {
         return less_term(alloc, a, b);
@@ -97,7 +97,7 @@ fn conjunction(alloc: Global, first: &Term, tests: &[Term]) -> Result<Term, NoMe
         [] => copy_term(alloc, first),
         [second, rest @ ..] => {
             let later = conjunction(alloc, second, rest)?;
-            if_term(alloc, copy_term(alloc, first)?, later, nil_term(alloc)?)
+            if_term(alloc, copy_term(alloc, first)?, later, nil_term())
         }
     }
 }

@@ -7,6 +7,6 @@ mod value;
 
 pub use ap_list::{Boxed, Bytes, NoMemory, Seq, Shared, Text};
 pub use symbol::{
-    BookName, Symbol, acl2, copy_bytes, copy_symbol, is_named, same_bytes, same_symbol,
+    BookName, Symbol, acl2, copy_bytes, copy_symbol, is_named, named, same_symbol, same_text,
 };
 pub use value::{Value, acl2_count, copy, equality_of_values, nodes, same};

@@ -17,12 +17,12 @@ pub struct Symbol {
 #[derive(Debug, Drop)]
 pub struct BookName(pub Bytes);
 
-/// The bytes of a list, each below 256.
-fn slice_of(bytes: &Bytes) -> &[u8]
-    ensures value { result.now ≡ bytes.now }
-    ensures small { (i : ℕ) → slice_index bytes.now i < 256 }
+/// The bytes of a text, each below 256.
+fn slice_of(text: &Text) -> &[u8]
+    ensures value { result.now ≡ text.now }
+    ensures small { (i : ℕ) → slice_index text.now i < 256 }
 {
-    let slice = bytes.as_slice();
+    let slice = text.as_slice();
     slice
 }
 
@@ -35,7 +35,7 @@ pub(crate) fn same_code(a: u8, b: u8) -> bool
 }
 
 /// Whether two texts have the same bytes. Takes no memory.
-pub fn same_bytes(a: &Bytes, b: &Bytes) -> bool
+pub fn same_text(a: &Text, b: &Text) -> bool
     ensures same { IsTrue result ↔ (a.now ≡ b.now) }
     ensures meant { IsTrue result ↔ (map byte_of a.now ≡ map byte_of b.now) }
 {
@@ -54,7 +54,7 @@ pub fn same_symbol(a: &Symbol, b: &Symbol) -> bool
     ensures same { IsTrue result ↔ (a.now ≡ b.now) }
     ensures meant { IsTrue result ↔ ((a.now.keyword ≡ b.now.keyword) × (map byte_of a.now.name ≡ map byte_of b.now.name)) }
 {
-    a.keyword == b.keyword && same_bytes(&a.name, &b.name)
+    a.keyword == b.keyword && same_text(&a.name, &b.name)
 }
 
 /// A copy of a symbol, which shares the name: it takes no memory.
@@ -77,6 +77,17 @@ pub fn acl2(alloc: Global, name: &[u8]) -> Result<Symbol, NoMemory>
         keyword: false,
         name,
     })
+}
+
+/// The symbol of package `ACL2` with a name that the program itself has, as those of the primitives. Takes no
+/// memory.
+pub fn named(name: &'static [u8]) -> Symbol
+    ensures { result ≡ acl2 name.now }
+{
+    Symbol {
+        keyword: false,
+        name: Text::fixed(name),
+    }
 }
 
 /// Whether a symbol is the one of package `ACL2` with this name. Takes no memory.

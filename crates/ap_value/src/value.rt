@@ -4,7 +4,7 @@ ghost use Rattle.ap_value.specs.Equal.{constant_eq};
 ghost use Rattle.ap_value.specs.Values.{val_of};
 ghost use Rattle.ap_value.specs.Counts.{node_count, acl2_count_of};
 
-use crate::symbol::{Symbol, copy_symbol, same_bytes, same_code, same_symbol};
+use crate::symbol::{Symbol, copy_symbol, same_code, same_symbol, same_text};
 use ap_list::{Bytes, NoMemory, Shared, Text};
 use std::alloc::Global;
 
@@ -46,7 +46,7 @@ pub fn same(a: &Value, b: &Value) -> bool
     match (a, b) {
         (Value::Int(x), Value::Int(y)) => *x == *y,
         (Value::Chr(x), Value::Chr(y)) => same_code(*x, *y),
-        (Value::Str(x), Value::Str(y)) => same_bytes(x, y),
+        (Value::Str(x), Value::Str(y)) => same_text(x, y),
         (Value::Sym(x), Value::Sym(y)) => same_symbol(x, y),
         (Value::Cons(x, xs), Value::Cons(y, ys)) => same(x.get(), y.get())
             && same(xs.get(), ys.get()),

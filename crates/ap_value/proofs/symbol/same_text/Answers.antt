@@ -1,6 +1,6 @@
 use Rattle.std.proofs.Common.{◌≡◌, ◌↔◌, IsTrue, rules}
 use Rattle.ap_value.proofs.Bytes.{texts_meant}
-use Rattle.ap_value.proofs.symbol.same_bytes.Goals as goal
+use Rattle.ap_value.proofs.symbol.same_text.Goals as goal
 
 -- the bytes are those of the texts, which are below 256
 pub returns-clause-meant : goal.returns-clause-meant

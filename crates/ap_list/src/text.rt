@@ -1,0 +1,87 @@
+ghost use Rattle.std.specs.Prelude.{◌≡◌, [], ◌↔◌, length, IsTrue, IfOk};
+
+use crate::seq::Seq;
+use crate::shared_seq::SharedSeq;
+use std::alloc::{AllocError, Global};
+use std::marker::Model;
+
+/// Where the bytes of a text lie: in the program itself, or in memory that copies share.
+#[derive(Debug, Drop)]
+enum Held {
+    Fixed(&'static [u8]),
+    Shared(SharedSeq<u8>),
+}
+
+/// A list of bytes that copies share: a symbol's name, a string's codes. One that the program itself has, as
+/// the name of a primitive, takes no memory. Contracts see the bytes.
+#[derive(Debug, Drop)]
+pub struct Text {
+    held: Held,
+}
+
+impl Model for Text {
+    ghost use Rattle.std.specs.Prelude.{List, ℕ};
+    ghost use Rattle.std.specs.Coded.{coded_list, coded_ℕ};
+    ghost use Rattle.ap_list.specs.Texts.{bytes_in};
+
+    ghost Value = { List ℕ };
+
+    ghost coded = { coded_list coded_ℕ };
+
+    ghost view = { λ t. bytes_in t.held };
+}
+
+impl Text {
+    /// A text that the program itself has. Takes no memory.
+    pub fn fixed(bytes: &'static [u8]) -> Text
+        ensures { result ≡ bytes.now }
+    {
+        Text {
+            held: Held::Fixed(bytes),
+        }
+    }
+
+    /// Moves bytes to where they can be shared.
+    pub fn new(alloc: Global, bytes: Seq<u8>) -> Result<Text, AllocError>
+        ensures { IfOk result (λ t. t ≡ bytes) }
+    {
+        let held = Held::Shared(SharedSeq::new(alloc, bytes)?);
+        Ok(Text { held })
+    }
+
+    /// The bytes, lent.
+    pub fn as_slice(&self) -> &[u8]
+        ensures { result.now ≡ self.now }
+    {
+        match &self.held {
+            Held::Fixed(bytes) => bytes,
+            Held::Shared(bytes) => bytes.as_slice(),
+        }
+    }
+
+    /// The number of bytes.
+    pub fn len(&self) -> usize
+        ensures { result ≡ length self.now }
+    {
+        self.as_slice().len()
+    }
+
+    /// Whether there is no byte.
+    pub fn is_empty(&self) -> bool
+        ensures { IsTrue result ↔ (self.now ≡ []) }
+    {
+        self.as_slice().is_empty()
+    }
+
+    /// The same text for one more owner. It takes no memory, and fails only where the count of owners is
+    /// full.
+    pub fn share(&self) -> Result<Text, AllocError>
+        ensures { IfOk result (λ t. t ≡ self.now) }
+    {
+        let held = match &self.held {
+            Held::Fixed(bytes) => Held::Fixed(bytes),
+            Held::Shared(bytes) => Held::Shared(bytes.share()?),
+        };
+        Ok(Text { held })
+    }
+}
