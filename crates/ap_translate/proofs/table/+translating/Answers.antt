@@ -192,9 +192,9 @@ bindings-returns-in_err-next t c =
     let e = c.in_err-next.field-0.0 in
     gives_err c.from_residual-in_err-next.result e _ c.from_residual-in_err-next.ensures.1
     (term_fails r c.args.place forms i f xs c.loop-form.terms (kept_bindings (bindings r c.args.place [] forms)) (at_form forms i f c.loop-form-test.true c.form-item.is) c.loop-form.invariant.told
-        x v e (sym c.in-Some.ensures)
-        (ap (variable x.place xs) (sym c.in_ok-name.ensures) ∙ ap (λ ys. variable x.place ys c.in_ok-name.name) (sym c.as_slice.ensures) ∙ c.in_ok-name-2.ensures)
-        (subst (λ s. Fails e (capped small (term_in c.args.world.now.entries c.args.left s x.value))) c.loop-form.invariant.scope c.in_err-next.ensures))
+    x v e (sym c.in-Some.ensures)
+    (ap (variable x.place xs) (sym c.in_ok-name.ensures) ∙ ap (λ ys. variable x.place ys c.in_ok-name.name) (sym c.as_slice.ensures) ∙ c.in_ok-name-2.ensures)
+    (subst (λ s. Fails e (capped small (term_in c.args.world.now.entries c.args.left s x.value))) c.loop-form.invariant.scope c.in_err-next.ensures))
 
 pub lambda-body_replaced-requires : goal.lambda-body_replaced-requires
 lambda-body_replaced-requires t c =
