@@ -25,3 +25,4 @@ pub use laws::rules_are_parts;
 pub use refusing::RuleError;
 pub use rule::RewriteRule;
 pub use ruled::{Ruled, index};
+mod tests;

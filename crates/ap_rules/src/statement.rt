@@ -19,7 +19,7 @@ pub(crate) struct Statement {
 
 /// How a conjunct is read: whether as an equivalence of truth alone, and its two sides.
 #[derive(Drop)]
-pub(crate) struct Sides {
+pub(crate) struct Reading {
     pub iff: bool,
     pub lhs: Term,
     pub rhs: Term,
@@ -144,20 +144,20 @@ pub(crate) fn state(alloc: Global, t: &Term) -> Result<Statement, NoMemory>
 }
 
 /// Two terms as the sides of an equation.
-fn both(alloc: Global, iff: bool, a: &Term, b: &Term) -> Result<Sides, NoMemory>
+fn both(alloc: Global, iff: bool, a: &Term, b: &Term) -> Result<Reading, NoMemory>
     ensures { IfOk result (λ s. (s.iff, s.lhs, s.rhs) ≡ (iff, a.now, b.now)) }
 {
     let lhs = copy_term(alloc, a)?;
     let rhs = copy_term(alloc, b)?;
-    Ok(Sides { iff, lhs, rhs })
+    Ok(Reading { iff, lhs, rhs })
 }
 
 /// A term that isn't `nil`.
-fn alone(alloc: Global, t: &Term) -> Result<Sides, NoMemory>
+fn alone(alloc: Global, t: &Term) -> Result<Reading, NoMemory>
     ensures { IfOk result (λ s. (s.iff, s.lhs, s.rhs) ≡ (true, t.now, t_constant)) }
 {
     let lhs = copy_term(alloc, t)?;
-    Ok(Sides {
+    Ok(Reading {
         iff: true,
         lhs,
         rhs: t_term(),
@@ -165,7 +165,7 @@ fn alone(alloc: Global, t: &Term) -> Result<Sides, NoMemory>
 }
 
 /// How a call of two arguments is read.
-fn two_sides(alloc: Global, t: &Term, f: &Symbol, a: &Term, b: &Term) -> Result<Sides, NoMemory>
+fn two_sides(alloc: Global, t: &Term, f: &Symbol, a: &Term, b: &Term) -> Result<Reading, NoMemory>
     ensures { IfOk result (λ s. (s.iff, s.lhs, s.rhs) ≡ call_sides (symbol_eq f.now equal_name) (symbol_eq f.now iff_name) (symbol_eq f.now not_name) (a.now ∷ b.now ∷ []) (true, t.now, t_constant)) }
 {
     if is_equal(f) {
@@ -178,7 +178,7 @@ fn two_sides(alloc: Global, t: &Term, f: &Symbol, a: &Term, b: &Term) -> Result<
 }
 
 /// How a call of one argument is read.
-fn one_side(alloc: Global, t: &Term, f: &Symbol, a: &Term) -> Result<Sides, NoMemory>
+fn one_side(alloc: Global, t: &Term, f: &Symbol, a: &Term) -> Result<Reading, NoMemory>
     ensures { IfOk result (λ s. (s.iff, s.lhs, s.rhs) ≡ call_sides (symbol_eq f.now equal_name) (symbol_eq f.now iff_name) (symbol_eq f.now not_name) (a.now ∷ []) (true, t.now, t_constant)) }
 {
     if is_not(f) {
@@ -189,7 +189,7 @@ fn one_side(alloc: Global, t: &Term, f: &Symbol, a: &Term) -> Result<Sides, NoMe
 
 /// How a conjunct is read: `(equal l r)` and `(iff l r)` by their parts, `(not p)` as p to `'NIL`, and another p
 /// as p to `'T` under iff.
-pub(crate) fn sides(alloc: Global, t: &Term) -> Result<Sides, NoMemory>
+pub(crate) fn sides(alloc: Global, t: &Term) -> Result<Reading, NoMemory>
     ensures { IfOk result (λ s. (s.iff, s.lhs, s.rhs) ≡ sides t.now) }
 {
     match t {
