@@ -1,11 +1,13 @@
 -- What the hypotheses and the conjuncts of a theorem are at each kind of term.
-use Rattle.std.proofs.Common.{◌≡◌, ◌<◌, ◌≤◌, Bool, true, List, [], ◌∷◌, ◌++◌, refl, ap, sym, ◌∙◌, append_assoc, length, get_or, arith}
+use Rattle.std.proofs.Common.{◌≡◌, ◌<◌, ◌≤◌, Bool, true, false, List, [], ◌∷◌, ◌++◌, refl, ap, sym, ◌∙◌, subst, append_assoc, length, get_or, arith}
 use Rattle.ap_value.specs.declared.symbol.Symbol.{Symbol}
 use Rattle.ap_value.specs.Values.{symbol_eq}
+use Rattle.ap_value.proofs.Equals.{symbol_eq-true}
 use Rattle.ap_term.specs.declared.term.Term.{Term, Call}
-use Rattle.ap_world.specs.Names.{if_name, implies_name}
+use Rattle.ap_world.specs.Names.{if_name, not_name, equal_name, implies_name, iff_name}
 use Rattle.ap_world.specs.Clauses.{is_nil, conjuncts}
-use Rattle.ap_world.specs.Rules.{stated}
+use Rattle.ap_world.specs.Recursion.{nil_constant}
+use Rattle.ap_world.specs.Rules.{Sides, call_sides, stated}
 use Rattle.ap_world.proofs.Written.{conjuncts_var, conjuncts_quote}
 use Rattle.ap_world.proofs.Given.{conjuncts_called}
 use Rattle.ap_world.proofs.RulesStand.{stated_var, stated_quote, stated_called}
@@ -39,3 +41,12 @@ stated_pair u f h c e q = ap stated e ∙ stated_called f (h ∷ c ∷ []) ∙ r
 -- what is added by two steps
 pub by_steps : (out new xs ys zs : List Term) → zs ≡ xs ++ ys → new ≡ out ++ xs → out ++ zs ≡ new ++ ys
 by_steps out new xs ys zs e h = ap (λ us. out ++ us) e ∙ sym (append_assoc out xs ys) ∙ ap (λ us. us ++ ys) (sym h)
+
+abbrev never : Term → Sides
+never a = (false, a, nil_constant)
+
+-- a call of `not` says that its argument is nil
+pub negated_sides : (f : Symbol) (a : Term) (alone : Sides) → symbol_eq f not_name ≡ true → call_sides (symbol_eq f equal_name) (symbol_eq f iff_name) (symbol_eq f not_name) (a ∷ []) alone ≡ never a
+unfolding not_name equal_name iff_name
+negated_sides f a alone h =
+    subst (λ g. call_sides (symbol_eq g equal_name) (symbol_eq g iff_name) (symbol_eq g not_name) (a ∷ []) alone ≡ never a) (sym (symbol_eq-true f not_name h)) refl

@@ -66,6 +66,7 @@ pub(crate) fn are_within(xs: &[Symbol], ys: &[Symbol]) -> bool
 }
 
 /// The variables of a rule's left side and of its hypotheses: those of a call of these.
+#[tactic(auto, using(crate::proofs::Made::call_variables))]
 fn bound_variables(alloc: Global, rule: &RewriteRule) -> Result<Seq<Symbol>, NoMemory>
     ensures { IfOk result (λ xs. xs ≡ vars_in rule.now.hyps (vars_after rule.now.lhs [])) }
 {

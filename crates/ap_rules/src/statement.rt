@@ -1,4 +1,4 @@
-ghost use Rattle.std.specs.Prelude.{◌≡◌, [], ◌∷◌, ◌++◌, true, IfOk, OnOk};
+ghost use Rattle.std.specs.Prelude.{◌≡◌, [], ◌∷◌, ◌++◌, true, false, IfOk, OnOk};
 ghost use Rattle.ap_value.specs.Values.{symbol_eq};
 ghost use Rattle.ap_world.specs.Clauses.{is_nil, conjuncts};
 ghost use Rattle.ap_world.specs.Names.{if_name, not_name, equal_name, implies_name, iff_name};
@@ -165,6 +165,18 @@ fn alone(alloc: Global, t: &Term) -> Result<Reading, NoMemory>
     })
 }
 
+/// A term that is `nil`.
+fn never(alloc: Global, t: &Term) -> Result<Reading, NoMemory>
+    ensures { IfOk result (λ s. as_sides s ≡ (false, t.now, nil_constant)) }
+{
+    let lhs = copy_term(alloc, t)?;
+    Ok(Reading {
+        iff: false,
+        lhs,
+        rhs: nil_term(),
+    })
+}
+
 /// How a call of two arguments is read.
 fn two_sides(alloc: Global, t: &Term, f: &Symbol, a: &Term, b: &Term) -> Result<Reading, NoMemory>
     ensures { IfOk result (λ s. as_sides s ≡ call_sides (symbol_eq f.now equal_name) (symbol_eq f.now iff_name) (symbol_eq f.now not_name) (a.now ∷ b.now ∷ []) (true, t.now, t_constant)) }
@@ -183,7 +195,7 @@ fn one_side(alloc: Global, t: &Term, f: &Symbol, a: &Term) -> Result<Reading, No
     ensures { IfOk result (λ s. as_sides s ≡ call_sides (symbol_eq f.now equal_name) (symbol_eq f.now iff_name) (symbol_eq f.now not_name) (a.now ∷ []) (true, t.now, t_constant)) }
 {
     if is_not(f) {
-        return both(alloc, false, a, &nil_term());
+        return never(alloc, a);
     }
     alone(alloc, t)
 }
