@@ -1,7 +1,7 @@
 ghost use Rattle.std.specs.Prelude.{◌≡◌, ◌<◌, ◌≤◌, [], ◌∷◌, length, drop, vec_len, IfOk, OnOk, OnErr};
 
 use crate::rule::RewriteRule;
-use ap_list::{NoMemory, Seq};
+use ap_list::{Fixed, NoMemory, Seq};
 use ap_term::Term;
 use ap_value::{Value, named};
 use std::alloc::Global;
@@ -34,7 +34,7 @@ impl Model for Group {
 /// What stands in the room for rules to come. Takes no memory.
 fn filler(alloc: Global) -> RewriteRule {
     RewriteRule {
-        theorem: named(b""),
+        theorem: named(Fixed::Nil),
         part: 0,
         iff: false,
         lhs: Term::Quote(Value::Int(0)),

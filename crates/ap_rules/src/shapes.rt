@@ -1,5 +1,6 @@
 ghost use Rattle.std.specs.Prelude.{◌≡◌, IfOk, is_some, map};
 ghost use Rattle.ap_list.specs.Lists.{all_true, is_distinct, is_among};
+ghost use Rattle.ap_value.specs.Values.{acl2, symbol_eq};
 ghost use Rattle.ap_term.specs.declared.term.Term.{out-Term};
 ghost use Rattle.ap_term.specs.Equal.{term_eq};
 ghost use Rattle.ap_world.specs.Rows.{recognised};
@@ -93,17 +94,33 @@ pub(crate) fn are_inequalities(alloc: Global, parts: &[Term]) -> Result<bool, No
     Ok(true)
 }
 
+/// Whether a symbol is one of package `ACL2` with a name of a list.
+fn is_one_of(symbol: &Symbol, names: &[&'static [u8]]) -> bool
+    ensures { result ≡ is_among symbol_eq symbol.now (map (λ n. acl2 n.now) names.now) }
+{
+    for name in names {
+        if is_named(symbol, name) {
+            return true;
+        }
+    }
+    false
+}
+
 /// Whether a symbol names a recogniser.
-#[tactic(auto, unfolding(ap_world::specs::Rows::recognised))]
 fn is_recogniser(symbol: &Symbol) -> bool
     ensures { result ≡ is_some (recognised symbol.now) }
 {
-    is_named(symbol, b"CONSP")
-        || is_named(symbol, b"INTEGERP")
-        || is_named(symbol, b"SYMBOLP")
-        || is_named(symbol, b"STRINGP")
-        || is_named(symbol, b"CHARACTERP")
-        || is_named(symbol, b"TRUE-LISTP")
+    is_one_of(
+        symbol,
+        &[
+            b"CONSP",
+            b"INTEGERP",
+            b"SYMBOLP",
+            b"STRINGP",
+            b"CHARACTERP",
+            b"TRUE-LISTP",
+        ],
+    )
 }
 
 /// Whether a term is a variable.
