@@ -1,6 +1,5 @@
 pub mod Attempts
 pub mod Bounds
-pub mod Classes
 pub mod Constants
 pub mod Definitions
 pub mod Ends

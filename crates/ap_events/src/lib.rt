@@ -1,10 +1,9 @@
-//! One event of a book: what it prints, and the world after it. So far a theorem without hints, a
+//! One event of a book: what it prints, and the world after it. So far a theorem without rules and hints, a
 //! function whose body doesn't call it, and a constant. See the manual's topics `defthm`, `defun` and
 //! `defconst`.
 #![tactic(auto)]
 
 mod attempting;
-mod classes;
 mod constant;
 mod definition;
 mod end;

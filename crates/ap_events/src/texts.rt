@@ -1,11 +1,10 @@
 //! The printed lines of events.
 ghost use Rattle.std.specs.Prelude.{◌≡◌, IfOk};
 ghost use Rattle.ap_term.specs.Printed.{symbol_text};
-ghost use Rattle.ap_events.specs.Texts.{no_head_text, not_supported_text, bad_event_text, event_line, event_text, constant_line, refused_as, kind_text, translation_text, rule_text, reason_text, failure_text};
+ghost use Rattle.ap_events.specs.Texts.{no_head_text, not_supported_text, bad_event_text, event_line, event_text, constant_line, refused_as, kind_text, translation_text, reason_text, failure_text};
 
 use ap_list::{Bytes, NoMemory};
 use ap_print::print_term;
-use ap_rules::RuleError;
 use ap_term::Term;
 use ap_translate::TransKind;
 use ap_value::{Symbol, copy_symbol};
@@ -121,21 +120,6 @@ pub(crate) fn translation(alloc: Global, kind: TransKind) -> Result<Bytes, NoMem
     text.extend(b" ")?;
     text.extend(kind_name(kind))?;
     Ok(text)
-}
-
-/// Why a theorem gives no rules of its classes, by its number and name; nothing where memory is wanting.
-#[tactic(auto, unfolding(crate::specs::Texts::rule_text))]
-pub(crate) fn rule(error: RuleError) -> &'static [u8]
-    ensures { result.now ≡ rule_text error }
-{
-    match error {
-        RuleError::LhsVariable => b"5.1 LhsVariable",
-        RuleError::LhsConstant => b"5.2 LhsConstant",
-        RuleError::FreeInRhs => b"5.3 FreeInRhs",
-        RuleError::NotInequality => b"5.4 NotInequality",
-        RuleError::NotTypeForm => b"5.5 NotTypeForm",
-        RuleError::NoMemory => b"",
-    }
 }
 
 /// The name of a reason to fail.

@@ -2,28 +2,24 @@ ghost use Rattle.std.specs.Prelude.{◌≡◌, ◌++◌, [], ◌∷◌, None, If
 ghost use Rattle.ap_world.specs.Meaning.{Valid};
 ghost use Rattle.ap_world.specs.Sound.{known, HasFunctions};
 ghost use Rattle.ap_world.specs.World.{function_of, has_name};
-ghost use Rattle.ap_world.specs.declared.entry.Entry.TheVariants as entry;
-ghost use Rattle.ap_rules.specs.Refused.{refusal};
 ghost use Rattle.ap_events.specs.Shapes.{as_stated};
 ghost use Rattle.ap_events.specs.Ends.{admitted, step_in, Follows};
 ghost use Rattle.ap_events.specs.Attempts.{tried, plan_for};
 ghost use Rattle.ap_events.specs.Texts.{failure_text, translation_text};
-ghost use Rattle.ap_events.specs.Theorems.{added_theorem, refused_theorem, tried_theorem, ruled_theorem, classified_theorem, named_theorem, stated_theorem};
+ghost use Rattle.ap_events.specs.Theorems.{theorem_entry, added_theorem, refused_theorem, tried_theorem, named_theorem, stated_theorem};
 
 use crate::attempting::{Tried, attempt};
-use crate::classes::classes_of;
 use crate::end::{EventEnd, not_supported};
 use crate::limits::Limits;
 use crate::shapes::Statement;
 use crate::texts;
 use ap_list::{Bytes, NoMemory, Seq};
-use ap_rules::{RuleError, rules_of};
 use ap_strategy::Plan;
 use ap_term::Term;
 use ap_translate::{TransError, TransKind, translate};
 use ap_value::{Symbol, copy_symbol};
 use ap_walk::Reason;
-use ap_world::{AddError, Theorem, World};
+use ap_world::{AddError, World};
 use std::alloc::{AllocError, Global};
 
 /// A theorem that is refused after other lines, by the refusal's number and word.
@@ -61,20 +57,15 @@ fn failed(
 }
 
 /// Adds a theorem whose name is free, and that is valid.
-fn add(alloc: Global, w: World, theorem: Theorem, text: Bytes) -> Result<EventEnd, NoMemory>
-    requires free { has_name w.entries theorem.name ≡ false }
-    requires known { IsTrue (known (function_of w.entries) theorem.term) }
-    requires valid { Valid (function_of w.entries) (theorem.term ∷ []) }
-    ensures step { IfOk result (λ e. step_in e ≡ admitted w (entry.Theorem theorem) text) }
+fn add(alloc: Global, w: World, name: Symbol, term: Term, text: Bytes) -> Result<EventEnd, NoMemory>
+    requires free { has_name w.entries name ≡ false }
+    requires known { IsTrue (known (function_of w.entries) term) }
+    requires valid { Valid (function_of w.entries) (term ∷ []) }
+    ensures step { IfOk result (λ e. step_in e ≡ admitted w (theorem_entry name term) text) }
     ensures follows { IfOk result (λ e. Follows w e) }
 {
     let mut world = w;
-    let Theorem {
-        name,
-        term,
-        classes,
-    } = theorem;
-    match world.add_theorem(alloc, name, term, classes) {
+    match world.add_theorem(alloc, name, term, Seq::new(alloc)) {
         Ok(()) => Ok(EventEnd::Admitted(world, text)),
         Err(AddError::NoMemory) => Err(AllocError),
         Err(AddError::NameTaken) => unreachable!(),
@@ -82,29 +73,42 @@ fn add(alloc: Global, w: World, theorem: Theorem, text: Bytes) -> Result<EventEn
 }
 
 /// Adds a theorem that its attempt proved.
-fn proved(alloc: Global, w: World, theorem: Theorem, lines: &[u8]) -> Result<EventEnd, NoMemory>
-    requires free { has_name w.entries theorem.name ≡ false }
-    requires known { IsTrue (known (function_of w.entries) theorem.term) }
-    requires valid { Valid (function_of w.entries) (theorem.term ∷ []) }
-    ensures step { IfOk result (λ e. step_in e ≡ added_theorem w theorem lines.now) }
+fn proved(
+    alloc: Global,
+    w: World,
+    name: &Symbol,
+    term: Term,
+    lines: &[u8],
+) -> Result<EventEnd, NoMemory>
+    requires free { has_name w.entries name.now ≡ false }
+    requires known { IsTrue (known (function_of w.entries) term) }
+    requires valid { Valid (function_of w.entries) (term ∷ []) }
+    ensures step { IfOk result (λ e. step_in e ≡ added_theorem w name.now term lines.now) }
     ensures follows { IfOk result (λ e. Follows w e) }
 {
-    let text = texts::event_text(alloc, b"DEFTHM", &theorem.name, lines, b" proved")?;
-    add(alloc, w, theorem, text)
+    let text = texts::event_text(alloc, b"DEFTHM", name, lines, b" proved")?;
+    let name = copy_symbol(alloc, name)?;
+    add(alloc, w, name, term, text)
 }
 
 /// Ends a theorem's event by its attempt: adds the theorem where it is proved.
 #[tactic(auto, unfolding(crate::specs::Theorems::ended_theorem))]
-fn ended(alloc: Global, w: World, theorem: Theorem, tried: &Tried) -> Result<EventEnd, NoMemory>
-    requires free { has_name w.entries theorem.name ≡ false }
-    requires known { IsTrue (known (function_of w.entries) theorem.term) }
-    requires valid { tried.now.failed ≡ None → Valid (function_of w.entries) (theorem.term ∷ []) }
-    ensures step { IfOk result (λ e. step_in e ≡ tried_theorem w theorem tried.now) }
+fn ended(
+    alloc: Global,
+    w: World,
+    name: &Symbol,
+    term: Term,
+    tried: &Tried,
+) -> Result<EventEnd, NoMemory>
+    requires free { has_name w.entries name.now ≡ false }
+    requires known { IsTrue (known (function_of w.entries) term) }
+    requires valid { tried.now.failed ≡ None → Valid (function_of w.entries) (term ∷ []) }
+    ensures step { IfOk result (λ e. step_in e ≡ tried_theorem w name.now term tried.now) }
     ensures follows { IfOk result (λ e. Follows w e) }
 {
     match tried.failed {
-        Some(reason) => failed(alloc, w, &theorem.name, tried, reason),
-        None => proved(alloc, w, theorem, tried.lines.as_slice()),
+        Some(reason) => failed(alloc, w, name, tried, reason),
+        None => proved(alloc, w, name, term, tried.lines.as_slice()),
     }
 }
 
@@ -112,66 +116,22 @@ fn ended(alloc: Global, w: World, theorem: Theorem, tried: &Tried) -> Result<Eve
 fn tried(
     alloc: Global,
     w: World,
-    theorem: Theorem,
+    name: &Symbol,
+    term: Term,
     limits: &Limits,
 ) -> Result<EventEnd, NoMemory>
     requires functions { HasFunctions (function_of w.entries) }
-    requires free { has_name w.entries theorem.name ≡ false }
-    requires known { IsTrue (known (function_of w.entries) theorem.term) }
-    ensures step { IfOk result (λ e. step_in e ≡ tried_theorem w theorem (tried limits.now (plan_for limits.now w) theorem.term)) }
+    requires free { has_name w.entries name.now ≡ false }
+    requires known { IsTrue (known (function_of w.entries) term) }
+    ensures step { IfOk result (λ e. step_in e ≡ tried_theorem w name.now term (tried limits.now (plan_for limits.now w) term)) }
     ensures follows { IfOk result (λ e. Follows w e) }
 {
     let plan = Plan {
         world: w,
         step_limit: limits.steps,
     };
-    let tried = attempt(alloc, &plan, limits, &theorem.term)?;
-    ended(alloc, plan.world, theorem, &tried)
-}
-
-/// Makes the rules of a theorem whose name is free, before it is tried.
-#[tactic(auto, unfolding(crate::specs::Theorems::ruled_theorem))]
-fn ruled(
-    alloc: Global,
-    w: World,
-    theorem: Theorem,
-    limits: &Limits,
-) -> Result<EventEnd, NoMemory>
-    requires functions { HasFunctions (function_of w.entries) }
-    requires free { has_name w.entries theorem.name ≡ false }
-    requires known { IsTrue (known (function_of w.entries) theorem.term) }
-    ensures step { IfOk result (λ e. step_in e ≡ ruled_theorem limits.now w theorem (refusal theorem.name theorem.term theorem.classes)) }
-    ensures follows { IfOk result (λ e. Follows w e) }
-{
-    match rules_of(alloc, &theorem.name, &theorem.term, &theorem.classes) {
-        Ok(_) => tried(alloc, w, theorem, limits),
-        Err(RuleError::NoMemory) => Err(AllocError),
-        Err(error) => refused(alloc, w, &theorem.name, b"", texts::rule(error)),
-    }
-}
-
-/// Does the event of a theorem whose name is free and whose term is translated.
-fn classified(
-    alloc: Global,
-    w: World,
-    statement: &Statement<'_>,
-    term: Term,
-    limits: &Limits,
-) -> Result<EventEnd, NoMemory>
-    requires functions { HasFunctions (function_of w.entries) }
-    requires free { has_name w.entries (as_stated statement.now).name ≡ false }
-    requires known { IsTrue (known (function_of w.entries) term) }
-    ensures step { IfOk result (λ e. step_in e ≡ classified_theorem limits.now w (as_stated statement.now) term) }
-    ensures follows { IfOk result (λ e. Follows w e) }
-{
-    let classes = classes_of(alloc, statement.choices.classes)?;
-    let name = copy_symbol(alloc, statement.name)?;
-    let theorem = Theorem {
-        name,
-        term,
-        classes,
-    };
-    ruled(alloc, w, theorem, limits)
+    let tried = attempt(alloc, &plan, limits, &term)?;
+    ended(alloc, plan.world, name, term, &tried)
 }
 
 /// A theorem whose term isn't of the language.
@@ -188,7 +148,7 @@ fn untranslated(
     refused(alloc, w, name, b"", reason.as_slice())
 }
 
-/// Does the event of a theorem without hints.
+/// Does the event of a theorem without rules and hints.
 #[tactic(auto, using(crate::proofs::Defining::macro_functions), unfolding(crate::specs::Theorems::named_theorem, crate::specs::Theorems::translated_theorem))]
 fn named(
     alloc: Global,
@@ -204,7 +164,7 @@ fn named(
         return refused(alloc, w, statement.name, b"", b"3 NameTaken");
     }
     match translate(alloc, &w, statement.term, None) {
-        Ok(term) => classified(alloc, w, statement, term, limits),
+        Ok(term) => tried(alloc, w, statement.name, term, limits),
         Err(TransError::NoMemory) => Err(AllocError),
         Err(TransError::Fault { kind, .. }) => untranslated(alloc, w, statement.name, kind),
     }
@@ -223,7 +183,7 @@ pub(crate) fn state(
     ensures step { IfOk result (λ e. step_in e ≡ stated_theorem limits.now w head.now (as_stated statement.now)) }
     ensures follows { IfOk result (λ e. Follows w e) }
 {
-    if statement.choices.hinted {
+    if !statement.plain {
         return not_supported(alloc, w, head);
     }
     named(alloc, w, statement, limits)
