@@ -14,6 +14,8 @@ use Rattle.ap_rules.specs.declared.rule.RewriteRule.{RewriteRule}
 use Rattle.ap_rules.specs.Made.{rule_in}
 use Rattle.ap_rules.specs.Grouped.{Table, group_at, grouped_at, with_first, without_first}
 use Rattle.ap_rules.specs.Indexed.{kept, may_begin, begins, rules_for}
+use Rattle.ap_rules.specs.declared.table.RuleIndex.{RuleIndex}
+use Rattle.ap_rules.specs.Index.{IsIndex}
 use Rattle.ap_rules.specs.Carried.{Has, head_in, Keeps, all_rules, starts_from, Carried}
 
 no_push : {A : Type 0} (xs : List A) (x : A) → [] ≡ xs ++ x ∷ [] → ⊥
@@ -260,3 +262,7 @@ carried_all W k table hs ks none c = subst (λ X. Carried X table hs ks) (sym (n
 
 pub carried_none : Carried [] [] [] []
 carried_none = record { keeps = record { has = λ f. refl; headed = refl }; started = refl }
+
+-- the table of a world's rules is its index
+pub is_index : (W : List Entry) (ix : RuleIndex) (hs : List Symbol) (ks : List ℕ) → Carried W ix.groups hs ks → IsIndex ix W
+is_index W ix hs ks c = λ f. c.keeps.has f ∙ ap (rules_for f) (sym (world_rules W))

@@ -40,10 +40,11 @@ loop-rule-preserved c =
       is_finite = tt;
       left = (subst AreLeft c.in-Some.ensures.steps.0 c.loop-rule.invariant.left).1;
       came = λ rs k.
-          let i = c.loop-rule.invariant.came rs k in
-          (i.0 ++ rule_in c.in-Some.rule ∷ [],
-          subst (Keeps c.add_rule.new.groups c.add_rule.new.heads) (append_assoc rs i.0 (rule_in c.in-Some.rule ∷ [])) (c.in_default.ensures.ok (rs ++ i.0) i.1),
-          came i.0 c.in-Some.rule (into_iter_items c.loop-rule.rule-iterator) rest (map rule_in (into_iter_items c.into_iter-rule-iterator.result)) c.in-Some.ensures.steps.0 i.2);
+          let i = c.loop-rule.invariant.came rs k in (
+            i.0 ++ rule_in c.in-Some.rule ∷ [],
+            subst (Keeps c.add_rule.new.groups c.add_rule.new.heads) (append_assoc rs i.0 (rule_in c.in-Some.rule ∷ [])) (c.in_default.ensures.ok (rs ++ i.0) i.1),
+            came i.0 c.in-Some.rule (into_iter_items c.loop-rule.rule-iterator) rest (map rule_in (into_iter_items c.into_iter-rule-iterator.result)) c.in-Some.ensures.steps.0 i.2,
+          );
     }
 
 pub returns-clause-ok : goal.returns-clause-ok
