@@ -76,11 +76,12 @@ all_pass (r ∷ rs) h =
 
 one_fails : (rs : List Rule) (e : RuleError) → first_refusal rule_refusal rs ≡ Some e → all_true (map is_rule rs) ≡ false
 one_fails [] e h = absurd (cc h)
-one_fails (r ∷ rs) e h = go (or_some (rule_refusal r) (first_refusal rule_refusal rs) e h)
+one_fails (r ∷ rs) e h = go (one_fails rs e) (or_some (rule_refusal r) (first_refusal rule_refusal rs) e h)
   where
-    go : (rule_refusal r ≡ Some e) ⊎ ((rule_refusal r ≡ None) × (first_refusal rule_refusal rs ≡ Some e)) → all_true (map is_rule (r ∷ rs)) ≡ false
-    go (inl l) = ap (λ x. x && all_true (map is_rule rs)) (fails r e l)
-    go (inr p) = ap (λ x. x && all_true (map is_rule rs)) (passes r p.0) ∙ one_fails rs e p.1
+    go : (first_refusal rule_refusal rs ≡ Some e → all_true (map is_rule rs) ≡ false)
+        → (rule_refusal r ≡ Some e) ⊎ ((rule_refusal r ≡ None) × (first_refusal rule_refusal rs ≡ Some e)) → all_true (map is_rule (r ∷ rs)) ≡ false
+    go rest (inl l) = ap (λ x. x && all_true (map is_rule rs)) (fails r e l)
+    go rest (inr p) = ap (λ x. x && all_true (map is_rule rs)) (passes r p.0) ∙ rest p.1
 
 -- where none is refused all are rules
 pub none_refused : (rs : List Rule) (o : Option RuleError) → o ≡ first_refusal rule_refusal rs → o ≡ None → sound_rules rs ≡ rs
