@@ -1,5 +1,5 @@
 -- An index with the heads of its rules, as rules are added at the end and taken away there.
-use Rattle.std.proofs.Common.{◌≡◌, ℕ, zero, suc, ◌+◌, ◌-◌, ◌<◌, ◌≤◌, Bool, true, false, cond, List, [], ◌∷◌, ◌++◌, map, length, take, drop, Option, Some, None, slice_get, refl, sym, ap, ◌∙◌, subst, append_assoc, arith}
+use Rattle.std.proofs.Common.{◌≡◌, ℕ, zero, suc, ◌+◌, ◌-◌, ◌<◌, ◌≤◌, Bool, true, false, cond, List, [], ◌∷◌, ◌++◌, map, length, take, drop, Option, Some, None, Result, Ok, Err, OnErr, slice_get, refl, sym, ap, ◌∙◌, subst, append_assoc, arith}
 use Rattle.std.proofs.lemmas.List.{map-append, length-append, length-map, append-nil, length_push, same_from_push}
 use Rattle.std.specs.Prelude.{MatchOption}
 use Rattle.ap_value.specs.declared.symbol.Symbol.{Symbol}
@@ -17,6 +17,11 @@ use Rattle.ap_rules.specs.Indexed.{kept, may_begin, begins, rules_for}
 use Rattle.ap_rules.specs.declared.table.RuleIndex.{RuleIndex}
 use Rattle.ap_rules.specs.Index.{IsIndex}
 use Rattle.ap_rules.specs.Carried.{Has, head_in, Keeps, all_rules, starts_from, Carried}
+
+-- what holds anyhow holds on an error
+pub on_err_by : {T E : Type 0} {Q : Type 0} (r : Result T E) → Q → OnErr r Q
+on_err_by (Ok x) q = tt
+on_err_by (Err e) q = q
 
 no_push : {A : Type 0} (xs : List A) (x : A) → [] ≡ xs ++ x ∷ [] → ⊥
 no_push xs x h = let n : 0 ≡ length xs + 1 = ap length h ∙ length_push xs x in omega (arith, n)
