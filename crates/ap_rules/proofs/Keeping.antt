@@ -8,12 +8,12 @@ use Rattle.ap_term.specs.declared.term.Term.{Term, out-Term}
 use Rattle.ap_term.specs.declared.term.Term.TheOpen.{Term-F}
 use Rattle.ap_world.specs.declared.entry.Entry.{Entry}
 use Rattle.ap_world.specs.Prescribing.{called}
-use Rattle.ap_world.specs.Rules.{Rule, is_left, newest_first, rules_in_entry, rules_in}
+use Rattle.ap_world.specs.Rules.{Rule, newest_first, rules_in_entry, rules_in}
 use Rattle.ap_world.proofs.Prescribed.{all_but_last}
 use Rattle.ap_rules.specs.declared.rule.RewriteRule.{RewriteRule}
 use Rattle.ap_rules.specs.Made.{rule_in}
-use Rattle.ap_rules.specs.Grouped.{Table, group_at, grouped_at, with_first, without_first}
-use Rattle.ap_rules.specs.Indexed.{kept, may_begin, begins, rules_for}
+use Rattle.ap_rules.specs.Grouped.{Table, group_at, with_first, without_first}
+use Rattle.ap_rules.specs.Indexed.{kept, may_begin, rules_for}
 use Rattle.ap_rules.specs.declared.table.RuleIndex.{RuleIndex}
 use Rattle.ap_rules.specs.Index.{IsIndex}
 use Rattle.ap_rules.specs.Carried.{Has, head_in, Keeps, all_rules, starts_from, Carried}
@@ -99,6 +99,15 @@ pub record LastOf (hs : List Symbol) (h : Symbol) (qs : List Rule) : Type 0 wher
   pub fronts : map Some hs ≡ map head_in front
   pub head : head_in last ≡ Some h
 
+longer : (x : Symbol) (hs : List Symbol) (h : Symbol) (q : Rule) (qs : List Rule) → Some x ≡ head_in q → LastOf hs h qs → LastOf (x ∷ hs) h (q ∷ qs)
+longer x hs h q qs first l = record {
+  front = q ∷ l.front;
+  last = l.last;
+  whole = ap (λ rs. q ∷ rs) l.whole;
+  fronts = ap (λ os. Some x ∷ os) l.fronts ∙ ap (λ o. o ∷ map head_in l.front) first;
+  head = l.head;
+}
+
 last_of : (hs : List Symbol) (h : Symbol) (qs : List Rule) → map Some (hs ++ h ∷ []) ≡ map head_in qs → LastOf hs h qs
 last_of [] h [] e = absurd (cc e)
 last_of [] h (q ∷ []) e = record { front = []; last = q; whole = refl; fronts = refl; head = cc }
@@ -107,14 +116,7 @@ last_of (x ∷ hs) h [] e = absurd (cc e)
 last_of (x ∷ hs) h (q ∷ qs) e =
     let rest : map Some (hs ++ h ∷ []) ≡ map head_in qs = cc in
     let first : Some x ≡ head_in q = cc in
-    let l = last_of hs h qs rest in
-    record {
-      front = q ∷ l.front;
-      last = l.last;
-      whole = ap (λ rs. q ∷ rs) l.whole;
-      fronts = ap (λ os. Some x ∷ os) l.fronts ∙ ap (λ o. o ∷ map head_in l.front) first;
-      head = l.head;
-    }
+    longer x hs h q qs first (last_of hs h qs rest)
 
 -- one rule less
 pub record Lessened (table : Table) (hs : List Symbol) (qs : List Rule) : Type 0 where

@@ -1,5 +1,5 @@
 -- Each rule of a world is a part of the theorem that it names.
-use Rattle.std.proofs.Common.{◌≡◌, ℕ, zero, suc, ◌+◌, Bool, true, false, cond, List, [], ◌∷◌, ◌++◌, map, Option, Some, None, slice_get, is_some, refl, sym, ap, ◌∙◌, arith}
+use Rattle.std.proofs.Common.{◌≡◌, ℕ, suc, ◌+◌, Bool, true, false, cond, List, [], ◌∷◌, map, Option, Some, None, slice_get, is_some, refl, ap, ◌∙◌, arith}
 use Rattle.ap_list.specs.Lists.{Each, all_true}
 use Rattle.ap_list.proofs.Eachs.{each_append}
 use Rattle.ap_value.specs.declared.symbol.Symbol.{Symbol}

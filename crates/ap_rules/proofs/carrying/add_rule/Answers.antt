@@ -1,7 +1,4 @@
-use Rattle.std.proofs.Common.{◌≡◌, [], ◌∷◌, ◌++◌, Some, refl, sym, ap, ◌∙◌}
-use Rattle.std.proofs.lemmas.List.{same_from_push}
-use Rattle.ap_rules.specs.Made.{rule_in}
-use Rattle.ap_rules.specs.Carried.{head_in}
+use Rattle.std.proofs.Common.{refl}
 use Rattle.ap_rules.proofs.Keeping.{on_err_by, keeps_more, keeps_same, popped}
 use Rattle.ap_rules.proofs.carrying.add_rule.Goals as goal
 

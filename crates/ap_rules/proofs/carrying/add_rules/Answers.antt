@@ -1,9 +1,9 @@
-use Rattle.std.proofs.Common.{◌≡◌, [], ◌∷◌, ◌++◌, List, map, take, true, refl, sym, ap, ◌∙◌, subst, rules}
+use Rattle.std.proofs.Common.{◌≡◌, [], ◌∷◌, ◌++◌, List, map, true, refl, sym, ap, ◌∙◌, subst, rules}
 use Rattle.std.specs.Vec.Iter.{into_iter_items}
 use Rattle.std.proofs.lemmas.List.{append-nil, append_assoc, nil_from_length}
 use Rattle.ap_list.specs.Lists.{Each}
 use Rattle.ap_term.specs.declared.term.Term.{out-Term}
-use Rattle.ap_world.specs.Rules.{Rule, is_left}
+use Rattle.ap_world.specs.Rules.{is_left}
 use Rattle.ap_rules.specs.declared.rule.RewriteRule.{RewriteRule}
 use Rattle.ap_rules.specs.Made.{rule_in}
 use Rattle.ap_rules.specs.Carried.{Keeps}

@@ -1,4 +1,4 @@
-use Rattle.std.proofs.Common.{◌≡◌, subst}
+use Rattle.std.proofs.Common.{subst}
 use Rattle.ap_rules.specs.Index.{IsIndex}
 use Rattle.ap_rules.proofs.Keeping.{is_index}
 use Rattle.ap_rules.proofs.worlds.index.Goals as goal

@@ -1,4 +1,4 @@
-use Rattle.std.proofs.Common.{◌≡◌, [], ◌∷◌, ◌++◌, length, sym, ap, ◌∙◌}
+use Rattle.std.proofs.Common.{[], ◌∷◌, ◌++◌, ap, ◌∙◌}
 use Rattle.ap_rules.specs.Carried.{all_rules}
 use Rattle.ap_rules.proofs.Keeping.{on_err_by, carried_more, popped}
 use Rattle.ap_rules.proofs.carrying.Carrier.add.Goals as goal
