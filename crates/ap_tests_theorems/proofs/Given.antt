@@ -1,7 +1,7 @@
 -- What the tests hand to the kernel's rows: a theorem (implies h h), and polynomials of literals.
 use Rattle.std.proofs.Common.{◌≡◌, ◌≢◌, Bool, true, false, cond, List, [], ◌∷◌, ◌++◌, inl, refl, sym, subst}
 use Rattle.ap_list.specs.Lists.{Each}
-use Rattle.ap_list.proofs.Lists.{each_append}
+use Rattle.ap_list.proofs.Eachs.{each_append}
 use Rattle.ap_value.specs.Values.{V, value_eq}
 use Rattle.ap_term.specs.declared.term.Term.{Term}
 use Rattle.ap_world.specs.declared.entry.Entry.{Entry}
