@@ -1,5 +1,6 @@
 //! What a row is read from, and what it is compared with.
 ghost use Rattle.std.specs.Prelude.{◌≡◌, IsTrue};
+ghost use Rattle.ap_value.specs.Values.{acl2};
 ghost use Rattle.ap_world.specs.Sound.{known};
 ghost use Rattle.ap_world.specs.World.{function_of};
 ghost use Rattle.ap_kernel.specs.Standing.{HasGround};
@@ -13,7 +14,7 @@ use ap_print::print_term;
 use ap_reader::{Form, forms};
 use ap_term::Term;
 use ap_translate::translate;
-use ap_value::named;
+use ap_value::{Symbol, acl2};
 use std::alloc::Global;
 use std::process::Abort;
 
@@ -23,6 +24,13 @@ pub(crate) fn first_world(rt: &impl Abort, alloc: Global) -> World
 {
     ground_has_its_functions();
     ground_world(alloc).expect(rt, "memory")
+}
+
+/// A symbol.
+pub(crate) fn symbol(rt: &impl Abort, alloc: Global, name: &[u8]) -> Symbol
+    ensures { result ≡ acl2 name.now }
+{
+    acl2(alloc, name).expect(rt, "memory")
 }
 
 /// The two sides of a line.
@@ -48,8 +56,8 @@ pub(crate) fn term(rt: &impl Abort, alloc: Global, w: &World, form: &Form) -> Te
 fn printed(rt: &impl Abort, alloc: Global, q: Equiv) -> Bytes {
     let (_, mode, lhs, rhs) = q.into_parts();
     let head = match mode {
-        Mode::Equal => named(b"EQUAL"),
-        Mode::Iff => named(b"IFF"),
+        Mode::Equal => symbol(rt, alloc, b"EQUAL"),
+        Mode::Iff => symbol(rt, alloc, b"IFF"),
     };
     let mut parts = Seq::new(alloc);
     parts.push(lhs).expect(rt, "memory");

@@ -5,7 +5,7 @@ ghost use Rattle.ap_world.specs.World.{function_of};
 ghost use Rattle.ap_kernel.specs.Linear.{less_of};
 ghost use Rattle.ap_kernel.specs.Standing.{HasGround};
 
-use crate::given::term;
+use crate::given::{symbol, term};
 use ap_eval::is_known;
 use ap_kernel::{Ctx, Equiv, Term, World, both_not_less, by_certificate, by_fact, is_comparison};
 use ap_linear::refute;
@@ -14,7 +14,6 @@ use ap_poly::of_literal;
 use ap_reader::Form;
 use ap_term::copy_term;
 use ap_types::types_of;
-use ap_value::named;
 use std::alloc::Global;
 use std::process::Abort;
 
@@ -59,9 +58,13 @@ fn less(rt: &impl Abort, alloc: Global, w: &World, a: &Term, b: &Term) -> Term
     ensures known { IsTrue (known (function_of w.now.entries) result) }
 {
     let mut parts = Seq::new(alloc);
-    parts.push(copy_term(alloc, a).expect(rt, "memory")).expect(rt, "memory");
-    parts.push(copy_term(alloc, b).expect(rt, "memory")).expect(rt, "memory");
-    let t = Term::call(alloc, named(b"<"), parts).expect(rt, "memory");
+    parts
+        .push(copy_term(alloc, a).expect(rt, "memory"))
+        .expect(rt, "memory");
+    parts
+        .push(copy_term(alloc, b).expect(rt, "memory"))
+        .expect(rt, "memory");
+    let t = Term::call(alloc, symbol(rt, alloc, b"<"), parts).expect(rt, "memory");
     assert!(rt; is_known(w, &t));
     t
 }
@@ -72,8 +75,10 @@ fn neither(rt: &impl Abort, alloc: Global, w: &World, a: &Term, b: &Term) -> Ctx
     ensures known { KnownFacts (function_of w.now.entries) result.0 }
 {
     let mut out = Seq::new(alloc);
-    out.push((less(rt, alloc, w, a, b), false)).expect(rt, "memory");
-    out.push((less(rt, alloc, w, b, a), false)).expect(rt, "memory");
+    out.push((less(rt, alloc, w, a, b), false))
+        .expect(rt, "memory");
+    out.push((less(rt, alloc, w, b, a), false))
+        .expect(rt, "memory");
     Ctx::new(alloc, out).expect(rt, "memory")
 }
 

@@ -12,7 +12,8 @@ use std::process::Abort;
 
 /// Each row: a part, h, a term for `x` and the facts that are true. The part of the theorem `(implies h h)` is
 /// applied where the facts are its hypotheses.
-const APPLICATIONS: &str = r#"0 (and (equal (car x) y) (consp x)) z (equal (car z) y) (consp z) => (EQUAL (CAR Z) Y)
+const APPLICATIONS: &str =
+    r#"0 (and (equal (car x) y) (consp x)) z (equal (car z) y) (consp z) => (EQUAL (CAR Z) Y)
 1 (and (equal (car x) y) (consp x)) z (equal (car z) y) (consp z) => (IFF (CONSP Z) 'T)
 2 (and (equal (car x) y) (consp x)) z (equal (car z) y) (consp z) => none
 0 (and (equal (car x) y) (consp x)) z (equal (car z) y) => none
@@ -24,7 +25,8 @@ const APPLICATIONS: &str = r#"0 (and (equal (car x) y) (consp x)) z (equal (car 
 1 (if (consp x) (consp y) t) z (if (consp z) (consp y) t) => none"#;
 
 /// Each row: a call that is opened or folded.
-const CALLS: &str = r#"open (append (car x) z) => (EQUAL (BINARY-APPEND (CAR X) Z) (IF (ENDP (CAR X)) Z (CONS (CAR (CAR X)) (BINARY-APPEND (CDR (CAR X)) Z))))
+const CALLS: &str =
+    r#"open (append (car x) z) => (EQUAL (BINARY-APPEND (CAR X) Z) (IF (ENDP (CAR X)) Z (CONS (CAR (CAR X)) (BINARY-APPEND (CDR (CAR X)) Z))))
 open (cons x y) => none
 open x => none
 fold (* 3 4) => (EQUAL (BINARY-* '3 '4) '12)
@@ -47,13 +49,7 @@ neither (len x) y => none
 neither x 3 => none"#;
 
 /// What a row on the ground world answers.
-fn on_ground(
-    rt: &impl Abort,
-    alloc: Global,
-    w: &World,
-    word: &str,
-    row: &[Form],
-) -> Option<Equiv>
+fn on_ground(rt: &impl Abort, alloc: Global, w: &World, word: &str, row: &[Form]) -> Option<Equiv>
     requires ground { HasGround (function_of w.now.entries) }
 {
     match (word, row) {
@@ -72,7 +68,12 @@ fn expect_rows(rt: &impl Abort, alloc: Global, table: &str, count: usize) {
     for line in table.lines() {
         let (word, text) = sides(line).0.split_once(' ').unwrap_or((line, ""));
         let row = read(rt, alloc, text);
-        expect(rt, alloc, line, on_ground(rt, alloc, &w, word, row.as_slice()));
+        expect(
+            rt,
+            alloc,
+            line,
+            on_ground(rt, alloc, &w, word, row.as_slice()),
+        );
     }
 }
 
@@ -83,7 +84,12 @@ fn a_theorem_is_applied_where_its_hypotheses_are_relieved(rt: HostRuntime) {
         let (part, text) = sides(line).0.split_once(' ').unwrap_or((line, ""));
         let row = read(&rt, rt.alloc(), text);
         let part = part.parse().unwrap_or(9);
-        expect(&rt, rt.alloc(), line, by_theorem(&rt, rt.alloc(), part, row.as_slice()));
+        expect(
+            &rt,
+            rt.alloc(),
+            line,
+            by_theorem(&rt, rt.alloc(), part, row.as_slice()),
+        );
     }
 }
 

@@ -8,7 +8,7 @@ ghost use Rattle.ap_world.specs.Names.{implies_name, x_name};
 ghost use Rattle.ap_world.specs.World.{function_of};
 ghost use Rattle.ap_kernel.specs.Standing.{HasGround, Stands};
 
-use crate::given::{first_world, term};
+use crate::given::{first_world, symbol, term};
 use ap_eval::{Env, eval, is_known};
 use ap_kernel::{
     Ctx, Equiv, Subst, Term, World, apply_theorem, are_relieved, by_fact, can_open, fold,
@@ -17,7 +17,6 @@ use ap_kernel::{
 use ap_list::Seq;
 use ap_reader::Form;
 use ap_term::copy_term;
-use ap_value::named;
 use std::alloc::Global;
 use std::process::Abort;
 
@@ -27,9 +26,13 @@ fn implies_itself(rt: &impl Abort, alloc: Global, h: &Term) -> Term
     ensures { result ≡ two implies_name h.now h.now }
 {
     let mut parts = Seq::new(alloc);
-    parts.push(copy_term(alloc, h).expect(rt, "memory")).expect(rt, "memory");
-    parts.push(copy_term(alloc, h).expect(rt, "memory")).expect(rt, "memory");
-    Term::call(alloc, named(b"IMPLIES"), parts).expect(rt, "memory")
+    parts
+        .push(copy_term(alloc, h).expect(rt, "memory"))
+        .expect(rt, "memory");
+    parts
+        .push(copy_term(alloc, h).expect(rt, "memory"))
+        .expect(rt, "memory");
+    Term::call(alloc, symbol(rt, alloc, b"IMPLIES"), parts).expect(rt, "memory")
 }
 
 /// The ground world with the theorem `rule`, `(implies h h)`.
@@ -41,7 +44,7 @@ fn world_with(rt: &impl Abort, alloc: Global, form: &Form) -> World
     let t = implies_itself(rt, alloc, &h);
     assert!(rt; is_known(&world, &t));
     world.is_sound();
-    let added = world.add_theorem(alloc, named(b"RULE"), t, Seq::new(alloc));
+    let added = world.add_theorem(alloc, symbol(rt, alloc, b"RULE"), t, Seq::new(alloc));
     added.expect(rt, "a new name");
     world
 }
@@ -52,7 +55,8 @@ fn facts(rt: &impl Abort, alloc: Global, w: &World, forms: &[Form]) -> Ctx
 {
     let mut out = Seq::new(alloc);
     for form in forms {
-        out.push((term(rt, alloc, w, form), true)).expect(rt, "memory");
+        out.push((term(rt, alloc, w, form), true))
+            .expect(rt, "memory");
     }
     Ctx::new(alloc, out).expect(rt, "memory")
 }
@@ -64,7 +68,8 @@ fn all_facts(rt: &impl Abort, alloc: Global, w: &World, ctx: &Ctx) -> Seq<Equiv>
 {
     let mut out = Seq::new(alloc);
     for i in 0..ctx.facts().len() {
-        out.push(by_fact(alloc, w, ctx, i).expect(rt, "memory")).expect(rt, "memory");
+        out.push(by_fact(alloc, w, ctx, i).expect(rt, "memory"))
+            .expect(rt, "memory");
     }
     out
 }
@@ -75,7 +80,9 @@ fn for_x(rt: &impl Abort, alloc: Global, w: &World, form: &Form) -> Subst
     ensures { KnownPairs (function_of w.now.entries) result.0 }
 {
     let mut pairs = Seq::new(alloc);
-    pairs.push((named(b"X"), term(rt, alloc, w, form))).expect(rt, "memory");
+    pairs
+        .push((symbol(rt, alloc, b"X"), term(rt, alloc, w, form)))
+        .expect(rt, "memory");
     Subst(pairs)
 }
 
@@ -92,7 +99,7 @@ fn applied(
     requires facts { KnownFacts (function_of w.now.entries) ctx.now.0 }
     requires pairs { KnownPairs (function_of w.now.entries) s.now.0 }
 {
-    let name = named(b"RULE");
+    let name = symbol(rt, alloc, b"RULE");
     let hyps = all_facts(rt, alloc, w, ctx);
     let relieved = are_relieved(alloc, w, ctx, &name, part, s, hyps.as_slice());
     if !relieved.expect(rt, "memory") {
@@ -103,12 +110,7 @@ fn applied(
 }
 
 /// A part of the theorem `(implies h h)` for a form as `x`, under the facts that the others are true.
-pub(crate) fn by_theorem(
-    rt: &impl Abort,
-    alloc: Global,
-    part: u32,
-    row: &[Form],
-) -> Option<Equiv> {
+pub(crate) fn by_theorem(rt: &impl Abort, alloc: Global, part: u32, row: &[Form]) -> Option<Equiv> {
     let [h, form, others @ ..] = row else {
         return None;
     };
