@@ -1,17 +1,21 @@
 -- What the tests hand to the kernel's rows: a theorem (implies h h), and polynomials of literals.
-use Rattle.std.proofs.Common.{◌≡◌, ◌≢◌, Bool, true, false, cond, List, [], ◌∷◌, ◌++◌, inl, refl, sym, subst}
+use Rattle.std.proofs.Common.{◌≡◌, ◌≢◌, Bool, true, false, cond, List, [], ◌∷◌, ◌++◌, inl, sym, ap, ◌∙◌, subst}
+use Rattle.std.specs.Prelude.{Result, Ok, Err, IfOk, OnOk}
 use Rattle.ap_list.specs.Lists.{Each}
 use Rattle.ap_list.proofs.Eachs.{each_append}
 use Rattle.ap_value.specs.Values.{V, value_eq}
 use Rattle.ap_term.specs.declared.term.Term.{Term}
 use Rattle.ap_world.specs.declared.entry.Entry.{Entry}
+use Rattle.ap_world.specs.declared.entry.Entry.TheVariants as entry
+use Rattle.ap_world.specs.declared.entry.Theorem.{Theorem}
 use Rattle.ap_world.specs.Names.{implies_name}
 use Rattle.ap_world.specs.Primitives.{nil, t}
 use Rattle.ap_world.specs.Meaning.{Defs, Total, Valid, FactHolds}
 use Rattle.ap_world.specs.Sound.{known, Sound, HasFunctions}
-use Rattle.ap_world.specs.Ground.{two, ground_functions, not_function}
-use Rattle.ap_world.specs.World.{function_of}
+use Rattle.ap_world.specs.Ground.{two, ground, ground_functions, not_function}
+use Rattle.ap_world.specs.World.{Shown, added, function_of}
 use Rattle.ap_world.proofs.Equations.{t_isnt_nil}
+use Rattle.ap_world.proofs.Extending.{function_of-theorem}
 use Rattle.ap_world.proofs.Given.{implies_is}
 use Rattle.ap_world.proofs.Knowing.{true_each}
 use Rattle.ap_world.proofs.TotalMeaning.{models, val, valid_of}
@@ -26,6 +30,26 @@ use Rattle.ap_kernel.specs.Standing.{HasGround}
 pub kernel_ground : (D : Defs) → HasFunctions D → HasGround D
 unfolding ground_functions not_function
 kernel_ground D functions = functions.0
+
+-- the ground world, which was made, has it
+pub begun : {E : Type 0} (r : Result Shown E) (w : Shown) → IfOk r (λ v. v ≡ record { entries = ground; theory = record { disabled = [] } }) → r ≡ Ok w
+    → HasFunctions (function_of ground) → HasGround (function_of w.entries)
+begun r w h is functions = subst (λ (v : Shown). HasGround (function_of v.entries)) (sym (made r w h is)) (kernel_ground (function_of ground) functions)
+  where
+    made : {E : Type 0} (r : Result Shown E) (w : Shown) → IfOk r (λ v. v ≡ record { entries = ground; theory = record { disabled = [] } }) → r ≡ Ok w
+        → w ≡ record { entries = ground; theory = record { disabled = [] } }
+    made (Ok v) w h is = cc
+    made (Err e) w h is = cc
+
+-- a theorem more makes no other functions
+pub with_theorem : {A E : Type 0} (r : Result A E) (x : A) (w v : Shown) (u : Theorem) → HasGround (function_of w.entries) → OnOk r (v ≡ added w (entry.Theorem u)) → r ≡ Ok x
+    → HasGround (function_of v.entries)
+with_theorem r x w v u ground h is =
+    subst HasGround (sym (ap (λ (v : Shown). function_of v.entries) (made r x h is) ∙ function_of-theorem w.entries u)) ground
+  where
+    made : {A E : Type 0} (r : Result A E) (x : A) → OnOk r (v ≡ added w (entry.Theorem u)) → r ≡ Ok x → v ≡ added w (entry.Theorem u)
+    made (Ok y) x h is = h
+    made (Err e) x h is = cc
 
 itself : (b : Bool) → cond b t (cond b nil t) ≢ nil
 itself true h = t_isnt_nil h
