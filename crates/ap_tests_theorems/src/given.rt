@@ -11,10 +11,9 @@ use ap_ground::laws::ground_has_its_functions;
 use ap_kernel::{Equiv, Mode, World};
 use ap_list::{Bytes, Seq};
 use ap_print::print_term;
-use ap_reader::{Form, forms};
+use ap_reader::{Body, Form, forms};
 use ap_term::Term;
-use ap_translate::translate;
-use ap_value::{Symbol, acl2};
+use ap_value::{Symbol, Value, acl2, copy_symbol};
 use std::alloc::Global;
 use std::process::Abort;
 
@@ -43,11 +42,52 @@ pub(crate) fn read(rt: &impl Abort, alloc: Global, text: &str) -> Seq<Form> {
     forms(alloc, text.as_bytes()).expect(rt, "forms")
 }
 
+/// The term that is written: a symbol is a variable, a number or a quoted symbol a constant, a list a call.
+#[cycle(writing)]
+fn written(rt: &impl Abort, alloc: Global, form: &Form) -> Term {
+    match &form.body {
+        Body::Sym(name) => Term::Var(copy_symbol(alloc, name).expect(rt, "memory")),
+        Body::Int(n) => Term::Quote(Value::Int(*n)),
+        Body::Quoted(inner) => match &inner.get().body {
+            Body::Sym(name) => Term::Quote(Value::Sym(copy_symbol(alloc, name).expect(
+                rt, "memory",
+            ))),
+            _ => panic!(rt; "a quoted form that is no symbol"),
+        },
+        Body::List(items) => match items.as_slice() {
+            [head, rest @ ..] => {
+                let terms = all_written(rt, alloc, rest);
+                Term::call(alloc, head_of(rt, alloc, head), terms).expect(rt, "memory")
+            }
+            [] => panic!(rt; "a call of nothing"),
+        },
+        _ => panic!(rt; "no term"),
+    }
+}
+
+/// The terms that are written.
+#[cycle(writing)]
+fn all_written(rt: &impl Abort, alloc: Global, forms: &[Form]) -> Seq<Term> {
+    let mut out = Seq::new(alloc);
+    for form in forms {
+        out.push(written(rt, alloc, form)).expect(rt, "memory");
+    }
+    out
+}
+
+/// The function that a call begins with.
+fn head_of(rt: &impl Abort, alloc: Global, form: &Form) -> Symbol {
+    match &form.body {
+        Body::Sym(name) => copy_symbol(alloc, name).expect(rt, "memory"),
+        _ => panic!(rt; "a call of no symbol"),
+    }
+}
+
 /// The term of a form, a term of the world.
 pub(crate) fn term(rt: &impl Abort, alloc: Global, w: &World, form: &Form) -> Term
     ensures { IsTrue (known (function_of w.now.entries) result) }
 {
-    let t = translate(alloc, w, form, None).expect(rt, "a term");
+    let t = written(rt, alloc, form);
     assert!(rt; is_known(w, &t));
     t
 }

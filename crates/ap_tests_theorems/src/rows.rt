@@ -13,33 +13,33 @@ use std::process::Abort;
 /// Each row: a part, h, a term for `x` and the facts that are true. The part of the theorem `(implies h h)` is
 /// applied where the facts are its hypotheses.
 const APPLICATIONS: &str =
-    r#"0 (and (equal (car x) y) (consp x)) z (equal (car z) y) (consp z) => (EQUAL (CAR Z) Y)
-1 (and (equal (car x) y) (consp x)) z (equal (car z) y) (consp z) => (IFF (CONSP Z) 'T)
-2 (and (equal (car x) y) (consp x)) z (equal (car z) y) (consp z) => none
-0 (and (equal (car x) y) (consp x)) z (equal (car z) y) => none
-0 (and (equal (car x) y) (consp x)) z (consp z) (equal (car z) y) => none
-0 (and (equal (car x) y) (consp x)) z (equal (car z) y) (consp z) (consp z) => none
-0 (and (equal (car x) y) (consp x)) z (equal (car x) y) (consp x) => none
+    r#"0 (if (equal (car x) y) (consp x) 'nil) z (equal (car z) y) (consp z) => (EQUAL (CAR Z) Y)
+1 (if (equal (car x) y) (consp x) 'nil) z (equal (car z) y) (consp z) => (IFF (CONSP Z) 'T)
+2 (if (equal (car x) y) (consp x) 'nil) z (equal (car z) y) (consp z) => none
+0 (if (equal (car x) y) (consp x) 'nil) z (equal (car z) y) => none
+0 (if (equal (car x) y) (consp x) 'nil) z (consp z) (equal (car z) y) => none
+0 (if (equal (car x) y) (consp x) 'nil) z (equal (car z) y) (consp z) (consp z) => none
+0 (if (equal (car x) y) (consp x) 'nil) z (equal (car x) y) (consp x) => none
 0 (iff (car x) (cdr x)) (cons y y) (iff (car (cons y y)) (cdr (cons y y))) => (IFF (CAR (CONS Y Y)) (CDR (CONS Y Y)))
 0 (not (consp x)) 1 (not (consp 1)) => (EQUAL (CONSP '1) 'NIL)
-1 (if (consp x) (consp y) t) z (if (consp z) (consp y) t) => none"#;
+1 (if (consp x) (consp y) 't) z (if (consp z) (consp y) 't) => none"#;
 
 /// Each row: a call that is opened or folded.
 const CALLS: &str =
-    r#"open (append (car x) z) => (EQUAL (BINARY-APPEND (CAR X) Z) (IF (ENDP (CAR X)) Z (CONS (CAR (CAR X)) (BINARY-APPEND (CDR (CAR X)) Z))))
+    r#"open (binary-append (car x) z) => (EQUAL (BINARY-APPEND (CAR X) Z) (IF (ENDP (CAR X)) Z (CONS (CAR (CAR X)) (BINARY-APPEND (CDR (CAR X)) Z))))
 open (cons x y) => none
 open x => none
-fold (* 3 4) => (EQUAL (BINARY-* '3 '4) '12)
-fold (append '(1) '(2)) => (EQUAL (BINARY-APPEND '(1) '(2)) '(1 2))
-fold (* 3 x) => none
+fold (binary-* 3 4) => (EQUAL (BINARY-* '3 '4) '12)
+fold (cons 'a 1) => (EQUAL (CONS 'A '1) '(A . 1))
+fold (binary-* 3 x) => none
 fold 3 => none"#;
 
 /// Each row: a literal behind its sign with a fact that is true, or two terms neither of which is less.
 const INEQUALITIES: &str = r#"- (< y x) (< y x) => (EQUAL (< Y X) 'T)
 + (< x y) (< y x) => (EQUAL (< X Y) 'NIL)
 + (equal x 3) (< x 3) => (EQUAL (EQUAL X '3) 'NIL)
-+ (< x x) t => (EQUAL (< X X) 'NIL)
-- (< 3 5) t => (EQUAL (< '3 '5) 'T)
++ (< x x) 't => (EQUAL (< X X) 'NIL)
+- (< 3 5) 't => (EQUAL (< '3 '5) 'T)
 - (< x y) (< y x) => none
 + (< y x) (< 0 x) => none
 + (consp x) (< 5 3) => none
