@@ -1,4 +1,4 @@
-use Rattle.ap_tests_theorems.proofs.Given.{begun}
+use Rattle.ap_tests_theorems.proofs.Handed.{begun}
 use Rattle.ap_tests_theorems.proofs.given.first_world.Goals as goal
 
 pub returns : goal.returns

@@ -3,7 +3,7 @@ use Rattle.ap_world.specs.Names.{implies_name}
 use Rattle.ap_world.specs.Sound.{known}
 use Rattle.ap_world.specs.Ground.{two}
 use Rattle.ap_world.specs.World.{function_of}
-use Rattle.ap_tests_theorems.proofs.Given.{itself_valid, with_theorem}
+use Rattle.ap_tests_theorems.proofs.Handed.{itself_valid, with_theorem}
 use Rattle.ap_tests_theorems.proofs.theorems.world_with.Goals as goal
 
 pub add_theorem-added-requires-clause-valid : goal.add_theorem-added-requires-clause-valid
