@@ -1,6 +1,7 @@
 //! The rows on inequalities.
-ghost use Rattle.std.specs.Prelude.{◌≡◌, Bool, [], ◌∷◌, IsTrue};
+ghost use Rattle.std.specs.Prelude.{◌≡◌, true, false, [], ◌∷◌, IsTrue};
 ghost use Rattle.ap_world.specs.Sound.{known};
+ghost use Rattle.ap_world.specs.Facts.{KnownFacts};
 ghost use Rattle.ap_world.specs.World.{function_of};
 ghost use Rattle.ap_kernel.specs.Linear.{less_of};
 ghost use Rattle.ap_kernel.specs.Standing.{HasGround};

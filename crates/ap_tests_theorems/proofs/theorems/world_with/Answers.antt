@@ -7,6 +7,7 @@ use Rattle.ap_tests_theorems.proofs.Handed.{itself_valid, with_theorem}
 use Rattle.ap_tests_theorems.proofs.theorems.world_with.Goals as goal
 
 pub add_theorem-added-requires-clause-valid : goal.add_theorem-added-requires-clause-valid
+unfolding implies_name
 add_theorem-added-requires-clause-valid g c =
     let k : known (function_of c.first_world-world.result.entries) (two implies_name c.term-h.result c.term-h.result) ≡ true = search rules in
     rw c.implies_itself-t.ensures (itself_valid c.first_world-world.result.entries c.is_sound.ensures c.term-h.result k)
