@@ -3,7 +3,7 @@ use Rattle.std.proofs.Common.{◌≡◌, ◌≢◌, Bool, true, false, cond, Lis
 use Rattle.std.specs.Prelude.{Result, Ok, Err, IfOk, OnOk}
 use Rattle.ap_list.specs.Lists.{Each}
 use Rattle.ap_list.proofs.Eachs.{each_append}
-use Rattle.ap_value.specs.Values.{V, value_eq}
+use Rattle.ap_value.specs.Values.{value_eq}
 use Rattle.ap_term.specs.declared.term.Term.{Term}
 use Rattle.ap_world.specs.declared.entry.Entry.{Entry}
 use Rattle.ap_world.specs.declared.entry.Entry.TheVariants as entry
@@ -83,7 +83,11 @@ pub neither_less : (D : Defs) (c : Ctx) (a b : Term) (p q : Sequent) (m n : Mask
     → IfSome (slice_get c.0 0) (λ f. p ≡ fact_made c f.0 f.1) → IfSome (slice_get c.0 1) (λ f. q ≡ fact_made c f.0 f.1)
     → MaskHolds D c.0 a m → MaskHolds D c.0 b n → NeitherLess D c p q m n
 neither_less D c a b p q m n is less more left right =
-    record { left = a; right = b;
-        less = subst (λ (fs : List (Term × Bool)). IfSome (slice_get fs 0) (λ f. p ≡ fact_made c f.0 f.1)) is less;
-        more = subst (λ (fs : List (Term × Bool)). IfSome (slice_get fs 1) (λ f. q ≡ fact_made c f.0 f.1)) is more;
-        left_mask = left; right_mask = right }
+    record {
+      left = a;
+      right = b;
+      less = subst (λ (fs : List (Term × Bool)). IfSome (slice_get fs 0) (λ f. p ≡ fact_made c f.0 f.1)) is less;
+      more = subst (λ (fs : List (Term × Bool)). IfSome (slice_get fs 1) (λ f. q ≡ fact_made c f.0 f.1)) is more;
+      left_mask = left;
+      right_mask = right;
+    }

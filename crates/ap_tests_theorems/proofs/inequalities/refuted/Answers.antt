@@ -1,6 +1,5 @@
-use Rattle.std.proofs.Common.{◌≡◌, ◌++◌, true, rules}
+use Rattle.std.proofs.Common.{rules}
 use Rattle.ap_world.specs.World.{function_of}
-use Rattle.ap_poly.specs.Literals.{of_literal}
 use Rattle.ap_tests_theorems.proofs.Handed.{handed}
 use Rattle.ap_tests_theorems.proofs.inequalities.refuted.Goals as goal
 

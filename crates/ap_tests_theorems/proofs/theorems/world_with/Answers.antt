@@ -1,4 +1,4 @@
-use Rattle.std.proofs.Common.{◌≡◌, [], true, rules}
+use Rattle.std.proofs.Common.{◌≡◌, true, rules}
 use Rattle.ap_world.specs.Names.{implies_name}
 use Rattle.ap_world.specs.Sound.{known}
 use Rattle.ap_world.specs.Ground.{two}
