@@ -1,5 +1,5 @@
 -- What the tests hand to the kernel's rows: a theorem (implies h h), and polynomials of literals.
-use Rattle.std.proofs.Common.{◌≡◌, ◌≢◌, Bool, true, false, cond, List, [], ◌∷◌, ◌++◌, slice_get, IfSome, inl, sym, ap, ◌∙◌, subst}
+use Rattle.std.proofs.Common.{◌≡◌, ◌≢◌, Bool, true, false, cond, List, [], ◌∷◌, ◌++◌, inl, sym, ap, ◌∙◌, subst}
 use Rattle.std.specs.Prelude.{Result, Ok, Err, IfOk, OnOk}
 use Rattle.ap_list.specs.Lists.{Each}
 use Rattle.ap_list.proofs.Eachs.{each_append}
@@ -8,7 +8,6 @@ use Rattle.ap_term.specs.declared.term.Term.{Term}
 use Rattle.ap_world.specs.declared.entry.Entry.{Entry}
 use Rattle.ap_world.specs.declared.entry.Entry.TheVariants as entry
 use Rattle.ap_world.specs.declared.entry.Theorem.{Theorem}
-use Rattle.ap_world.specs.declared.entry.Mask.{Mask}
 use Rattle.ap_world.specs.Names.{implies_name}
 use Rattle.ap_world.specs.Primitives.{nil, t}
 use Rattle.ap_world.specs.Meaning.{Defs, Total, Valid, FactHolds}
@@ -25,10 +24,7 @@ use Rattle.ap_poly.specs.Holding.{PolyHolds}
 use Rattle.ap_poly.specs.Literals.{of_literal}
 use Rattle.ap_poly.proofs.LiteralsHold.{literals_hold}
 use Rattle.ap_kernel.specs.declared.objects.Ctx.{Ctx}
-use Rattle.ap_kernel.specs.declared.objects.Sequent.{Sequent}
-use Rattle.ap_kernel.specs.Answers.{fact_made}
-use Rattle.ap_kernel.specs.Linear.{PolysHold, less_of, NeitherLess}
-use Rattle.ap_kernel.specs.Masks.{MaskHolds}
+use Rattle.ap_kernel.specs.Linear.{PolysHold}
 use Rattle.ap_kernel.specs.Standing.{HasGround}
 
 -- what the kernel asks of a world is the first of its functions
@@ -77,17 +73,3 @@ two_hold D total c u f s is uk fk = λ e hs h.
 pub handed : (D : Defs) → Total D → (c : Ctx) (u f : Term) (s : Bool) (ps : List Polynomial) → c.0 ≡ (f, true) ∷ [] → known D u ≡ true → known D f ≡ true
     → ps ≡ of_literal u s ++ of_literal f true → PolysHold D c u s ps
 handed D total c u f s ps is uk fk made = subst (PolysHold D c u s) (sym made) (two_hold D total c u f s is uk fk)
-
--- what both facts say, which are that neither term is less
-pub neither_less : (D : Defs) (c : Ctx) (a b : Term) (p q : Sequent) (m n : Mask) → c.0 ≡ (less_of a b, false) ∷ (less_of b a, false) ∷ []
-    → IfSome (slice_get c.0 0) (λ f. p ≡ fact_made c f.0 f.1) → IfSome (slice_get c.0 1) (λ f. q ≡ fact_made c f.0 f.1)
-    → MaskHolds D c.0 a m → MaskHolds D c.0 b n → NeitherLess D c p q m n
-neither_less D c a b p q m n is less more left right =
-    record {
-      left = a;
-      right = b;
-      less = subst (λ (fs : List (Term × Bool)). IfSome (slice_get fs 0) (λ f. p ≡ fact_made c f.0 f.1)) is less;
-      more = subst (λ (fs : List (Term × Bool)). IfSome (slice_get fs 1) (λ f. q ≡ fact_made c f.0 f.1)) is more;
-      left_mask = left;
-      right_mask = right;
-    }

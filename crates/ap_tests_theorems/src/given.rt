@@ -92,6 +92,14 @@ pub(crate) fn term(rt: &impl Abort, alloc: Global, w: &World, form: &Form) -> Te
     t
 }
 
+/// A call on two terms.
+fn call_on(rt: &impl Abort, alloc: Global, head: Symbol, a: Term, b: Term) -> Term {
+    let mut parts = Seq::new(alloc);
+    parts.push(a).expect(rt, "memory");
+    parts.push(b).expect(rt, "memory");
+    Term::call(alloc, head, parts).expect(rt, "memory")
+}
+
 /// An equivalence as the call of its mode on its sides.
 fn printed(rt: &impl Abort, alloc: Global, q: Equiv) -> Bytes {
     let (_, mode, lhs, rhs) = q.into_parts();
@@ -99,10 +107,7 @@ fn printed(rt: &impl Abort, alloc: Global, q: Equiv) -> Bytes {
         Mode::Equal => symbol(rt, alloc, b"EQUAL"),
         Mode::Iff => symbol(rt, alloc, b"IFF"),
     };
-    let mut parts = Seq::new(alloc);
-    parts.push(lhs).expect(rt, "memory");
-    parts.push(rhs).expect(rt, "memory");
-    let t = Term::call(alloc, head, parts).expect(rt, "memory");
+    let t = call_on(rt, alloc, head, lhs, rhs);
     print_term(alloc, &t).expect(rt, "memory")
 }
 
@@ -114,10 +119,15 @@ fn shown(rt: &impl Abort, alloc: Global, found: Option<Equiv>) -> Bytes {
     }
 }
 
+/// Compares a text with what the line says.
+fn compare(rt: &impl Abort, line: &str, text: &[u8]) {
+    let (_, wanted) = sides(line);
+    let found = str::from_utf8(text).unwrap_or("no text");
+    assert_eq!(rt; found, wanted, "{line}");
+}
+
 /// Compares an answer with what the line says.
 pub(crate) fn expect(rt: &impl Abort, alloc: Global, line: &str, found: Option<Equiv>) {
     let text = shown(rt, alloc, found);
-    let (_, wanted) = sides(line);
-    let found = str::from_utf8(text.as_slice()).unwrap_or("no text");
-    assert_eq!(rt; found, wanted, "{line}");
+    compare(rt, line, text.as_slice());
 }

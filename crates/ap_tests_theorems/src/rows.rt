@@ -61,35 +61,38 @@ fn on_ground(rt: &impl Abort, alloc: Global, w: &World, word: &str, row: &[Form]
     }
 }
 
+/// Compares what a row on the ground world answers with what its line says.
+fn expect_row(rt: &impl Abort, alloc: Global, w: &World, line: &str)
+    requires ground { HasGround (function_of w.now.entries) }
+{
+    let (word, text) = sides(line).0.split_once(' ').unwrap_or((line, ""));
+    let row = read(rt, alloc, text);
+    let found = on_ground(rt, alloc, w, word, row.as_slice());
+    expect(rt, alloc, line, found);
+}
+
 /// Goes through a table of so many lines.
 fn expect_rows(rt: &impl Abort, alloc: Global, table: &str, count: usize) {
     assert_eq!(rt; table.lines().count(), count);
     let w = first_world(rt, alloc);
     for line in table.lines() {
-        let (word, text) = sides(line).0.split_once(' ').unwrap_or((line, ""));
-        let row = read(rt, alloc, text);
-        expect(
-            rt,
-            alloc,
-            line,
-            on_ground(rt, alloc, &w, word, row.as_slice()),
-        );
+        expect_row(rt, alloc, &w, line);
     }
+}
+
+/// Compares what the part of a theorem that a line names answers with what the line says.
+fn expect_part(rt: &impl Abort, alloc: Global, line: &str) {
+    let (part, text) = sides(line).0.split_once(' ').unwrap_or((line, ""));
+    let row = read(rt, alloc, text);
+    let found = by_theorem(rt, alloc, part.parse().unwrap_or(9), row.as_slice());
+    expect(rt, alloc, line, found);
 }
 
 #[test]
 fn a_theorem_is_applied_where_its_hypotheses_are_relieved(rt: HostRuntime) {
     assert_eq!(rt; APPLICATIONS.lines().count(), 10);
     for line in APPLICATIONS.lines() {
-        let (part, text) = sides(line).0.split_once(' ').unwrap_or((line, ""));
-        let row = read(&rt, rt.alloc(), text);
-        let part = part.parse().unwrap_or(9);
-        expect(
-            &rt,
-            rt.alloc(),
-            line,
-            by_theorem(&rt, rt.alloc(), part, row.as_slice()),
-        );
+        expect_part(&rt, rt.alloc(), line);
     }
 }
 

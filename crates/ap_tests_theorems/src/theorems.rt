@@ -1,9 +1,12 @@
 //! The rows on theorems, definitions and constants.
-ghost use Rattle.std.specs.Prelude.{◌≡◌, IsTrue, [], ◌∷◌};
+ghost use Rattle.std.specs.Prelude.{◌≡◌, IfSome, IsTrue, [], ◌∷◌};
 ghost use Rattle.ap_list.specs.Lists.{Each};
+ghost use Rattle.ap_value.specs.Values.{val_of};
 ghost use Rattle.ap_world.specs.Ground.{two, x};
 ghost use Rattle.ap_world.specs.Facts.{KnownFacts};
 ghost use Rattle.ap_world.specs.Holding.{KnownPairs};
+ghost use Rattle.ap_world.specs.Meaning.{HasValue};
+ghost use Rattle.ap_world.specs.Sound.{known};
 ghost use Rattle.ap_world.specs.Names.{implies_name, x_name};
 ghost use Rattle.ap_world.specs.World.{function_of};
 ghost use Rattle.ap_kernel.specs.Standing.{HasGround, Stands};
@@ -17,6 +20,7 @@ use ap_kernel::{
 use ap_list::Seq;
 use ap_reader::Form;
 use ap_term::copy_term;
+use ap_value::Value;
 use std::alloc::Global;
 use std::process::Abort;
 
@@ -109,15 +113,29 @@ fn applied(
     Some(answer.expect(rt, "memory"))
 }
 
+/// The part of `rule` for a form as `x`, under the facts that the others are true.
+fn in_world(
+    rt: &impl Abort,
+    alloc: Global,
+    w: &World,
+    part: u32,
+    form: &Form,
+    others: &[Form],
+) -> Option<Equiv>
+    requires ground { HasGround (function_of w.now.entries) }
+{
+    let s = for_x(rt, alloc, w, form);
+    let ctx = facts(rt, alloc, w, others);
+    applied(rt, alloc, w, &ctx, part, &s)
+}
+
 /// A part of the theorem `(implies h h)` for a form as `x`, under the facts that the others are true.
 pub(crate) fn by_theorem(rt: &impl Abort, alloc: Global, part: u32, row: &[Form]) -> Option<Equiv> {
     let [h, form, others @ ..] = row else {
         return None;
     };
     let w = world_with(rt, alloc, h);
-    let s = for_x(rt, alloc, &w, form);
-    let ctx = facts(rt, alloc, &w, others);
-    applied(rt, alloc, &w, &ctx, part, &s)
+    in_world(rt, alloc, &w, part, form, others)
 }
 
 /// A call opened, where it can be.
@@ -130,16 +148,25 @@ pub(crate) fn opened(rt: &impl Abort, alloc: Global, w: &World, form: &Form) -> 
     Some(open_def(alloc, w, &ctx, &t).expect(rt, "memory"))
 }
 
+/// The value of a term without variables, where running finds it.
+fn value_of(alloc: Global, w: &World, t: &Term) -> Option<Value>
+    requires term { IsTrue (known (function_of w.now.entries) t.now) }
+    ensures { IfSome result (λ v. HasValue (function_of w.now.entries) t.now [] (val_of v)) }
+{
+    let env = Env(Seq::new(alloc));
+    let Ok(value) = eval(alloc, w, t, &env, 2000) else {
+        return None;
+    };
+    Some(value)
+}
+
 /// A call on constants folded to its value, where it has one.
 pub(crate) fn folded(rt: &impl Abort, alloc: Global, w: &World, form: &Form) -> Option<Equiv> {
     let t = term(rt, alloc, w, form);
     if !is_constant_call(&t) {
         return None;
     }
-    let env = Env(Seq::new(alloc));
-    let Ok(value) = eval(alloc, w, &t, &env, 2000) else {
-        return None;
-    };
+    let value = value_of(alloc, w, &t)?;
     let ctx = facts(rt, alloc, w, &[]);
     Some(fold(alloc, w, &ctx, &t, value).expect(rt, "memory"))
 }

@@ -37,14 +37,26 @@ const AFTER: &[(&[u8], bool, bool)] = &[
     (b"CDR-CONS", true, true),
 ];
 
+/// Compares a row with the world.
+fn expect_name(
+    rt: &impl Abort,
+    alloc: Global,
+    w: &World,
+    name: &[u8],
+    is_there: bool,
+    is_enabled: bool,
+) {
+    let name = symbol(rt, alloc, name);
+    assert_eq!(rt; w.has(&name), is_there);
+    assert_eq!(rt; w.enabled_for(RuneKind::Rewrite, &name), is_enabled);
+}
+
 #[test]
 fn a_world_goes_back_to_its_first_entries_with_a_theory(rt: HostRuntime) {
     let mut world = first_world(&rt, rt.alloc());
     go_back(&rt, rt.alloc(), &mut world);
     for (name, is_there, is_enabled) in AFTER {
-        let name = symbol(&rt, rt.alloc(), *name);
-        assert_eq!(rt; world.has(&name), *is_there);
-        assert_eq!(rt; world.enabled_for(RuneKind::Rewrite, &name), *is_enabled);
+        expect_name(&rt, rt.alloc(), &world, *name, *is_there, *is_enabled);
     }
 }
 
@@ -65,13 +77,18 @@ const PAIRS: &[(&str, u16, u16, &str, bool, bool)] = &[
     ("NATP", 24, 24, "POSP", false, false),
 ];
 
+/// Compares two functions, the first of this name.
+fn compare(rt: &impl Abort, name: &str, a: &Entry, b: &Entry, alike: bool, same: bool) {
+    assert_eq!(rt; alike_entry(a, b), alike, "{name}");
+    assert_eq!(rt; same_entry(a, b), same, "{name}");
+}
+
 #[test]
 fn functions_are_alike_whatever_their_masks(rt: HostRuntime) {
     let w = first_world(&rt, rt.alloc());
     for (name, mask, other_mask, other_name, alike, same) in PAIRS {
         let a = masked(&rt, rt.alloc(), &w, *name, *mask);
         let b = masked(&rt, rt.alloc(), &w, *other_name, *other_mask);
-        assert_eq!(rt; alike_entry(&a, &b), *alike, "{name} {other_name}");
-        assert_eq!(rt; same_entry(&a, &b), *same, "{name} {other_name}");
+        compare(&rt, *name, &a, &b, *alike, *same);
     }
 }
