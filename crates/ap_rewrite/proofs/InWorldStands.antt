@@ -35,7 +35,7 @@ sound_setting w h us l sound ground distinct arithmetic = record {
   rules = rules_hold w.entries sound ground;
   functions = λ f g is. is;
   arithmetic = arithmetic;
-  types = λ fs u fk k. types_mask (record w { theory = h }) sound ground fs u fk k;
+  types = λ fs u fk k. types_mask w sound ground fs u fk k;
   value = λ u v k q. value_means w u v q;
 }
 

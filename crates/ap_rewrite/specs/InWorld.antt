@@ -19,7 +19,8 @@ value_in o = None
 abbrev pub most_units : ℕ
 most_units = 2000
 
--- in a world, by a theory, where calls of the listed terms are opened
+-- in a world, by a theory, where calls of the listed terms are opened. Masks go by the world's own theory, whatever
+-- theory rules and definitions go by
 abbrev pub setting_in : Shown → Theory → List Term → Arithmetic → Setting
 setting_in w h us l = record {
   world = w;
@@ -28,6 +29,6 @@ setting_in w h us l = record {
   functions = function_of w.entries;
   expand = us;
   arithmetic = l;
-  types = types (record w { theory = h });
+  types = types w;
   value = λ u. value_in (metered (function_of w.entries) u [] most_units);
 }
