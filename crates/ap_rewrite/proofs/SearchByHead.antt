@@ -13,7 +13,7 @@ use Rattle.ap_term.specs.Matching.{Pairs, match_step, matched}
 use Rattle.ap_world.specs.Rules.{Rule}
 use Rattle.ap_rewrite.specs.Settings.{Setting, Place, Inner}
 use Rattle.ap_rewrite.specs.Rewriting.{fits_mode, apply, try_rule, by_rules}
-use Rattle.ap_rewrite.specs.Indexed.{kept, may_begin, begins, rules_for}
+use Rattle.ap_rules.specs.Indexed.{kept, may_begin, begins, rules_for}
 use Rattle.ap_rewrite.specs.Laws.{SearchByHead}
 
 module _ {R A : Type 0} (try : R → By (Option A)) (test : R → Bool) (skips : (g : R) → test g ≡ false → (n : ℕ) → try g n ≡ known None n) where

@@ -19,7 +19,7 @@ use Rattle.ap_rewrite.specs.Settings.{Setting, Place, Inner}
 use Rattle.ap_rewrite.specs.Rewriting.{try_rule, by_rules, rewrite_to}
 use Rattle.ap_rewrite.specs.Literals.{rewrite_literals, rewritten_to, simplify_of}
 use Rattle.ap_rewrite.specs.InWorld.{setting_in}
-use Rattle.ap_rewrite.specs.Indexed.{rules_for}
+use Rattle.ap_rules.specs.Indexed.{rules_for}
 use Rattle.ap_rewrite.specs.SoundSettings.{defs_of, SoundSetting}
 
 -- what a rewriting costs doesn't depend on the steps that are left, for a term and for the literals of a clause

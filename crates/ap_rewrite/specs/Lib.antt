@@ -7,5 +7,4 @@ pub mod Rewriting
 pub mod Literals
 pub mod InWorld
 pub mod SoundSettings
-pub mod Indexed
 pub mod Laws

@@ -1,0 +1,18 @@
+-- Rules by the heads of their left sides.
+use Rattle.std.specs.Prelude.{List, [], map, unwrap_or}
+use Rattle.std.specs.Map.{lookup}
+use Rattle.ap_value.specs.declared.symbol.Symbol.{Symbol}
+use Rattle.ap_value.specs.Values.{symbol_eq}
+use Rattle.ap_world.specs.Rules.{Rule}
+use Rattle.ap_rules.specs.declared.rule.RewriteRule.{RewriteRule}
+use Rattle.ap_rules.specs.Made.{rule_in}
+
+-- for each head its rules, newest first
+abbrev pub Table : Type 0
+Table = List (Symbol × List RewriteRule)
+
+abbrev pub group_at : Table → Symbol → List RewriteRule
+group_at table f = unwrap_or (lookup (symbol_eq f) table) []
+
+abbrev pub grouped_at : Table → Symbol → List Rule
+grouped_at table f = map rule_in (group_at table f)

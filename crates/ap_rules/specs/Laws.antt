@@ -1,0 +1,11 @@
+-- What is said of the rules of every world.
+use Rattle.std.specs.Prelude.{◌≡◌, true, List, Some}
+use Rattle.ap_list.specs.Lists.{Each}
+use Rattle.ap_world.specs.declared.entry.Entry.{Entry}
+use Rattle.ap_world.specs.Rules.{rules_in}
+use Rattle.ap_world.specs.World.{are_distinct}
+use Rattle.ap_world.specs.Holding.{part_of}
+
+-- a rule is the part with its number of the theorem with its name
+abbrev pub RulesAreParts : Type 0
+RulesAreParts = (W : List Entry) → are_distinct W ≡ true → Each (λ g. part_of W g.theorem g.part ≡ Some g) (rules_in W)
