@@ -3,4 +3,11 @@
 //! `introduction-to-the-theorem-prover` and "The Rewriter" in "Computer-Aided Reasoning" (2000).
 #![tactic(auto)]
 
+mod equating;
+mod facts;
 pub mod laws;
+mod ordering;
+mod running;
+mod settling;
+mod shaping;
+mod testing;

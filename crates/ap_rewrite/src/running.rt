@@ -1,0 +1,102 @@
+// Calls of constants, which are run.
+ghost use Rattle.std.specs.Prelude.{◌≡◌, ◌&&◌, IsTrue, IfOk, IfSome, List, []};
+ghost use Rattle.std.specs.Option.{option_map};
+ghost use Rattle.ap_value.specs.declared.symbol.Symbol.{Symbol};
+ghost use Rattle.ap_value.specs.Values.{val_of};
+ghost use Rattle.ap_term.specs.declared.term.Term.{Term, Call};
+ghost use Rattle.ap_world.specs.declared.theory.Rune.TheVariants as rune;
+ghost use Rattle.ap_world.specs.Meaning.{HasValue};
+ghost use Rattle.ap_world.specs.Sound.{known};
+ghost use Rattle.ap_world.specs.Theories.{is_enabled};
+ghost use Rattle.ap_world.specs.Units.{metered};
+ghost use Rattle.ap_world.specs.World.{function_of};
+ghost use Rattle.ap_world.specs.Facts.{KnownFacts};
+ghost use Rattle.ap_kernel.specs.Opening.{is_constant_call};
+ghost use Rattle.ap_kernel.specs.Standing.{Stands};
+ghost use Rattle.ap_rewrite.specs.InWorld.{value_in, most_units};
+ghost use Rattle.ap_rewrite.specs.Leading.{leads_made, said_of, plain_in};
+ghost use Rattle.ap_rewrite.specs.Rewriting.{constant_in, run};
+
+use crate::settling::{in_mode, is_iff, to_true};
+use ap_eval::{Env, EvalStop, eval};
+use ap_kernel::{
+    Ctx, Equiv, Mode, NoMemory, Seq, Term, Value, World, fold, is_constant_call, is_nil,
+};
+use ap_world::{RuneKind, Theory};
+use std::alloc::{AllocError, Global};
+
+/// The value that running gives a term without variables, with 2,000 units.
+fn value_of(alloc: Global, w: &World, t: &Term) -> Result<Option<Value>, NoMemory>
+    requires { IsTrue (known (function_of w.now.entries) t.now) }
+    ensures is { IfOk result (λ o. o ≡ value_in (metered (function_of w.now.entries) t.now [] most_units)) }
+    ensures meant { IfOk result (λ o. IfSome o (λ v. HasValue (function_of w.now.entries) t.now [] (val_of v))) }
+{
+    let env = Env(Seq::new(alloc));
+    match eval(alloc, w, t, &env, 2000) {
+        Ok(value) => Ok(Some(value)),
+        Err(EvalStop::NoMemory) => Err(AllocError),
+        Err(_) => Ok(None),
+    }
+}
+
+/// From a call of constants to its value, under a mode.
+fn folded(
+    alloc: Global,
+    w: &World,
+    ctx: &Ctx,
+    mode: Mode,
+    t: &Term,
+    value: Value,
+) -> Result<Equiv, NoMemory>
+    requires facts { KnownFacts (function_of w.now.entries) ctx.now.0 }
+    requires term { IsTrue (known (function_of w.now.entries) t.now) }
+    requires constants { IsTrue (is_constant_call t.now) }
+    requires value { HasValue (function_of w.now.entries) t.now [] (val_of value) }
+    ensures stands { IfOk result (λ q. Stands w.now q) }
+    ensures made { IfOk result (λ q. q.says ≡ leads_made ctx.now mode t.now (constant_in mode value)) }
+{
+    let is_truth = is_iff(mode) && !is_nil(&value);
+    let first = fold(alloc, w, ctx, t, value)?;
+    let q = in_mode(alloc, w, first, mode)?;
+    if is_truth {
+        return to_true(alloc, w, q);
+    }
+    Ok(q)
+}
+
+/// Whether a term is a call of constants whose executable counterpart the theory enables. Takes no memory.
+fn can_run(theory: &Theory, t: &Term) -> bool
+    ensures is { (f : Symbol) (us : List Term) → t.now ≡ Call f us → result ≡ (is_constant_call t.now && is_enabled theory.now (rune.Executable f)) }
+    ensures constants { IsTrue result → IsTrue (is_constant_call t.now) }
+{
+    match t {
+        Term::Call(f, _) => is_constant_call(t) && theory.is_enabled(RuneKind::Executable, f),
+        Term::Var(_) => false,
+        Term::Quote(_) => false,
+    }
+}
+
+/// From a call of constants whose executable counterpart the theory enables to the value that running gives with
+/// 2,000 units, where it gives one; under `iff` one that isn't `nil` is `'T`. See the manual's topic
+/// `executable-counterpart`.
+pub fn run(
+    alloc: Global,
+    w: &World,
+    theory: &Theory,
+    ctx: &Ctx,
+    mode: Mode,
+    t: &Term,
+) -> Result<Option<Equiv>, NoMemory>
+    requires facts { KnownFacts (function_of w.now.entries) ctx.now.0 }
+    requires term { IsTrue (known (function_of w.now.entries) t.now) }
+    ensures stands { IfOk result (λ o. IfSome o (λ q. Stands w.now q)) }
+    ensures made { IfOk result (λ o. (f : Symbol) (us : List Term) → t.now ≡ Call f us → said_of o ≡ option_map (leads_made ctx.now mode t.now) (run (plain_in w.now theory.now) mode f us)) }
+{
+    if !can_run(theory, t) {
+        return Ok(None);
+    }
+    match value_of(alloc, w, t)? {
+        Some(value) => Ok(Some(folded(alloc, w, ctx, mode, t, value)?)),
+        None => Ok(None),
+    }
+}
