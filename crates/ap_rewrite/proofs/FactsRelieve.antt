@@ -1,6 +1,5 @@
 -- Hypotheses that facts relieve: what is shown of their instances, under the pairs that come of it and under more.
-use Rattle.std.proofs.Common.{◌≡◌, Bool, true, false, List, [], ◌∷◌, map, Option, None, Some, is_some, slice_get, ℕ, refl, sym, ap, ◌∙◌, subst}
-use denote.Ref.{Bor}
+use Rattle.std.proofs.Common.{Bor, ◌≡◌, Bool, true, false, List, [], ◌∷◌, map, Option, None, Some, is_some, slice_get, ℕ, refl, sym, ap, ◌∙◌, subst}
 use Rattle.ap_list.specs.Lists.{Each, all_true, lookup_by}
 use Rattle.ap_value.specs.declared.symbol.Symbol.{Symbol}
 use Rattle.ap_value.specs.declared.value.Value.{Value}

@@ -19,3 +19,4 @@ pub mod Settled
 pub mod Negated
 pub mod FactsRelieve
 pub mod Bounded
+pub mod Leading

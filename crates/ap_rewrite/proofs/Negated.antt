@@ -1,6 +1,5 @@
 -- Negations, and an `if` by its simplest shape: what the rows on them ask for and give.
-use Rattle.std.proofs.Common.{◌≡◌, Bool, true, false, cond, not, ◌||◌, [], ◌∷◌, Option, None, Some, refl, sym, ap, ◌∙◌, subst}
-use denote.Ref.{Bor}
+use Rattle.std.proofs.Common.{Bor, ◌≡◌, Bool, true, false, cond, not, ◌||◌, [], ◌∷◌, Option, None, Some, refl, sym, ap, ◌∙◌, subst}
 use Rattle.ap_value.specs.declared.value.Value.{Value, Sym}
 use Rattle.ap_value.specs.Values.{val_of, value_eq}
 use Rattle.ap_value.proofs.Equals.{value_eq-same}
