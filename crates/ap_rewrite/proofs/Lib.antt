@@ -20,3 +20,4 @@ pub mod Negated
 pub mod FactsRelieve
 pub mod Bounded
 pub mod Leading
+pub mod Ran
