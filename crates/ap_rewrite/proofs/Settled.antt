@@ -5,8 +5,9 @@ use Rattle.ap_value.specs.declared.value.Value.{Value, Int, Sym}
 use Rattle.ap_value.specs.declared.symbol.Symbol.{Symbol}
 use Rattle.ap_value.specs.Values.{V, int, val_of, value_eq}
 use Rattle.ap_value.proofs.Equals.{both}
-use Rattle.ap_term.specs.declared.term.Term.{Term, Quote, Call}
-use Rattle.ap_term.specs.declared.term.Term.TheVariants.{outs-Quote}
+use Rattle.ap_term.specs.declared.term.Term.{Term, Quote, Call, out-Term}
+use Rattle.ap_term.specs.declared.term.Term.TheOpen.{Term-F}
+use Rattle.ap_term.specs.declared.term.Term.TheVariants.{outs-Quote, outs-Call}
 use Rattle.ap_term.specs.Equal.{term_eq}
 use Rattle.ap_term.proofs.Equals.{term_eq-same}
 use Rattle.ap_world.specs.declared.entry.Mask.{Mask}
@@ -171,7 +172,9 @@ run_says w h o f g u ts us p q =
     ap (λ f. run_by w h o f u) same ∙ ap (run_by w h o g) q
   where
     heads_same : Call f ts ≡ Call g us → f ≡ g
-    heads_same e = cc
+    heads_same e =
+        let same : Term-F.Call f ts ≡ Term-F.Call g us = sym (outs-Call f ts) ∙ ap out-Term e ∙ outs-Call g us in
+        cc
 
 -- where an equation leads
 pub equated_said : (c : Ctx) (o : Mode) (u : Term) (x : Option Term) (s : Sequent) → is_some x ≡ true → IfSome x (λ v. s ≡ equation_made c u v)
