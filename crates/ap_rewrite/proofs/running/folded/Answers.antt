@@ -19,6 +19,6 @@ returns-then-becomes-clause-made c =
     c.in_ok-truth.ensures.made ∙ ap (λ (s : Sequent). leads_made s.ctx Iff s.lhs t_constant) c.in_ok-q.ensures.made
     ∙ becomes_says c.args.ctx.now c.args.mode c.args.t.now c.args.value (sym c.becomes_true-becomes.ensures ∙ c.if-becomes.true)
 
-pub returns-else-becomes-clause-made : goal.returns-else-becomes-clause-made
-returns-else-becomes-clause-made c =
+pub returns-clause-made : goal.returns-clause-made
+returns-clause-made c =
     c.in_ok-q.ensures.made ∙ ap (leads_made c.args.ctx.now c.args.mode c.args.t.now) (sym (constant_stays c.args.mode c.args.value (sym c.becomes_true-becomes.ensures ∙ c.if-becomes.false)))
