@@ -5,7 +5,7 @@ ghost use Rattle.ap_term.specs.declared.term.Term.TheVariants.{Quote, Call};
 ghost use Rattle.ap_world.specs.Names.{equal_name};
 
 use ap_list::{Bytes, Fixed, NoMemory, Seq};
-use ap_rules::{RewriteRule, Ruled, RuleIndex, by_head, index};
+use ap_rules::{RewriteRule, RuleIndex, Ruled, by_head, index};
 use ap_term::Term;
 use ap_value::{Value, acl2, named};
 use ap_world::laws::equal_sides_are_valid;
@@ -27,7 +27,11 @@ fn equal(alloc: Global, a: Term, b: Term) -> Result<Term, NoMemory>
 fn sevens(alloc: Global) -> Result<Term, NoMemory>
     ensures { IfOk result (λ u. u ≡ Call equal_name (Quote (Int (pos 7)) ∷ Quote (Int (pos 7)) ∷ [])) }
 {
-    equal(alloc, Term::Quote(Value::Int(7)), Term::Quote(Value::Int(7)))
+    equal(
+        alloc,
+        Term::Quote(Value::Int(7)),
+        Term::Quote(Value::Int(7)),
+    )
 }
 
 /// Adds the theorem that `(equal 7 7)` equals itself.
@@ -99,7 +103,13 @@ fn the_newest_rule_is_the_first(rt: HostRuntime) -> Result<(), NoMemory> {
     assert!(rt; is_added(rt.alloc(), &mut ruled, b"D")?);
     assert!(rt; is_added(rt.alloc(), &mut ruled, b"E")?);
     assert!(rt; carries(rt.alloc(), &ruled, b"E D B A")?);
-    assert!(rt; carries(rt.alloc(), &Ruled::of(rt.alloc(), ruled.into_world())?, b"E D B A")?);
+    assert!(rt;
+        carries(
+            rt.alloc(),
+            &Ruled::of(rt.alloc(), ruled.into_world())?,
+            b"E D B A"
+        )?
+    );
     Ok(())
 }
 
