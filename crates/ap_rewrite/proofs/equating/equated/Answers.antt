@@ -1,4 +1,4 @@
-use Rattle.std.proofs.Common.{◌≡◌, Some, sym, ap, ◌∙◌}
+use Rattle.std.proofs.Common.{Some, sym, ap, ◌∙◌}
 use Rattle.ap_kernel.specs.Equations.{equation_leads}
 use Rattle.ap_rewrite.proofs.Settled.{equated_said, none_said, serves_equal}
 use Rattle.ap_rewrite.proofs.equating.equated.Goals as goal

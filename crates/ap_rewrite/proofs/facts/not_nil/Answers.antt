@@ -1,4 +1,4 @@
-use Rattle.std.proofs.Common.{◌≡◌, sym, ap, ◌∙◌}
+use Rattle.std.proofs.Common.{sym, ap, ◌∙◌}
 use Rattle.ap_term.specs.declared.term.Term.{Quote}
 use Rattle.ap_world.specs.Clauses.{not_of}
 use Rattle.ap_world.specs.Recursion.{t_constant}

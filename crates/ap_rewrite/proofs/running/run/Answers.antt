@@ -1,4 +1,4 @@
-use Rattle.std.proofs.Common.{◌≡◌, sym, ap, ◌∙◌}
+use Rattle.std.proofs.Common.{ap, ◌∙◌}
 use Rattle.std.specs.Option.{option_map}
 use Rattle.ap_rewrite.specs.Leading.{leads_made}
 use Rattle.ap_rewrite.proofs.Settled.{run_says}

@@ -1,4 +1,4 @@
-use Rattle.std.proofs.Common.{◌≡◌, None, cond, sym, ap, ◌∙◌}
+use Rattle.std.proofs.Common.{None, cond, sym, ap, ◌∙◌}
 use Rattle.std.specs.Option.{option_map}
 use Rattle.ap_rewrite.specs.Leading.{leads_made, plain_in}
 use Rattle.ap_rewrite.specs.Rewriting.{constant_in}

@@ -1,4 +1,4 @@
-use Rattle.std.proofs.Common.{◌≡◌, sym, ap, ◌∙◌}
+use Rattle.std.proofs.Common.{sym, ap, ◌∙◌}
 use Rattle.ap_value.specs.Values.{val_of}
 use Rattle.ap_term.specs.declared.term.Term.{Quote}
 use Rattle.ap_kernel.specs.Equations.{truth_constant}
