@@ -6,5 +6,7 @@ pub mod Linear
 pub mod Rewriting
 pub mod Literals
 pub mod InWorld
+pub mod Leading
+pub mod Relieved
 pub mod SoundSettings
 pub mod Laws

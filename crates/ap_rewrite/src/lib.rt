@@ -3,4 +3,13 @@
 //! `introduction-to-the-theorem-prover` and "The Rewriter" in "Computer-Aided Reasoning" (2000).
 #![tactic(auto)]
 
+mod bounding;
+mod equating;
+mod facts;
 pub mod laws;
+mod ordering;
+mod refuting;
+mod running;
+mod settling;
+mod shaping;
+mod testing;
