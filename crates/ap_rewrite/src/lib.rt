@@ -7,7 +7,10 @@ mod equating;
 mod facts;
 pub mod laws;
 mod ordering;
+mod rewriter;
 mod running;
 mod settling;
 mod shaping;
 mod testing;
+
+pub use rewriter::{Place, Rewriter, Run};

@@ -1,0 +1,83 @@
+-- What the rewriter's code is handed, and what it answers: the definition's term with the definition's steps left, by
+-- an equivalence that stands.
+use Rattle.std.specs.Prelude.{◌≡◌, ℕ, IsTrue, IfOk, IfSome, List, Option, Some, None, Result}
+use Rattle.std.specs.Option.{option_map}
+use Rattle.std.specs.declared.alloc.AllocError.{AllocError}
+use denote.Ref.{Bor, MutBor}
+use Rattle.ap_list.specs.Lists.{Each}
+use Rattle.ap_term.specs.declared.term.Term.{Term}
+use Rattle.ap_term.specs.Metered.{Got}
+use Rattle.ap_world.specs.Meaning.{Defs}
+use Rattle.ap_world.specs.Sound.{known}
+use Rattle.ap_world.specs.World.{Shown, function_of}
+use Rattle.ap_world.specs.Facts.{KnownFacts}
+use Rattle.ap_rules.specs.Index.{IsIndex}
+use Rattle.ap_kernel.specs.declared.objects.Ctx.{Ctx}
+use Rattle.ap_kernel.specs.declared.objects.Mode.{Mode}
+use Rattle.ap_kernel.specs.declared.objects.Mode.TheVariants.{Equal}
+use Rattle.ap_kernel.specs.declared.objects.Equiv.{Equiv}
+use Rattle.ap_kernel.specs.Standing.{HasGround, Stands}
+use Rattle.ap_rewrite.specs.declared.rewriter.Rewriter.{Rewriter}
+use Rattle.ap_rewrite.specs.declared.rewriter.Place.{Place}
+use Rattle.ap_rewrite.specs.declared.rewriter.Run.{Run}
+use Rattle.ap_rewrite.specs.Arithmetic.{no_arithmetic}
+use Rattle.ap_rewrite.specs.Settings.{Setting, Inner, Place as Stood}
+use Rattle.ap_rewrite.specs.InWorld.{setting_in}
+use Rattle.ap_rewrite.specs.Rewriting.{rewrite_to}
+
+-- the world, and its definitions
+abbrev pub world_of : {O : Type 0} → Rewriter O → Shown
+world_of r = r.w.now
+
+abbrev pub defs_in : {O : Type 0} → Rewriter O → Defs
+defs_in r = function_of r.w.now.entries
+
+-- the world has the ground functions, and the index its rules
+pub record Ready {O : Type 0} (r : Rewriter O) : Type 0 where
+  pub ground : HasGround (defs_in r)
+  pub index : IsIndex r.rules.now r.w.now.entries
+
+-- what the definition goes by
+abbrev pub setting_of : {O : Type 0} → Rewriter O → Setting
+setting_of r = setting_in r.w.now r.theory.now r.expand.now no_arithmetic
+
+-- terms with so many levels left
+abbrev pub inner_of : {O : Type 0} → Rewriter O → ℕ → Inner
+inner_of r d = rewrite_to (setting_of r) d
+
+-- where a term stands
+abbrev pub seen_at : Place → Stood
+seen_at p = record { facts = p.ctx.now.0; closed = p.closed.now; chain = p.chain }
+
+-- an equivalence's term with the steps that are left; nothing where they ran out
+abbrev pub got : Option Equiv → ℕ → Got Term
+got None n = None
+got (Some q) n = Some (q.says.rhs, n)
+
+-- one that may not be there
+abbrev pub right_of : Option Equiv → Option Term
+right_of o = option_map (λ (q : Equiv). q.says.rhs) o
+
+abbrev pub got_any : Option (Option Equiv) → ℕ → Got (Option Term)
+got_any None n = None
+got_any (Some o) n = Some (right_of o, n)
+
+-- from a term, under these facts and this mode, to one that means the same
+pub record From (w : Shown) (o : Mode) (c : Ctx) (u : Term) (q : Equiv) : Type 0 where
+  pub stands : Stands w q
+  pub ctx : q.says.ctx ≡ c
+  pub mode : q.says.mode ≡ o
+  pub lhs : q.says.lhs ≡ u
+
+-- how a term is rewritten one level deeper: wherever facts and term are those of the world, it answers as the
+-- definition does with so many levels left
+pub record IsLevel {O : Type 0} (may : MutBor Run → Mode → Bor Place → Bor Term → Type 0)
+    (gives : MutBor Run → Mode → Bor Place → Bor Term → Result (Option Equiv) AllocError → MutBor Run → Type 0)
+    (r : Rewriter O) (d : ℕ) : Type 0 where
+  pub ready : Ready r
+  pub may : (run : MutBor Run) (o : Mode) (p : Bor Place) (u : Bor Term)
+      → KnownFacts (defs_in r) p.now.ctx.now.0 → IsTrue (known (defs_in r) u.now) → may run o p u
+  pub is : (run : MutBor Run) (o : Mode) (p : Bor Place) (u : Bor Term) (a : Result (Option Equiv) AllocError) (left : MutBor Run)
+      → gives run o p u a left → IfOk a (λ b. got b left.now.left ≡ inner_of r d o (seen_at p.now) u.now run.now.left)
+  pub from : (run : MutBor Run) (o : Mode) (p : Bor Place) (u : Bor Term) (a : Result (Option Equiv) AllocError) (left : MutBor Run)
+      → gives run o p u a left → IfOk a (λ b. IfSome b (From r.w.now o p.now.ctx.now u.now))
