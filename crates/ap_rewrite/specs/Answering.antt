@@ -1,12 +1,13 @@
 -- What the rewriter's code is handed, and what it answers: the definition's term with the definition's steps left, by
 -- an equivalence that stands.
-use Rattle.std.specs.Prelude.{◌≡◌, ℕ, IsTrue, IfOk, IfSome, List, Option, Some, None, Result}
+use Rattle.std.specs.Prelude.{◌≡◌, ℕ, IsTrue, IfOk, IfSome, cond, List, [], ◌∷◌, Option, Some, None, Result}
 use Rattle.std.specs.Option.{option_map}
 use Rattle.std.specs.declared.alloc.AllocError.{AllocError}
 use denote.Ref.{Bor, MutBor}
 use Rattle.ap_list.specs.Lists.{Each}
-use Rattle.ap_term.specs.declared.term.Term.{Term}
-use Rattle.ap_term.specs.Metered.{Got}
+use Rattle.ap_value.specs.declared.symbol.Symbol.{Symbol}
+use Rattle.ap_term.specs.declared.term.Term.{Term, Call}
+use Rattle.ap_term.specs.Metered.{Got, By, known as answer}
 use Rattle.ap_world.specs.Meaning.{Defs}
 use Rattle.ap_world.specs.Sound.{known}
 use Rattle.ap_world.specs.World.{Shown, function_of}
@@ -16,6 +17,8 @@ use Rattle.ap_kernel.specs.declared.objects.Ctx.{Ctx}
 use Rattle.ap_kernel.specs.declared.objects.Mode.{Mode}
 use Rattle.ap_kernel.specs.declared.objects.Mode.TheVariants.{Equal}
 use Rattle.ap_kernel.specs.declared.objects.Equiv.{Equiv}
+use Rattle.ap_kernel.specs.Answers.{said, rights}
+use Rattle.ap_kernel.specs.Opening.{is_quoted}
 use Rattle.ap_kernel.specs.Standing.{HasGround, Stands}
 use Rattle.ap_rewrite.specs.declared.rewriter.Rewriter.{Rewriter}
 use Rattle.ap_rewrite.specs.declared.rewriter.Place.{Place}
@@ -23,7 +26,8 @@ use Rattle.ap_rewrite.specs.declared.rewriter.Run.{Run}
 use Rattle.ap_rewrite.specs.Arithmetic.{no_arithmetic}
 use Rattle.ap_rewrite.specs.Settings.{Setting, Inner, Place as Stood}
 use Rattle.ap_rewrite.specs.InWorld.{setting_in}
-use Rattle.ap_rewrite.specs.Rewriting.{rewrite_to}
+use Rattle.ap_rewrite.specs.Linear.{by_arithmetic}
+use Rattle.ap_rewrite.specs.Rewriting.{settle, equate, by_rules, by_definition, rewrite_to}
 
 -- the world, and its definitions
 abbrev pub world_of : {O : Type 0} → Rewriter O → Shown
@@ -62,12 +66,39 @@ abbrev pub got_any : Option (Option Equiv) → ℕ → Got (Option Term)
 got_any None n = None
 got_any (Some o) n = Some (right_of o, n)
 
+-- those of a list
+abbrev pub got_all : Option (List Equiv) → ℕ → Got (List Term)
+got_all None n = None
+got_all (Some qs) n = Some (rights (said qs), n)
+
+-- where an equation leads: a constant is the answer, another term is rewritten in its turn
+abbrev pub lead_on : Inner → Mode → Stood → Term → By Term
+lead_on r o p u n = cond (is_quoted u) (answer u n) (r o p u n)
+
+-- what is tried on a call after each thing that comes before
+module _ (S : Setting) (r : Inner) (o : Mode) (p : Stood) (f : Symbol) (us : List Term) where
+  abbrev pub by_opening : List (By (Option Term))
+  by_opening = by_definition S r o p f us ∷ []
+
+  abbrev pub from_rules : List (By (Option Term))
+  from_rules = by_rules S r o p (Call f us) ∷ by_opening
+
+  abbrev pub from_equating : List (By (Option Term))
+  from_equating = equate r o p (Call f us) ∷ by_arithmetic S r p f us ∷ from_rules
+
+  abbrev pub from_settling : List (By (Option Term))
+  from_settling = answer (settle S o p (Call f us)) ∷ from_equating
+
 -- from a term, under these facts and this mode, to one that means the same
 pub record From (w : Shown) (o : Mode) (c : Ctx) (u : Term) (q : Equiv) : Type 0 where
   pub stands : Stands w q
   pub ctx : q.says.ctx ≡ c
   pub mode : q.says.mode ≡ o
   pub lhs : q.says.lhs ≡ u
+
+-- from some term
+abbrev pub Leads : Shown → Mode → Ctx → Equiv → Type 0
+Leads w o c q = From w o c q.says.lhs q
 
 -- how a term is rewritten one level deeper: wherever facts and term are those of the world, it answers as the
 -- definition does with so many levels left

@@ -3,14 +3,21 @@
 //! `introduction-to-the-theorem-prover` and "The Rewriter" in "Computer-Aided Reasoning" (2000).
 #![tactic(auto)]
 
+mod branching;
+mod calls;
 mod equating;
 mod facts;
 pub mod laws;
+mod opening;
 mod ordering;
 mod rewriter;
+mod rewriting;
+mod rules;
 mod running;
 mod settling;
 mod shaping;
 mod testing;
+mod trying;
 
 pub use rewriter::{Place, Rewriter, Run};
+pub use rewriting::rewrite;

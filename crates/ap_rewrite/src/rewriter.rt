@@ -10,6 +10,7 @@ use std::alloc::Global;
 
 /// What stays the same while a clause is rewritten: the world, its rules by their heads, the theory that says
 /// which of them, and which definitions, may be used, the calls that are to be opened, and what tells types.
+#[derive_where(Clone, Copy)]
 pub struct Rewriter<'a, O> {
     pub alloc: Global,
     pub w: &'a World,
@@ -21,6 +22,7 @@ pub struct Rewriter<'a, O> {
 
 /// Where a term stands: the facts in force, the functions that aren't opened, and the number of hypotheses that
 /// are being relieved around it.
+#[derive(Clone, Copy)]
 pub struct Place<'a> {
     pub ctx: &'a Ctx,
     pub closed: &'a [Symbol],
@@ -33,6 +35,7 @@ pub struct Run {
 }
 
 /// How the terms within a term are rewritten: with so many levels left, by `below`.
+#[derive_where(Clone, Copy)]
 pub struct Level<'a, O, F> {
     pub r: &'a Rewriter<'a, O>,
     pub levels: u32,
