@@ -1,12 +1,16 @@
 // When a rule fits a mode, and when the order of terms lets it be used.
-ghost use Rattle.std.specs.Prelude.{◌≡◌, Some, None, IfOk, [], cond, map, OnOk};
+ghost use Rattle.std.specs.Prelude.{◌≡◌, Some, None, IfOk, [], ◌∷◌, ◌++◌, cond, map, not};
+ghost use Rattle.ap_list.specs.Lists.{is_within};
 ghost use Rattle.ap_value.specs.Values.{symbol_eq};
 ghost use Rattle.ap_term.specs.declared.term.Term.{fold-Term};
-ghost use Rattle.ap_world.specs.Rules.{Renames, agrees, rename_var, rename_all, rename_step, is_permutative, is_bound_by_left};
+ghost use Rattle.ap_term.specs.Order.{term_less};
+ghost use Rattle.ap_term.specs.Terms.{subst_of};
+ghost use Rattle.ap_world.specs.Rules.{Renames, agrees, rename_all, rename_step, is_permutative, is_bound_by_left};
 ghost use Rattle.ap_rules.specs.Made.{rule_in};
 ghost use Rattle.ap_rewrite.specs.Rewriting.{in_order, fits_mode};
 
 use crate::settling::is_iff;
+use crate::testing::is_among;
 use ap_kernel::{Mode, NoMemory, Seq, Subst, Symbol, Term, is_symbol, subst};
 use ap_poly::is_before;
 use ap_rules::RewriteRule;
@@ -62,7 +66,7 @@ fn rename_term(
 {
     match (a, b) {
         (Term::Var(x), Term::Var(y)) => rename_var(alloc, x, y, pairs),
-        (Term::Quote(_), Term::Quote(_)) => Ok(is_same(a, b)),
+        (Term::Quote(_), _) => Ok(is_same(a, b)),
         (Term::Call(f, ts), Term::Call(g, us)) => {
             if !is_symbol(f, g) {
                 return Ok(false);
@@ -101,6 +105,18 @@ pub fn is_permutative(alloc: Global, rule: &RewriteRule) -> Result<bool, NoMemor
     rename_term(alloc, &rule.lhs, &rule.rhs, &mut pairs)
 }
 
+/// Whether each symbol of a list is one of another.
+fn are_within(list: &[Symbol], others: &[Symbol]) -> bool
+    ensures { result ≡ is_within symbol_eq list.now others.now }
+{
+    for x in list {
+        if !is_among(x, others) {
+            return false;
+        }
+    }
+    true
+}
+
 /// Whether each variable of a rule's right side is in its left side. The only error is want of memory.
 pub fn is_bound_by_left(alloc: Global, rule: &RewriteRule) -> Result<bool, NoMemory>
     ensures { IfOk result (λ b. b ≡ is_bound_by_left (rule_in rule.now)) }
@@ -110,21 +126,45 @@ pub fn is_bound_by_left(alloc: Global, rule: &RewriteRule) -> Result<bool, NoMem
     Ok(are_within(right.as_slice(), left.as_slice()))
 }
 
-/// Whether a rule may be used on a term as far as the order of terms goes: where the rule is permutative and this is
-/// the time to test it, its right side's instance comes before the term. The only error is want of memory, as which
-/// it is answered too where the nodes of one of them pass 64 bits.
-pub fn in_order(
+/// Whether the instance of a rule's right side comes before a term. The only error is want of memory, as which it is
+/// answered too where the nodes of one of them pass 64 bits.
+fn comes_first(alloc: Global, rule: &RewriteRule, s: &Subst, t: &Term) -> Result<bool, NoMemory>
+    ensures { IfOk result (λ b. b ≡ term_less (subst_of s.now.0 rule.now.rhs) t.now) }
+{
+    let instance = subst(alloc, &rule.rhs, s)?;
+    is_before(&instance, t)
+}
+
+/// Whether a rule may be used on a term as far as the order of terms goes, before its hypotheses are relieved: a
+/// permutative one whose left side binds all of its right side only where its right side's instance comes before the
+/// term. The only error is want of memory, as which it is answered too where the nodes of one of them pass 64 bits.
+/// See the manual's topic `loop-stopper`.
+pub fn in_order_first(
     alloc: Global,
-    now: bool,
     rule: &RewriteRule,
     s: &Subst,
     t: &Term,
 ) -> Result<bool, NoMemory>
-    ensures { IfOk result (λ b. b ≡ in_order now (rule_in rule.now) s.now.0 t.now) }
+    ensures { IfOk result (λ b. b ≡ in_order (is_bound_by_left (rule_in rule.now)) (rule_in rule.now) s.now.0 t.now) }
 {
-    if !now || !is_permutative(alloc, rule)? {
+    if !is_permutative(alloc, rule)? || !is_bound_by_left(alloc, rule)? {
         return Ok(true);
     }
-    let instance = subst(alloc, &rule.rhs, s)?;
-    is_before(&instance, t)
+    comes_first(alloc, rule, s, t)
+}
+
+/// The same behind its hypotheses, by the pairs that came of them: of a permutative rule whose hypotheses bind part
+/// of its right side.
+pub fn in_order_then(
+    alloc: Global,
+    rule: &RewriteRule,
+    s: &Subst,
+    t: &Term,
+) -> Result<bool, NoMemory>
+    ensures { IfOk result (λ b. b ≡ in_order (not (is_bound_by_left (rule_in rule.now))) (rule_in rule.now) s.now.0 t.now) }
+{
+    if !is_permutative(alloc, rule)? || is_bound_by_left(alloc, rule)? {
+        return Ok(true);
+    }
+    comes_first(alloc, rule, s, t)
 }

@@ -1,0 +1,112 @@
+-- Hypotheses that facts relieve: what is shown of their instances, under the pairs that come of it and under more.
+use Rattle.std.proofs.Common.{◌≡◌, Bool, true, false, List, [], ◌∷◌, map, Option, None, Some, is_some, slice_get, ℕ, refl, sym, ap, ◌∙◌, subst}
+use Rattle.ap_list.specs.Lists.{Each, all_true, lookup_by}
+use Rattle.ap_value.specs.declared.symbol.Symbol.{Symbol}
+use Rattle.ap_value.specs.declared.value.Value.{Value}
+use Rattle.ap_value.specs.Values.{symbol_eq}
+use Rattle.ap_value.proofs.Equals.{both, and_true}
+use Rattle.ap_term.specs.declared.term.Term.{Term, Var, Quote, Call}
+use Rattle.ap_term.specs.Terms.{subst_of}
+use Rattle.ap_term.specs.Matching.{Pairs, matched, Extends, is_bound, bound_step}
+use Rattle.ap_term.proofs.Induction.{term_ind, fold_var, fold_quote, fold_call}
+use Rattle.ap_term.proofs.Matches.{bound_alike, match_gives}
+use Rattle.ap_world.specs.Clauses.{not_of}
+use Rattle.ap_world.specs.Names.{not_name}
+use Rattle.ap_world.specs.Meaning.{Defs}
+use Rattle.ap_world.specs.Sound.{known}
+use Rattle.ap_world.specs.World.{Shown, function_of}
+use Rattle.ap_world.specs.Recursion.{t_constant}
+use Rattle.ap_world.specs.Holding.{KnownPairs}
+use Rattle.ap_world.specs.Facts.{Facts, KnownFacts}
+use Rattle.ap_world.proofs.Written.{subst_call}
+use Rattle.ap_world.proofs.Instances.{match_fits}
+use Rattle.ap_kernel.specs.declared.objects.Ctx.{Ctx}
+use Rattle.ap_kernel.specs.declared.objects.Equiv.{Equiv}
+use Rattle.ap_kernel.specs.Standing.{Stands}
+use Rattle.ap_kernel.specs.Applying.{LeadsToTrue}
+use Rattle.ap_kernel.proofs.Typed.{each_at}
+use Rattle.ap_rewrite.specs.declared.facts.Relieved.{Relieved}
+use Rattle.ap_rewrite.specs.Relieved.{Relieves, RelievedFrom}
+
+-- where every variable of a term has a pair, it has one among more pairs
+bound_more : (s z : Pairs) (u : Term) → Extends s z → is_bound s u ≡ true → is_bound z u ≡ true
+bound_more s z u more = term_ind Goal variable quoted call u
+  where
+    Goal : Term → Type 0
+    Goal u = is_bound s u ≡ true → is_bound z u ≡ true
+
+    same : (x : Symbol) (o : Option Term) → lookup_by symbol_eq s x ≡ o → is_some o ≡ true → is_some (lookup_by symbol_eq z x) ≡ true
+    same x None q h = cc
+    same x (Some t) q h = ap is_some (more x t q)
+
+    variable : (x : Symbol) → Goal (Var x)
+    variable x h = fold_var (bound_step z) x ∙ same x (lookup_by symbol_eq s x) refl (rw (fold_var (bound_step s) x) at h)
+
+    quoted : (v : Value) → Goal (Quote v)
+    quoted v h = fold_quote (bound_step z) v
+
+    args : (ts : List Term) → Each Goal ts → all_true (map (is_bound s) ts) ≡ true → all_true (map (is_bound z) ts) ≡ true
+    args [] es h = refl
+    args (t ∷ ts) es h =
+        let p = both (is_bound s t) (all_true (map (is_bound s) ts)) h in
+        and_true (is_bound z t) (all_true (map (is_bound z) ts)) (es.0 p.0) (args ts es.1 p.1)
+
+    call : (f : Symbol) (ts : List Term) → Each Goal ts → Goal (Call f ts)
+    call f ts es h = fold_call (bound_step z) f ts ∙ args ts es (rw (fold_call (bound_step s) f ts) at h)
+
+-- what is relieved under pairs is relieved under more
+pub relieves_more : (w : Shown) (c : Ctx) (h : Term) (s z : Pairs) (q : Equiv) → Extends s z → Relieves w c h s q → Relieves w c h z q
+relieves_more w c h s z q more r = record {
+  stands = r.stands;
+  leads = record {
+    facts = r.leads.facts;
+    left = r.leads.left ∙ sym (bound_alike s z h more r.bound);
+    right = r.leads.right;
+  };
+  bound = bound_more s z h more r.bound;
+}
+
+-- what a match gives, of a pattern that is matched with the fact at a place
+pub record Found (w : Shown) (h : Term) (s z : Pairs) (u : Term) : Type 0 where
+  pub known : KnownPairs (function_of w.entries) z
+  pub extends : Extends s z
+  pub bound : is_bound z h ≡ true
+  pub instance : subst_of z h ≡ u
+
+pub fact_found : (w : Shown) (fs : Facts) (i : ℕ) (u : Term) (b : Bool) (h : Term) (s z : Pairs) → KnownFacts (function_of w.entries) fs → KnownPairs (function_of w.entries) s
+    → slice_get fs i ≡ Some (u, b) → matched h u s ≡ Some z → Found w h s z u
+fact_found w fs i u b h s z fk ks at m =
+    let u_known : known (function_of w.entries) u ≡ true = each_at (λ (f : Term × Bool). known (function_of w.entries) f.0 ≡ true) fs i (u, b) fk at in
+    let fits = match_fits (function_of w.entries) h u s z u_known ks m in
+    let under = (match_gives h u s z m).under z (λ x t e. e) in
+    record { known = fits.1; extends = fits.0; bound = under.0; instance = under.1 }
+
+-- by a true fact that it matches
+pub by_true_relieves : (w : Shown) (c : Ctx) (h : Term) (s : Pairs) (u : Term) (r : Relieved) → Found w h s r.pairs.0 u → Stands w r.shown → r.shown.says.ctx ≡ c
+    → r.shown.says.lhs ≡ u → r.shown.says.rhs ≡ t_constant → RelievedFrom w c h s r
+by_true_relieves w c h s u r found stands facts left right = record {
+  relieves = record {
+    stands = stands;
+    leads = record { facts = facts; left = left ∙ sym found.instance; right = right };
+    bound = found.bound;
+  };
+  known = found.known;
+  extends = found.extends;
+}
+
+-- for a negation by a false fact that its argument matches
+pub by_false_relieves : (w : Shown) (c : Ctx) (a : Term) (s : Pairs) (u : Term) (r : Relieved) → Found w a s r.pairs.0 u → Stands w r.shown → r.shown.says.ctx ≡ c
+    → r.shown.says.lhs ≡ not_of u → r.shown.says.rhs ≡ t_constant → RelievedFrom w c (not_of a) s r
+by_false_relieves w c a s u r found stands facts left right = record {
+  relieves = record {
+    stands = stands;
+    leads = record {
+      facts = facts;
+      left = left ∙ ap not_of (sym found.instance) ∙ sym (subst_call r.pairs.0 not_name (a ∷ []));
+      right = right;
+    };
+    bound = fold_call (bound_step r.pairs.0) not_name (a ∷ []) ∙ and_true (is_bound r.pairs.0 a) true found.bound refl;
+  };
+  known = found.known;
+  extends = found.extends;
+}

@@ -1,0 +1,111 @@
+-- Negations, and an `if` by its simplest shape: what the rows on them ask for and give.
+use Rattle.std.proofs.Common.{◌≡◌, Bool, true, false, cond, not, ◌||◌, [], ◌∷◌, Option, None, Some, refl, sym, ap, ◌∙◌, subst}
+use Rattle.ap_value.specs.declared.value.Value.{Value, Sym}
+use Rattle.ap_value.specs.Values.{val_of, value_eq}
+use Rattle.ap_value.proofs.Equals.{value_eq-same}
+use Rattle.ap_term.specs.declared.term.Term.{Term, Quote, Call}
+use Rattle.ap_term.specs.declared.term.Term.TheVariants.{outs-Quote, outs-Call}
+use Rattle.ap_world.specs.declared.entry.Mask.{Mask}
+use Rattle.ap_world.specs.Names.{nil_name, t_name, not_name}
+use Rattle.ap_world.specs.Primitives.{nil, t, truth}
+use Rattle.ap_world.specs.Meaning.{Defs, Total, HasValue}
+use Rattle.ap_world.specs.Clauses.{not_of}
+use Rattle.ap_world.specs.Sound.{known}
+use Rattle.ap_world.specs.Recursion.{nil_constant, t_constant}
+use Rattle.ap_world.specs.Facts.{Facts}
+use Rattle.ap_world.specs.Shapes.{Shape, constant, negation, head_of, call_shape, shape_of}
+use Rattle.ap_world.proofs.Knowing.{known_quote, known_args, each_true}
+use Rattle.ap_world.proofs.TotalMeaning.{models, val_is, val_quote}
+use Rattle.ap_world.proofs.Equations.{val_of_nil, val_of_t, names_open}
+use Rattle.ap_world.proofs.Shaped.{Says, shape_says, shape_call}
+use Rattle.ap_world.proofs.Starting.{val_not}
+use Rattle.ap_poly.specs.Bounds.{lacks}
+use Rattle.ap_kernel.specs.declared.objects.Mode.{Mode}
+use Rattle.ap_kernel.specs.declared.objects.Mode.TheVariants.{Equal, Iff}
+use Rattle.ap_kernel.specs.Standing.{HasGround}
+use Rattle.ap_kernel.specs.Answers.{if_of}
+use Rattle.ap_kernel.specs.Choices.{bare, bare_test, is_truth, if_shape, choice_leads, is_choice}
+use Rattle.ap_kernel.specs.Equations.{truth_constant}
+use Rattle.ap_kernel.specs.Opening.{is_constant_call}
+use Rattle.ap_kernel.proofs.ChoicesStand.{known_not}
+use Rattle.ap_rewrite.specs.Settings.{Setting}
+use Rattle.ap_rewrite.specs.Rewriting.{truth_in, truth_of, is_iff, shaped, unwrapped, negated}
+use Rattle.ap_rewrite.proofs.Truths.{shape_if, no_constant}
+
+-- the shape of a negation, and its argument
+call_not : (a : Term) → call_shape (head_of not_name) (a ∷ []) ≡ negation a
+unfolding head_of names_open
+call_not a = refl
+
+pub shape_not : (a : Term) → shape_of (not_of a) ≡ negation a
+shape_not a = shape_call not_name (a ∷ []) ∙ call_not a
+
+pub not_same : (a b : Term) → not_of a ≡ not_of b → a ≡ b
+not_same a b h =
+    let same : negation a ≡ negation b = sym (shape_not a) ∙ ap shape_of h ∙ shape_not b in
+    cc
+
+pub known_under : (D : Defs) (a : Term) → known D (not_of a) ≡ true → known D a ≡ true
+known_under D a k = (each_true (known D) (a ∷ []) (known_args D not_name (a ∷ []) k)).0
+
+-- the negation of a constant: it is known, a call of constants, and its value is the constant's turned round
+pub not_quote_known : (D : Defs) → HasGround D → (v : Value) → known D (not_of (Quote v)) ≡ true
+not_quote_known D ground v = known_not D ground (Quote v) (known_quote D v)
+
+pub not_quote_constant : (v : Value) → is_constant_call (not_of (Quote v)) ≡ true
+not_quote_constant v = rw (outs-Call not_name (Quote v ∷ []), outs-Quote v) refl
+
+pub not_quote_means : (D : Defs) → Total D → HasGround D → (v w : Value) → val_of w ≡ truth (value_eq (val_of v) nil) → HasValue D (not_of (Quote v)) [] (val_of w)
+not_quote_means D total ground v w h =
+    let (A, ms) = models D total in
+    subst (HasValue D (not_of (Quote v)) []) (val_not D A ms ground (Quote v) [] ∙ ap (λ x. truth (value_eq x nil)) (val_quote A v []) ∙ sym h)
+    (val_is D A ms (not_of (Quote v)) (not_quote_known D ground v) [])
+
+pub t_is : (v : Value) → value_eq (val_of v) nil ≡ true → val_of (Sym t_name) ≡ truth (value_eq (val_of v) nil)
+t_is v h = val_of_t ∙ sym (ap truth h)
+
+pub nil_is : (v : Value) → value_eq (val_of v) nil ≡ false → val_of (Sym nil_name) ≡ truth (value_eq (val_of v) nil)
+nil_is v h = val_of_nil ∙ sym (ap truth h)
+
+-- whether only nil or not counts
+pub truth_by : (o : Mode) (k : Mask) → is_truth o k ≡ (is_iff o || lacks k.0 999)
+truth_by Equal k = refl
+truth_by Iff k = refl
+
+-- what a negation is by its argument
+pub turned : (b : Bool) → truth_constant (not (not b)) ≡ truth_constant b
+turned true = refl
+turned false = refl
+
+pub quote_truth : (v : Value) → truth_of (Quote v) ≡ Some (not (value_eq (val_of v) nil))
+quote_truth v = rw (outs-Quote v) refl
+
+pub negated_constant : (S : Setting) (o : Mode) (fs : Facts) (v : Value) → negated S o fs (Quote v) (truth_of (Quote v)) ≡ truth_constant (value_eq (val_of v) nil)
+negated_constant S o fs v = ap (negated S o fs (Quote v)) (quote_truth v) ∙ turned (value_eq (val_of v) nil)
+
+pub negated_not : (S : Setting) (o : Mode) (fs : Facts) (z : Term) → negated S o fs (not_of z) (truth_of (not_of z)) ≡ unwrapped S o fs (not_of z) (negation z)
+negated_not S o fs z = ap (negated S o fs (not_of z)) (ap truth_in (shape_not z)) ∙ ap (unwrapped S o fs (not_of z)) (shape_not z)
+
+-- an argument that is neither a constant nor a negation
+plain : Shape Term → Bool
+plain (constant v) = false
+plain (negation z) = false
+plain y = true
+
+pub unwrapped_by : (S : Setting) (o : Mode) (fs : Facts) (k : Mask) (z : Term) → k ≡ record { 0 = S.types fs z }
+    → unwrapped S o fs (not_of z) (negation z) ≡ cond (is_iff o || lacks k.0 999) z (not_of (not_of z))
+unwrapped_by S o fs k z q = ap (λ (k : Mask). cond (is_truth o k) z (not_of (not_of z))) (sym q) ∙ ap (λ b. cond b z (not_of (not_of z))) (truth_by o k)
+
+-- an `if` whose test is no constant
+pub choice_here : (a b c : Term) → is_choice (shape_of (if_of a b c)) ≡ true
+choice_here a b c = rw (shape_if a b c) refl
+
+pub bare_here : (a b c : Term) → bare_test (if_of a b c) ≡ (bare a).0
+bare_here a b c = rw (shape_if a b c) refl
+
+pub shape_leads : (S : Setting) (o : Mode) (fs : Facts) (k : Mask) (a b c : Term) → k ≡ record { 0 = S.types fs (bare_test (if_of a b c)) } → truth_of a ≡ None
+    → choice_leads (is_truth o k) (if_of a b c) (shape_of (if_of a b c)) ≡ shaped S o fs a b c
+shape_leads S o fs k a b c q none =
+    ap (choice_leads (is_truth o k) (if_of a b c)) (shape_if a b c)
+    ∙ no_constant (is_truth o k) (shape_of a) a b c none
+    ∙ ap (λ (k : Mask). if_shape (is_truth o k) a b c) (q ∙ ap (λ u. record { 0 = S.types fs u }) (bare_here a b c))

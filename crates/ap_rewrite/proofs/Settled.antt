@@ -1,0 +1,124 @@
+-- What constants are under a mode, and what masks settle: what the rows on them ask for.
+use Rattle.std.proofs.Common.{◌≡◌, ◌≢◌, ℕ, Bool, true, false, cond, not, ◌&&◌, ◌||◌, Option, None, Some, unwrap_or, pos, nat_eq, bit_and, refl, sym, ap, ◌∙◌, subst}
+use Rattle.std.specs.Option.{option_map}
+use Rattle.ap_value.specs.declared.value.Value.{Value, Int, Sym}
+use Rattle.ap_value.specs.Values.{V, int, val_of, value_eq}
+use Rattle.ap_term.specs.declared.term.Term.{Term, Quote}
+use Rattle.ap_term.specs.declared.term.Term.TheVariants.{outs-Quote}
+use Rattle.ap_term.specs.Equal.{term_eq}
+use Rattle.ap_term.proofs.Equals.{term_eq-same}
+use Rattle.ap_world.specs.declared.entry.Mask.{Mask}
+use Rattle.ap_world.specs.Names.{nil_name, t_name}
+use Rattle.ap_world.specs.Primitives.{nil, t}
+use Rattle.ap_world.specs.Meaning.{Defs, Total}
+use Rattle.ap_world.specs.Types.{nil_bit}
+use Rattle.ap_world.specs.Sound.{known}
+use Rattle.ap_world.specs.Recursion.{nil_constant, t_constant}
+use Rattle.ap_world.specs.Facts.{Facts}
+use Rattle.ap_world.specs.Shapes.{Shape, constant, shape_of, constant_says, is_constant}
+use Rattle.ap_world.proofs.Knowing.{known_quote}
+use Rattle.ap_world.proofs.TotalMeaning.{models, value_is}
+use Rattle.ap_world.proofs.Equations.{not_nil-eq, val_of_nil, val_of_t, t-not_nil}
+use Rattle.ap_world.proofs.Shaped.{Says, shape_says}
+use Rattle.ap_world.proofs.Sets.{In, signed_in, nil_recognised}
+use Rattle.ap_poly.specs.Bounds.{lacks}
+use Rattle.ap_kernel.specs.declared.objects.Mode.{Mode}
+use Rattle.ap_kernel.specs.declared.objects.Mode.TheVariants.{Equal, Iff}
+use Rattle.ap_kernel.specs.declared.objects.Sequent.{Sequent}
+use Rattle.ap_kernel.specs.declared.objects.Ctx.{Ctx}
+use Rattle.ap_kernel.specs.Masks.{MaskHolds, others, has_only, leads_to, typed_mode, typed_made}
+use Rattle.ap_rewrite.specs.Settings.{Setting}
+use Rattle.ap_rewrite.specs.Leading.{leads_made, Serves}
+use Rattle.ap_rewrite.specs.Rewriting.{is_iff, constant_in, by_mask, changed, settled}
+use Rattle.ap_rewrite.proofs.Truths.{others_nil, others_t, others_zero, truth_says, constant_truth}
+
+-- what is said under a mode that it has already
+pub same_mode : (s : Sequent) (o : Mode) → s.mode ≡ o → s ≡ leads_made s.ctx o s.lhs s.rhs
+same_mode s o h = ap (leads_mode s) h
+  where
+    leads_mode : Sequent → Mode → Sequent
+    leads_mode s m = record { ctx = s.ctx; mode = m; lhs = s.lhs; rhs = s.rhs }
+
+-- a constant is known, and where it isn't nil every type but nil's may be its own
+constant_is : (b : Bool) (u : Term) (y : Shape Term) → Says u y → constant_says b y ≡ true → (v : Value) × (u ≡ Quote v)
+constant_is true u (constant v) k h = (v, k)
+constant_is false u (constant v) k h = (v, k)
+constant_is true u y k h = cc
+constant_is false u y k h = cc
+
+pub constant_known : (D : Defs) (u : Term) → is_constant true u ≡ true → known D u ≡ true
+constant_known D u h = let (v, q) = constant_is true u (shape_of u) (shape_says u) h in subst (λ u. known D u ≡ true) (sym q) (known_quote D v)
+
+pub all_but_nil : (D : Defs) → Total D → (fs : Facts) (u : Term) → is_constant true u ≡ true → MaskHolds D fs u (record { 0 = 1015 })
+all_but_nil D total fs u h e hs v is =
+    let (A, ms) = models D total in
+    let there : v ≢ nil = λ z. truth_says A e u true (constant_truth u h) (sym (value_is D A ms u e v is) ∙ z) in
+    signed_in false nil_bit v (nil_recognised v ∙ not_nil-eq v there)
+
+pub quote_says : (v : Value) → is_constant true (Quote v) ≡ not (value_eq (val_of v) nil)
+quote_says v = rw (outs-Quote v) refl
+
+pub constant_there : (u : Term) (v : Value) → u ≡ Quote v → value_eq (val_of v) nil ≡ false → is_constant true u ≡ true
+constant_there u v q h = ap (is_constant true) q ∙ quote_says v ∙ ap not h
+
+-- to 'T by such a mask, under iff
+pub t_leads : leads_to (record { 0 = 1015 }) (val_of (Sym t_name)) ≡ true
+t_leads = rw (val_of_t, others_t, t-not_nil) refl
+
+pub t_mode : (c : Ctx) (u : Term) → typed_made c u (record { 0 = 1015 }) (Sym t_name) ≡ leads_made c Iff u t_constant
+t_mode c u = ap (λ m. leads_made c m u t_constant) mode
+  where
+    mode : typed_mode (record { 0 = 1015 }) (val_of (Sym t_name)) ≡ Iff
+    mode = rw (val_of_t, others_t) refl
+
+-- what a constant is under a mode
+pub constant_turns : (o : Mode) (v : Value) → is_iff o ≡ true → value_eq (val_of v) nil ≡ false → constant_in o v ≡ t_constant
+constant_turns Equal v p h = cc
+constant_turns Iff v p h = ap (λ b. cond b (Quote v) t_constant) h
+
+pub constant_stays : (o : Mode) (v : Value) → (is_iff o && not (value_eq (val_of v) nil)) ≡ false → constant_in o v ≡ Quote v
+constant_stays Equal v h = refl
+constant_stays Iff v h = go (value_eq (val_of v) nil) h
+  where
+    go : (b : Bool) → not b ≡ false → cond b (Quote v) t_constant ≡ Quote v
+    go true q = refl
+    go false q = cc
+
+pub iff_is : (o : Mode) → is_iff o ≡ true → o ≡ Iff
+iff_is Equal h = cc
+iff_is Iff h = refl
+
+-- a mask that has no other value leads to the value under either mode, and one without nil to 'T under iff
+pub only_leads : (k : Mask) (v : V) → has_only k v ≡ true → leads_to k v ≡ true
+only_leads k v h = rw h refl
+
+pub only_serves : (k : Mask) (v : V) (o : Mode) → has_only k v ≡ true → Serves (typed_mode k v) o
+only_serves k v o h = subst (λ b. Serves (cond b Equal Iff) o) (sym h) tt
+
+pub without_nil_leads : (k : Mask) → lacks k.0 8 ≡ true → leads_to k (val_of (Sym t_name)) ≡ true
+without_nil_leads k h = rw (val_of_t, t-not_nil) (go (has_only k t))
+  where
+    go : (b : Bool) → (b || lacks k.0 8) ≡ true
+    go true = refl
+    go false = h
+
+pub iff_serves : (m o : Mode) → is_iff o ≡ true → Serves m o
+iff_serves Equal o h = tt
+iff_serves Iff o h = iff_is o h
+
+pub only_nil : (k : Mask) → lacks k.0 1015 ≡ true → has_only k (val_of (Sym nil_name)) ≡ true
+only_nil k h = rw (val_of_nil, others_nil) h
+
+pub only_t : (k : Mask) → lacks k.0 1007 ≡ true → has_only k (val_of (Sym t_name)) ≡ true
+only_t k h = rw (val_of_t, others_t) h
+
+pub only_zero : (k : Mask) → lacks k.0 1022 ≡ true → has_only k (val_of (Int (pos 0))) ≡ true
+only_zero k h = rw (others_zero) h
+
+-- what a term is settled to, by what is found for its mask
+pub settled_to : (S : Setting) (o : Mode) (fs : Facts) (u : Term) (k : Mask) (x : Option Value) → k ≡ record { 0 = S.types fs u } → option_map Quote x ≡ by_mask o k.0
+    → settled S o fs u ≡ unwrap_or (option_map Quote x) u
+settled_to S o fs u k x q h = ap (λ (k : Mask). unwrap_or (by_mask o k.0) u) (sym q) ∙ ap (λ x. unwrap_or x u) (sym h)
+
+pub changed_not : (u v : Term) → u ≡ v → changed u v ≡ None
+changed_not u v h = ap (changed u) (sym h) ∙ ap (λ b. cond b None (Some u)) (term_eq-same u)
