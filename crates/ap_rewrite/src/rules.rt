@@ -19,7 +19,7 @@ ghost use Rattle.ap_rewrite.specs.Relieved.{RelievedFrom};
 
 use crate::branching::go_on;
 use crate::facts::{Relieved, by_sign, is_bound};
-use crate::ordering::{fits_mode, in_order, is_bound_by_left};
+use crate::ordering::{fits_mode, in_order_first, in_order_then};
 use crate::rewriter::{Level, Place, Rewriter, Run, deeper};
 use crate::settling::{in_mode, to_true};
 use crate::testing::is_small;
@@ -213,8 +213,7 @@ fn relieved<
     ensures is { IfOk result (λ o. got_any o run.new.left ≡ relieved (inner_of l.now.r.now l.now.levels) mode (seen_at at.now) t.now (rule_in g.now) (Some found.pairs.0) run.old.left) }
     ensures from { IfOk result (λ o. IfSome o (λ a. IfSome a (From l.now.r.now.w.now mode at.now.ctx.now t.now))) }
 {
-    let bound = is_bound_by_left(l.r.alloc, g)?;
-    if !in_order(l.r.alloc, !bound, g, &found.pairs, t)? {
+    if !in_order_then(l.r.alloc, g, &found.pairs, t)? {
         return Ok(Some(None));
     }
     right(l, run, mode, at, g, found)
@@ -242,8 +241,7 @@ fn apply<
     ensures is { IfOk result (λ o. got_any o run.new.left ≡ apply (inner_of l.now.r.now l.now.levels) mode (seen_at at.now) t.now (rule_in g.now) (Some s.0) run.old.left) }
     ensures from { IfOk result (λ o. IfSome o (λ a. IfSome a (From l.now.r.now.w.now mode at.now.ctx.now t.now))) }
 {
-    let bound = is_bound_by_left(l.r.alloc, g)?;
-    if !in_order(l.r.alloc, bound, g, &s, t)? {
+    if !in_order_first(l.r.alloc, g, &s, t)? {
         return Ok(Some(None));
     }
     match relieve(l, run, at, g.hyps.as_slice(), s)? {
