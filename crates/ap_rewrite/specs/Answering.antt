@@ -150,7 +150,7 @@ pub record IsLevel {O : Type 0} (may : MutBor Run → Mode → Bor Place → Bor
     (gives : MutBor Run → Mode → Bor Place → Bor Term → Result (Option Equiv) AllocError → MutBor Run → Type 0)
     (r : Rewriter O) (d : ℕ) : Type 0 where
   pub ready : Ready r
-  pub may : (run : MutBor Run) (o : Mode) (p : Bor Place) (u : Bor Term)
+  pub callable : (run : MutBor Run) (o : Mode) (p : Bor Place) (u : Bor Term)
       → KnownFacts (defs_in r) p.now.ctx.now.0 → IsTrue (known (defs_in r) u.now) → may run o p u
   pub is : (run : MutBor Run) (o : Mode) (p : Bor Place) (u : Bor Term) (a : Result (Option Equiv) AllocError) (left : MutBor Run)
       → gives run o p u a left → IfOk a (λ b. got b left.now.left ≡ inner_of r d o (seen_at p.now) u.now run.now.left)

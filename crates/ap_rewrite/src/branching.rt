@@ -24,7 +24,7 @@ fn under<
     O: TypeOracle,
     F: Fn(&mut Run, Mode, &Place<'_>, &Term) -> Result<Option<Equiv>, NoMemory>,
 >(
-    l: &Level<'_, O, F>,
+    l: &Level<'_, '_, O, F>,
     run: &mut Run,
     mode: Mode,
     at: &Place<'_>,
@@ -78,7 +78,7 @@ pub fn both<
     O: TypeOracle,
     F: Fn(&mut Run, Mode, &Place<'_>, &Term) -> Result<Option<Equiv>, NoMemory>,
 >(
-    l: &Level<'_, O, F>,
+    l: &Level<'_, '_, O, F>,
     run: &mut Run,
     mode: Mode,
     at: &Place<'_>,
@@ -181,7 +181,7 @@ pub fn go_on<
     O: TypeOracle,
     F: Fn(&mut Run, Mode, &Place<'_>, &Term) -> Result<Option<Equiv>, NoMemory>,
 >(
-    l: &Level<'_, O, F>,
+    l: &Level<'_, '_, O, F>,
     run: &mut Run,
     mode: Mode,
     at: &Place<'_>,
@@ -205,7 +205,7 @@ fn branches<
     O: TypeOracle,
     F: Fn(&mut Run, Mode, &Place<'_>, &Term) -> Result<Option<Equiv>, NoMemory>,
 >(
-    l: &Level<'_, O, F>,
+    l: &Level<'_, '_, O, F>,
     run: &mut Run,
     mode: Mode,
     at: &Place<'_>,
@@ -236,7 +236,7 @@ pub fn rewrite_if<
     O: TypeOracle,
     F: Fn(&mut Run, Mode, &Place<'_>, &Term) -> Result<Option<Equiv>, NoMemory>,
 >(
-    l: &Level<'_, O, F>,
+    l: &Level<'_, '_, O, F>,
     run: &mut Run,
     mode: Mode,
     at: &Place<'_>,
@@ -295,7 +295,7 @@ pub fn rewrite_not<
     O: TypeOracle,
     F: Fn(&mut Run, Mode, &Place<'_>, &Term) -> Result<Option<Equiv>, NoMemory>,
 >(
-    l: &Level<'_, O, F>,
+    l: &Level<'_, '_, O, F>,
     run: &mut Run,
     mode: Mode,
     at: &Place<'_>,

@@ -46,7 +46,7 @@ fn walk_on<
     O: TypeOracle,
     F: Fn(&mut Run, Mode, &Place<'_>, &Term) -> Result<Option<Equiv>, NoMemory>,
 >(
-    l: &Level<'_, O, F>,
+    l: &Level<'_, '_, O, F>,
     run: &mut Run,
     mode: Mode,
     at: &Place<'_>,
@@ -87,7 +87,7 @@ fn walk_ends<
     O: TypeOracle,
     F: Fn(&mut Run, Mode, &Place<'_>, &Term) -> Result<Option<Equiv>, NoMemory>,
 >(
-    l: &Level<'_, O, F>,
+    l: &Level<'_, '_, O, F>,
     run: &mut Run,
     mode: Mode,
     at: &Place<'_>,
@@ -119,7 +119,7 @@ fn walk<
     O: TypeOracle,
     F: Fn(&mut Run, Mode, &Place<'_>, &Term) -> Result<Option<Equiv>, NoMemory>,
 >(
-    l: &Level<'_, O, F>,
+    l: &Level<'_, '_, O, F>,
     run: &mut Run,
     mode: Mode,
     at: &Place<'_>,
@@ -149,7 +149,7 @@ fn walk_stops<
     O: TypeOracle,
     F: Fn(&mut Run, Mode, &Place<'_>, &Term) -> Result<Option<Equiv>, NoMemory>,
 >(
-    l: &Level<'_, O, F>,
+    l: &Level<'_, '_, O, F>,
     run: &mut Run,
     mode: Mode,
     at: &Place<'_>,
@@ -175,7 +175,7 @@ fn open_recursive<
     O: TypeOracle,
     F: Fn(&mut Run, Mode, &Place<'_>, &Term) -> Result<Option<Equiv>, NoMemory>,
 >(
-    l: &Level<'_, O, F>,
+    l: &Level<'_, '_, O, F>,
     run: &mut Run,
     mode: Mode,
     at: &Place<'_>,
@@ -206,7 +206,7 @@ fn open_instance<
     O: TypeOracle,
     F: Fn(&mut Run, Mode, &Place<'_>, &Term) -> Result<Option<Equiv>, NoMemory>,
 >(
-    l: &Level<'_, O, F>,
+    l: &Level<'_, '_, O, F>,
     run: &mut Run,
     mode: Mode,
     at: &Place<'_>,
@@ -251,7 +251,7 @@ fn open_call<
     O: TypeOracle,
     F: Fn(&mut Run, Mode, &Place<'_>, &Term) -> Result<Option<Equiv>, NoMemory>,
 >(
-    l: &Level<'_, O, F>,
+    l: &Level<'_, '_, O, F>,
     run: &mut Run,
     mode: Mode,
     at: &Place<'_>,
@@ -282,7 +282,7 @@ pub fn by_definition<
     O: TypeOracle,
     F: Fn(&mut Run, Mode, &Place<'_>, &Term) -> Result<Option<Equiv>, NoMemory>,
 >(
-    l: &Level<'_, O, F>,
+    l: &Level<'_, '_, O, F>,
     run: &mut Run,
     mode: Mode,
     at: &Place<'_>,

@@ -36,8 +36,8 @@ pub struct Run {
 
 /// How the terms within a term are rewritten: with so many levels left, by `below`.
 #[derive_where(Clone, Copy)]
-pub struct Level<'a, O, F> {
-    pub r: &'a Rewriter<'a, O>,
+pub struct Level<'a, 'b, O, F> {
+    pub r: &'a Rewriter<'b, O>,
     pub levels: u32,
     pub below: &'a F,
 }
@@ -47,7 +47,7 @@ pub fn deeper<
     O: TypeOracle,
     F: Fn(&mut Run, Mode, &Place<'_>, &Term) -> Result<Option<Equiv>, NoMemory>,
 >(
-    l: &Level<'_, O, F>,
+    l: &Level<'_, '_, O, F>,
     run: &mut Run,
     mode: Mode,
     at: &Place<'_>,

@@ -18,7 +18,7 @@ fn rewrite_parts<
     O: TypeOracle,
     F: Fn(&mut Run, Mode, &Place<'_>, &Term) -> Result<Option<Equiv>, NoMemory>,
 >(
-    l: &Level<'_, O, F>,
+    l: &Level<'_, '_, O, F>,
     run: &mut Run,
     mode: Mode,
     at: &Place<'_>,
@@ -48,7 +48,7 @@ fn rewrite_shape<
     O: TypeOracle,
     F: Fn(&mut Run, Mode, &Place<'_>, &Term) -> Result<Option<Equiv>, NoMemory>,
 >(
-    l: &Level<'_, O, F>,
+    l: &Level<'_, '_, O, F>,
     run: &mut Run,
     mode: Mode,
     at: &Place<'_>,
@@ -113,14 +113,14 @@ pub fn rewrite<O: TypeOracle>(
         ensures is { IfOk result (λ o. got o run.new.left ≡ inner_of r.entry.now less mode (seen_at at.now) t.now run.old.left) }
         ensures from { IfOk result (λ o. IfSome o (From r.entry.now.w.now mode at.now.ctx.now t.now)) }
     {
-        rewrite(r, run, less, mode, at, t)
+        rewrite(&*r, run, less, mode, &*at, &*t)
     };
     let l = Level {
-        r,
+        r: &*r,
         levels: less,
         below: &below,
     };
-    rewrite_shape(&l, run, mode, at, t)
+    rewrite_shape(&l, run, mode, &*at, &*t)
 }
 
 #[cfg(test)]

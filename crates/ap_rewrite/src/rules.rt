@@ -45,7 +45,7 @@ fn by_rewriting<
     O: TypeOracle,
     F: Fn(&mut Run, Mode, &Place<'_>, &Term) -> Result<Option<Equiv>, NoMemory>,
 >(
-    l: &Level<'_, O, F>,
+    l: &Level<'_, '_, O, F>,
     run: &mut Run,
     at: &Place<'_>,
     h: &Term,
@@ -82,7 +82,7 @@ fn relieve_one<
     O: TypeOracle,
     F: Fn(&mut Run, Mode, &Place<'_>, &Term) -> Result<Option<Equiv>, NoMemory>,
 >(
-    l: &Level<'_, O, F>,
+    l: &Level<'_, '_, O, F>,
     run: &mut Run,
     at: &Place<'_>,
     h: &Term,
@@ -108,7 +108,7 @@ fn relieve<
     O: TypeOracle,
     F: Fn(&mut Run, Mode, &Place<'_>, &Term) -> Result<Option<Equiv>, NoMemory>,
 >(
-    l: &Level<'_, O, F>,
+    l: &Level<'_, '_, O, F>,
     run: &mut Run,
     at: &Place<'_>,
     hs: &[Term],
@@ -168,7 +168,7 @@ fn right<
     O: TypeOracle,
     F: Fn(&mut Run, Mode, &Place<'_>, &Term) -> Result<Option<Equiv>, NoMemory>,
 >(
-    l: &Level<'_, O, F>,
+    l: &Level<'_, '_, O, F>,
     run: &mut Run,
     mode: Mode,
     at: &Place<'_>,
@@ -196,7 +196,7 @@ fn relieved<
     O: TypeOracle,
     F: Fn(&mut Run, Mode, &Place<'_>, &Term) -> Result<Option<Equiv>, NoMemory>,
 >(
-    l: &Level<'_, O, F>,
+    l: &Level<'_, '_, O, F>,
     run: &mut Run,
     mode: Mode,
     at: &Place<'_>,
@@ -224,7 +224,7 @@ fn apply<
     O: TypeOracle,
     F: Fn(&mut Run, Mode, &Place<'_>, &Term) -> Result<Option<Equiv>, NoMemory>,
 >(
-    l: &Level<'_, O, F>,
+    l: &Level<'_, '_, O, F>,
     run: &mut Run,
     mode: Mode,
     at: &Place<'_>,
@@ -256,7 +256,7 @@ fn try_rule<
     O: TypeOracle,
     F: Fn(&mut Run, Mode, &Place<'_>, &Term) -> Result<Option<Equiv>, NoMemory>,
 >(
-    l: &Level<'_, O, F>,
+    l: &Level<'_, '_, O, F>,
     run: &mut Run,
     mode: Mode,
     at: &Place<'_>,
@@ -285,7 +285,7 @@ fn each_rule<
     O: TypeOracle,
     F: Fn(&mut Run, Mode, &Place<'_>, &Term) -> Result<Option<Equiv>, NoMemory>,
 >(
-    l: &Level<'_, O, F>,
+    l: &Level<'_, '_, O, F>,
     run: &mut Run,
     mode: Mode,
     at: &Place<'_>,
@@ -314,7 +314,7 @@ pub fn by_rules<
     O: TypeOracle,
     F: Fn(&mut Run, Mode, &Place<'_>, &Term) -> Result<Option<Equiv>, NoMemory>,
 >(
-    l: &Level<'_, O, F>,
+    l: &Level<'_, '_, O, F>,
     run: &mut Run,
     mode: Mode,
     at: &Place<'_>,

@@ -23,7 +23,7 @@ fn lead<
     O: TypeOracle,
     F: Fn(&mut Run, Mode, &Place<'_>, &Term) -> Result<Option<Equiv>, NoMemory>,
 >(
-    l: &Level<'_, O, F>,
+    l: &Level<'_, '_, O, F>,
     run: &mut Run,
     mode: Mode,
     at: &Place<'_>,
@@ -56,7 +56,7 @@ fn equate<
     O: TypeOracle,
     F: Fn(&mut Run, Mode, &Place<'_>, &Term) -> Result<Option<Equiv>, NoMemory>,
 >(
-    l: &Level<'_, O, F>,
+    l: &Level<'_, '_, O, F>,
     run: &mut Run,
     mode: Mode,
     at: &Place<'_>,
@@ -82,7 +82,7 @@ fn after_equating<
     O: TypeOracle,
     F: Fn(&mut Run, Mode, &Place<'_>, &Term) -> Result<Option<Equiv>, NoMemory>,
 >(
-    l: &Level<'_, O, F>,
+    l: &Level<'_, '_, O, F>,
     run: &mut Run,
     mode: Mode,
     at: &Place<'_>,
@@ -107,7 +107,7 @@ fn after_settling<
     O: TypeOracle,
     F: Fn(&mut Run, Mode, &Place<'_>, &Term) -> Result<Option<Equiv>, NoMemory>,
 >(
-    l: &Level<'_, O, F>,
+    l: &Level<'_, '_, O, F>,
     run: &mut Run,
     mode: Mode,
     at: &Place<'_>,
@@ -132,7 +132,7 @@ fn after_running<
     O: TypeOracle,
     F: Fn(&mut Run, Mode, &Place<'_>, &Term) -> Result<Option<Equiv>, NoMemory>,
 >(
-    l: &Level<'_, O, F>,
+    l: &Level<'_, '_, O, F>,
     run: &mut Run,
     mode: Mode,
     at: &Place<'_>,
@@ -157,7 +157,7 @@ pub fn tried<
     O: TypeOracle,
     F: Fn(&mut Run, Mode, &Place<'_>, &Term) -> Result<Option<Equiv>, NoMemory>,
 >(
-    l: &Level<'_, O, F>,
+    l: &Level<'_, '_, O, F>,
     run: &mut Run,
     mode: Mode,
     at: &Place<'_>,
