@@ -1,5 +1,5 @@
 -- Hypotheses that facts relieve: what is shown of their instances, under the pairs that come of it and under more.
-use Rattle.std.proofs.Common.{◌≡◌, Bool, true, false, List, [], ◌∷◌, map, Option, None, Some, is_some, slice_get, ℕ, refl, sym, ap, ◌∙◌, subst}
+use Rattle.std.proofs.Common.{Bor, ◌≡◌, Bool, true, false, List, [], ◌∷◌, map, Option, None, Some, is_some, slice_get, ℕ, refl, sym, ap, ◌∙◌, subst}
 use Rattle.ap_list.specs.Lists.{Each, all_true, lookup_by}
 use Rattle.ap_value.specs.declared.symbol.Symbol.{Symbol}
 use Rattle.ap_value.specs.declared.value.Value.{Value}
@@ -18,15 +18,20 @@ use Rattle.ap_world.specs.World.{Shown, function_of}
 use Rattle.ap_world.specs.Recursion.{t_constant}
 use Rattle.ap_world.specs.Holding.{KnownPairs}
 use Rattle.ap_world.specs.Facts.{Facts, KnownFacts}
+use Rattle.ap_world.specs.Shapes.{shape_of}
 use Rattle.ap_world.proofs.Written.{subst_call}
 use Rattle.ap_world.proofs.Instances.{match_fits}
 use Rattle.ap_kernel.specs.declared.objects.Ctx.{Ctx}
 use Rattle.ap_kernel.specs.declared.objects.Equiv.{Equiv}
+use Rattle.ap_kernel.specs.declared.shapes.ShapeRef.{ShapeRef}
+use Rattle.ap_kernel.specs.declared.shapes.ShapeRef.TheVariants as lent
+use Rattle.ap_kernel.specs.Shapes.{seen}
 use Rattle.ap_kernel.specs.Standing.{Stands}
 use Rattle.ap_kernel.specs.Applying.{LeadsToTrue}
 use Rattle.ap_kernel.proofs.Typed.{each_at}
 use Rattle.ap_rewrite.specs.declared.facts.Relieved.{Relieved}
 use Rattle.ap_rewrite.specs.Relieved.{Relieves, RelievedFrom}
+use Rattle.ap_rewrite.specs.Relieving.{by_facts, by_sign}
 
 -- where every variable of a term has a pair, it has one among more pairs
 bound_more : (s z : Pairs) (u : Term) → Extends s z → is_bound s u ≡ true → is_bound z u ≡ true
@@ -110,3 +115,12 @@ by_false_relieves w c a s u r found stands facts left right = record {
   known = found.known;
   extends = found.extends;
 }
+
+-- a hypothesis that is no negation is relieved by a true fact
+pub by_sign_other : (h : Term) (r : ShapeRef) → seen r ≡ shape_of h → ((x : Bor Term) → r ≡ lent.Not x → ⊥) → (s : Pairs) (fs : Facts) → by_sign h (shape_of h) s fs ≡ by_facts h true s fs
+by_sign_other h (lent.Not x) q n s fs = absurd (n x refl)
+by_sign_other h (lent.Constant v) q n s fs = ap (λ y. by_sign h y s fs) (sym q)
+by_sign_other h (lent.If x y z) q n s fs = ap (λ y. by_sign h y s fs) (sym q)
+by_sign_other h (lent.Equal x y) q n s fs = ap (λ y. by_sign h y s fs) (sym q)
+by_sign_other h (lent.Cons x y) q n s fs = ap (λ y. by_sign h y s fs) (sym q)
+by_sign_other h lent.Other q n s fs = ap (λ y. by_sign h y s fs) (sym q)

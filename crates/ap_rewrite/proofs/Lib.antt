@@ -18,3 +18,5 @@ pub mod Renamed
 pub mod Settled
 pub mod Negated
 pub mod FactsRelieve
+pub mod Bounded
+pub mod Leading

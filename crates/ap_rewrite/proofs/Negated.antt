@@ -1,5 +1,5 @@
 -- Negations, and an `if` by its simplest shape: what the rows on them ask for and give.
-use Rattle.std.proofs.Common.{◌≡◌, Bool, true, false, cond, not, ◌||◌, [], ◌∷◌, Option, None, Some, refl, sym, ap, ◌∙◌, subst}
+use Rattle.std.proofs.Common.{Bor, ◌≡◌, Bool, true, false, cond, not, ◌||◌, [], ◌∷◌, Option, None, Some, refl, sym, ap, ◌∙◌, subst}
 use Rattle.ap_value.specs.declared.value.Value.{Value, Sym}
 use Rattle.ap_value.specs.Values.{val_of, value_eq}
 use Rattle.ap_value.proofs.Equals.{value_eq-same}
@@ -22,6 +22,9 @@ use Rattle.ap_world.proofs.Starting.{val_not}
 use Rattle.ap_poly.specs.Bounds.{lacks}
 use Rattle.ap_kernel.specs.declared.objects.Mode.{Mode}
 use Rattle.ap_kernel.specs.declared.objects.Mode.TheVariants.{Equal, Iff}
+use Rattle.ap_kernel.specs.declared.shapes.ShapeRef.{ShapeRef}
+use Rattle.ap_kernel.specs.declared.shapes.ShapeRef.TheVariants as lent
+use Rattle.ap_kernel.specs.Shapes.{seen}
 use Rattle.ap_kernel.specs.Standing.{HasGround}
 use Rattle.ap_kernel.specs.Answers.{if_of}
 use Rattle.ap_kernel.specs.Choices.{bare, bare_test, is_truth, if_shape, choice_leads, is_choice}
@@ -87,10 +90,14 @@ pub negated_not : (S : Setting) (o : Mode) (fs : Facts) (z : Term) → negated S
 negated_not S o fs z = ap (negated S o fs (not_of z)) (ap truth_in (shape_not z)) ∙ ap (unwrapped S o fs (not_of z)) (shape_not z)
 
 -- an argument that is neither a constant nor a negation
-plain : Shape Term → Bool
-plain (constant v) = false
-plain (negation z) = false
-plain y = true
+pub negated_other : (S : Setting) (o : Mode) (fs : Facts) (a : Term) (r : ShapeRef) → seen r ≡ shape_of a → ((v : Bor Value) → r ≡ lent.Constant v → ⊥) → ((x : Bor Term) → r ≡ lent.Not x → ⊥)
+    → negated S o fs a (truth_of a) ≡ not_of a
+negated_other S o fs a (lent.Constant v) h c n = absurd (c v refl)
+negated_other S o fs a (lent.Not x) h c n = absurd (n x refl)
+negated_other S o fs a (lent.If x y z) h c n = ap (λ y. negated S o fs a (truth_in y)) (sym h) ∙ ap (unwrapped S o fs a) (sym h)
+negated_other S o fs a (lent.Equal x y) h c n = ap (λ y. negated S o fs a (truth_in y)) (sym h) ∙ ap (unwrapped S o fs a) (sym h)
+negated_other S o fs a (lent.Cons x y) h c n = ap (λ y. negated S o fs a (truth_in y)) (sym h) ∙ ap (unwrapped S o fs a) (sym h)
+negated_other S o fs a lent.Other h c n = ap (λ y. negated S o fs a (truth_in y)) (sym h) ∙ ap (unwrapped S o fs a) (sym h)
 
 pub unwrapped_by : (S : Setting) (o : Mode) (fs : Facts) (k : Mask) (z : Term) → k ≡ record { 0 = S.types fs z }
     → unwrapped S o fs (not_of z) (negation z) ≡ cond (is_iff o || lacks k.0 999) z (not_of (not_of z))

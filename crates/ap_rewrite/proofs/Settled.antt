@@ -18,7 +18,7 @@ use Rattle.ap_world.specs.Facts.{Facts}
 use Rattle.ap_world.specs.Shapes.{Shape, constant, shape_of, constant_says, is_constant}
 use Rattle.ap_world.proofs.Knowing.{known_quote}
 use Rattle.ap_world.proofs.TotalMeaning.{models, value_is}
-use Rattle.ap_world.proofs.Equations.{not_nil-eq, val_of_nil, val_of_t, t-not_nil}
+use Rattle.ap_world.proofs.Equations.{not_nil-eq, val_of_nil, val_of_t, val_of_int, t-not_nil}
 use Rattle.ap_world.proofs.Shaped.{Says, shape_says}
 use Rattle.ap_world.proofs.Sets.{In, signed_in, nil_recognised}
 use Rattle.ap_poly.specs.Bounds.{lacks}
@@ -34,10 +34,7 @@ use Rattle.ap_rewrite.proofs.Truths.{others_nil, others_t, others_zero, truth_sa
 
 -- what is said under a mode that it has already
 pub same_mode : (s : Sequent) (o : Mode) → s.mode ≡ o → s ≡ leads_made s.ctx o s.lhs s.rhs
-same_mode s o h = ap (leads_mode s) h
-  where
-    leads_mode : Sequent → Mode → Sequent
-    leads_mode s m = record { ctx = s.ctx; mode = m; lhs = s.lhs; rhs = s.rhs }
+same_mode s o h = ap (λ (m : Mode). leads_made s.ctx m s.lhs s.rhs) h
 
 -- a constant is known, and where it isn't nil every type but nil's may be its own
 constant_is : (b : Bool) (u : Term) (y : Shape Term) → Says u y → constant_says b y ≡ true → (v : Value) × (u ≡ Quote v)
@@ -96,7 +93,7 @@ pub only_serves : (k : Mask) (v : V) (o : Mode) → has_only k v ≡ true → Se
 only_serves k v o h = subst (λ b. Serves (cond b Equal Iff) o) (sym h) tt
 
 pub without_nil_leads : (k : Mask) → lacks k.0 8 ≡ true → leads_to k (val_of (Sym t_name)) ≡ true
-without_nil_leads k h = rw (val_of_t, t-not_nil) (go (has_only k t))
+without_nil_leads k h = rw (val_of_t, t-not_nil) (go _)
   where
     go : (b : Bool) → (b || lacks k.0 8) ≡ true
     go true = refl
@@ -113,7 +110,7 @@ pub only_t : (k : Mask) → lacks k.0 1007 ≡ true → has_only k (val_of (Sym 
 only_t k h = rw (val_of_t, others_t) h
 
 pub only_zero : (k : Mask) → lacks k.0 1022 ≡ true → has_only k (val_of (Int (pos 0))) ≡ true
-only_zero k h = rw (others_zero) h
+only_zero k h = rw (val_of_int (pos 0), others_zero) h
 
 -- what a term is settled to, by what is found for its mask
 pub settled_to : (S : Setting) (o : Mode) (fs : Facts) (u : Term) (k : Mask) (x : Option Value) → k ≡ record { 0 = S.types fs u } → option_map Quote x ≡ by_mask o k.0

@@ -5,19 +5,15 @@ ghost use Rattle.ap_world.specs.Clauses.{not_of};
 ghost use Rattle.ap_world.specs.Facts.{KnownFacts};
 ghost use Rattle.ap_world.specs.Sound.{known};
 ghost use Rattle.ap_kernel.specs.Answers.{if_of};
-ghost use Rattle.ap_kernel.specs.declared.objects.Mode.TheVariants.{Equal, Iff};
+ghost use Rattle.ap_kernel.specs.declared.objects.Mode.TheVariants.{Iff};
 ghost use Rattle.ap_rewrite.specs.Settings.{under};
 ghost use Rattle.ap_rewrite.specs.Rewriting.{truth_of, shaped, negated, both, branches, rewrite_if, rewrite_not};
 ghost use Rattle.ap_rewrite.specs.Answering.{defs_in, Ready, setting_of, inner_of, seen_at, got, From, IsLevel};
 
 use crate::rewriter::{Level, Place, Rewriter, Run, deeper};
-use crate::settling::in_mode;
-use crate::shaping::{negated, shaped};
+use crate::rows::{follow, join, negate, picked, plainest, simplest, stay};
 use crate::testing::truth_of;
-use ap_kernel::{
-    Ctx, Equiv, Mode, NoMemory, Seq, Term, TypeOracle, assume, assumed_facts_hold, bare_test, branch,
-    cong, if_shape, not_symbol, refl, trans,
-};
+use ap_kernel::{Ctx, Equiv, Mode, NoMemory, Term, TypeOracle, assume, assumed_facts_hold};
 
 /// A term under what another's sign adds to the facts.
 fn under<
@@ -68,9 +64,10 @@ fn shape_whole<O: TypeOracle>(
     ensures is { IfOk result (λ q. q.says.rhs ≡ shaped (setting_of r.now) mode ctx.now.0 test.says.rhs yes.says.rhs no.says.rhs) }
     ensures from { IfOk result (From r.now.w.now mode ctx.now (if_of test.says.lhs yes.says.lhs no.says.lhs)) }
 {
-    let whole = branch(r.alloc, r.w, mode, test, yes, no)?;
-    let more = shaped(r.alloc, r.w, r.oracle, ctx, mode, whole.rhs())?;
-    trans(r.alloc, r.w, whole, more)
+    let whole = join(r, ctx, mode, test, yes, no)?;
+    let more = simplest(r, ctx, mode, whole.rhs())?;
+    let q = follow(r, ctx, mode, whole, more)?;
+    Ok(q)
 }
 
 /// An `if` whose test has become no constant: both branches under its test.
@@ -123,7 +120,7 @@ fn stay_under<O: TypeOracle>(
 {
     assumed_facts_hold();
     let more = assume(r.alloc, ctx, a, sign)?;
-    let q = refl(r.alloc, r.w, &more, mode, t)?;
+    let q = stay(r, &more, mode, t)?;
     Ok(q)
 }
 
@@ -146,10 +143,10 @@ fn take_branch<O: TypeOracle>(
     ensures is { IfOk result (λ q. q.says.rhs ≡ cond sign yes.says.rhs no.says.rhs) }
     ensures from { IfOk result (From r.now.w.now mode ctx.now (if_of test.says.lhs yes.says.lhs no.says.lhs)) }
 {
-    let whole = branch(r.alloc, r.w, mode, test, yes, no)?;
-    let mask = r.oracle.mask(r.alloc, r.w, ctx, bare_test(whole.rhs()))?;
-    let more = if_shape(r.alloc, r.w, ctx, mode, whole.rhs(), mask)?;
-    trans(r.alloc, r.w, whole, more)
+    let whole = join(r, ctx, mode, test, yes, no)?;
+    let more = picked(r, ctx, mode, whole.rhs())?;
+    let q = follow(r, ctx, mode, whole, more)?;
+    Ok(q)
 }
 
 /// From an `if` to the branch that the constant chooses to which its test leads.
@@ -173,7 +170,8 @@ pub fn choose<O: TypeOracle>(
 {
     let yes = stay_under(r, ctx, mode, test.rhs(), true, b)?;
     let no = stay_under(r, ctx, mode, test.rhs(), false, c)?;
-    take_branch(r, ctx, mode, test, sign, yes, no)
+    let q = take_branch(r, ctx, mode, test, sign, yes, no)?;
+    Ok(q)
 }
 
 /// On from where an equivalence leads: that term is rewritten in its turn.
@@ -196,7 +194,7 @@ pub fn go_on<
     let Some(more) = deeper(l, run, mode, at, first.rhs())? else {
         return Ok(None);
     };
-    let q = trans(l.r.alloc, l.r.w, first, more)?;
+    let q = follow(l.r, at.ctx, mode, first, more)?;
     Ok(Some(q))
 }
 
@@ -271,23 +269,10 @@ fn turned<O: TypeOracle>(
     ensures is { IfOk result (λ a. a.says.rhs ≡ negated (setting_of r.now) mode ctx.now.0 q.says.rhs (truth_of q.says.rhs)) }
     ensures from { IfOk result (From r.now.w.now mode ctx.now (not_of q.says.lhs)) }
 {
-    let equal = cong_not(r, ctx, q)?;
-    let first = in_mode(r.alloc, r.w, equal, mode)?;
-    let more = negated(r.alloc, r.w, r.oracle, ctx, mode, first.rhs())?;
-    trans(r.alloc, r.w, first, more)
-}
-
-/// From a negation to the negation of what its argument leads to.
-fn cong_not<O: TypeOracle>(r: &Rewriter<'_, O>, ctx: &Ctx, q: Equiv) -> Result<Equiv, NoMemory>
-    requires ready { Ready r.now }
-    requires facts { KnownFacts (defs_in r.now) ctx.now.0 }
-    requires argument { From r.now.w.now Iff ctx.now q.says.lhs q }
-    ensures is { IfOk result (λ a. a.says.rhs ≡ not_of q.says.rhs) }
-    ensures from { IfOk result (From r.now.w.now Equal ctx.now (not_of q.says.lhs)) }
-{
-    let mut args = Seq::new(r.alloc);
-    args.push(q)?;
-    cong(r.alloc, r.w, ctx, &not_symbol(), args)
+    let first = negate(r, ctx, mode, q)?;
+    let more = plainest(r, ctx, mode, first.rhs())?;
+    let answer = follow(r, ctx, mode, first, more)?;
+    Ok(answer)
 }
 
 /// A negation: its argument under `iff`, and then what the negation is by what that has become.

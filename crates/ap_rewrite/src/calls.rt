@@ -14,10 +14,10 @@ ghost use Rattle.ap_rewrite.specs.Rewriting.{rewrite_args, tried, rewrite_call};
 ghost use Rattle.ap_rewrite.specs.Answering.{defs_in, Ready, setting_of, inner_of, seen_at, got, got_all, right_of, Leads, From, IsLevel};
 
 use crate::rewriter::{Level, Place, Rewriter, Run, deeper};
+use crate::rows::follow;
 use crate::settling::in_mode;
 use crate::trying::tried;
-use ap_kernel::{Ctx, Equiv, Mode, NoMemory, Seq, Symbol, Term, TypeOracle, World, cong, trans};
-use std::alloc::Global;
+use ap_kernel::{Ctx, Equiv, Mode, NoMemory, Seq, Symbol, Term, TypeOracle, cong};
 
 /// The arguments of a call, from left to right, under equality.
 fn rewrite_args<
@@ -60,20 +60,30 @@ fn on_arguments<O: TypeOracle>(
     ensures is { IfOk result (λ q. q.says.rhs ≡ Call f.now (rights (said args))) }
     ensures from { IfOk result (From r.now.w.now mode ctx.now (Call f.now (lefts (said args)))) }
 {
-    let q = cong(r.alloc, r.w, ctx, f, args)?;
-    in_mode(r.alloc, r.w, q, mode)
+    let equal = cong(r.alloc, r.w, ctx, f, args)?;
+    let q = in_mode(r.alloc, r.w, equal, mode)?;
+    Ok(q)
 }
 
 /// One equivalence, and a second one where there is one.
-fn followed(alloc: Global, w: &World, first: Equiv, second: Option<Equiv>) -> Result<Equiv, NoMemory>
-    requires first { From w.now first.says.mode first.says.ctx first.says.lhs first }
-    requires second { ForSome second (From w.now first.says.mode first.says.ctx first.says.rhs) }
+fn followed<O: TypeOracle>(
+    r: &Rewriter<'_, O>,
+    ctx: &Ctx,
+    mode: Mode,
+    first: Equiv,
+    second: Option<Equiv>,
+) -> Result<Equiv, NoMemory>
+    requires first { From r.now.w.now mode ctx.now first.says.lhs first }
+    requires second { ForSome second (From r.now.w.now mode ctx.now first.says.rhs) }
     ensures is { IfOk result (λ q. q.says.rhs ≡ unwrap_or (right_of second) first.says.rhs) }
-    ensures from { IfOk result (From w.now first.says.mode first.says.ctx first.says.lhs) }
+    ensures from { IfOk result (From r.now.w.now mode ctx.now first.says.lhs) }
 {
     match second {
         None => Ok(first),
-        Some(more) => trans(alloc, w, first, more),
+        Some(more) => {
+            let q = follow(r, ctx, mode, first, more)?;
+            Ok(q)
+        }
     }
 }
 
@@ -97,7 +107,7 @@ fn on_call<
     let Some(found) = tried(l, run, mode, at, first.rhs())? else {
         return Ok(None);
     };
-    let q = followed(l.r.alloc, l.r.w, first, found)?;
+    let q = followed(l.r, at.ctx, mode, first, found)?;
     Ok(Some(q))
 }
 

@@ -3,6 +3,7 @@
 //! `introduction-to-the-theorem-prover` and "The Rewriter" in "Computer-Aided Reasoning" (2000).
 #![tactic(auto)]
 
+mod bounding;
 mod branching;
 mod calls;
 mod equating;
@@ -10,8 +11,10 @@ mod facts;
 pub mod laws;
 mod opening;
 mod ordering;
+mod refuting;
 mod rewriter;
 mod rewriting;
+mod rows;
 mod rules;
 mod running;
 mod settling;

@@ -15,12 +15,12 @@ ghost use Rattle.ap_rewrite.specs.Rewriting.{truth_of, walk, walk_on, answered, 
 ghost use Rattle.ap_rewrite.specs.Answering.{defs_in, Ready, setting_of, inner_of, seen_at, got_any, leaf_on, open_closed, From, IsLevel};
 
 use crate::branching::{both, choose, go_on};
-use crate::rewriter::{Level, Place, Rewriter, Run, deeper};
-use crate::settling::in_mode;
+use crate::rewriter::{Level, Place, Run, deeper};
+use crate::rows::{follow, opened};
 use crate::testing::{is_among, is_small, truth_of};
 use crate::trying::answered;
 use ap_kernel::{
-    Ctx, Equiv, Mode, NoMemory, Seq, ShapeRef, Symbol, Term, TypeOracle, open_def, shape_of, trans,
+    Equiv, Mode, NoMemory, Seq, ShapeRef, Symbol, Term, TypeOracle, shape_of,
 };
 use ap_term::copy_term;
 use ap_value::copy_symbol;
@@ -69,7 +69,7 @@ fn walk_on<
     match truth_of(test.rhs()) {
         Some(sign) => {
             let branch = choose(l.r, at.ctx, mode, test, sign, b, c)?;
-            let next = trans(l.r.alloc, l.r.w, sofar, branch)?;
+            let next = follow(l.r, at.ctx, mode, sofar, branch)?;
             walk(l, run, mode, at, inner, next, true)
         }
         None => {
@@ -108,7 +108,7 @@ fn walk_ends<
     let Some(more) = both(l, run, mode, at, test, b, c)? else {
         return Ok(None);
     };
-    let q = trans(l.r.alloc, l.r.w, sofar, more)?;
+    let q = follow(l.r, at.ctx, mode, sofar, more)?;
     Ok(Some(Some(q)))
 }
 
@@ -225,24 +225,6 @@ fn open_instance<
     }
     let found = go_on(l, run, mode, at, first)?;
     Ok(answered(found))
-}
-
-/// From a call of a defined function to the instance of its body, under a mode.
-fn opened<O: TypeOracle>(
-    r: &Rewriter<'_, O>,
-    ctx: &Ctx,
-    mode: Mode,
-    t: &Term,
-) -> Result<Equiv, NoMemory>
-    requires ready { Ready r.now }
-    requires facts { KnownFacts (defs_in r.now) ctx.now.0 }
-    requires term { IsTrue (known (defs_in r.now) t.now) }
-    requires defined { IsTrue (is_some (opened (defs_in r.now) t.now)) }
-    ensures is { IfOk result (λ q. Some q.says.rhs ≡ opened (defs_in r.now) t.now) }
-    ensures from { IfOk result (From r.now.w.now mode ctx.now t.now) }
-{
-    let q = open_def(r.alloc, r.w, ctx, t)?;
-    in_mode(r.alloc, r.w, q, mode)
 }
 
 /// A call of a defined function, which is opened where the theory enables its definition, it isn't closed, and the

@@ -1,17 +1,18 @@
 // A term by what it is, and the levels.
-ghost use Rattle.std.specs.Prelude.{◌≡◌, IsTrue, IfOk, IfSome, Some};
+ghost use Rattle.std.specs.Prelude.{◌≡◌, IsTrue, IfOk, IfSome};
 ghost use Rattle.ap_term.specs.declared.term.Term.{out-Term};
 ghost use Rattle.ap_world.specs.Facts.{KnownFacts};
 ghost use Rattle.ap_world.specs.Shapes.{shape_of};
 ghost use Rattle.ap_world.specs.Sound.{known};
 ghost use Rattle.ap_rewrite.specs.Rewriting.{rewrite_parts, rewrite_shape};
-ghost use Rattle.ap_rewrite.specs.Answering.{defs_in, Ready, setting_of, inner_of, seen_at, got, right_of, From, IsLevel};
+ghost use Rattle.ap_rewrite.specs.Answering.{defs_in, Ready, setting_of, inner_of, seen_at, got, From, IsLevel};
 
 use crate::branching::{rewrite_if, rewrite_not};
 use crate::calls::rewrite_call;
 use crate::rewriter::{Level, Place, Rewriter, Run};
+use crate::rows::stay;
 use crate::settling::{constant_equiv, settled};
-use ap_kernel::{Equiv, Mode, NoMemory, ShapeRef, Term, TypeOracle, refl, shape_of};
+use ap_kernel::{Equiv, Mode, NoMemory, ShapeRef, Term, TypeOracle, shape_of};
 
 /// A variable, a constant, or a call that is no `if` and no negation.
 fn rewrite_parts<
@@ -67,22 +68,6 @@ fn rewrite_shape<
     }
 }
 
-/// A term stays, where no level is left.
-fn stays<O: TypeOracle>(
-    r: &Rewriter<'_, O>,
-    mode: Mode,
-    at: &Place<'_>,
-    t: &Term,
-) -> Result<Option<Equiv>, NoMemory>
-    requires facts { KnownFacts (defs_in r.now) at.now.ctx.now.0 }
-    requires term { IsTrue (known (defs_in r.now) t.now) }
-    ensures is { IfOk result (λ o. right_of o ≡ Some t.now) }
-    ensures from { IfOk result (λ o. IfSome o (From r.now.w.now mode at.now.ctx.now t.now)) }
-{
-    let q = refl(r.alloc, r.w, at.ctx, mode, t)?;
-    Ok(Some(q))
-}
-
 /// A term with so many levels left: a step is spent first. `None` where the steps run out.
 #[cycle(rewriting)]
 pub fn rewrite<O: TypeOracle>(
@@ -104,7 +89,8 @@ pub fn rewrite<O: TypeOracle>(
     }
     run.left -= 1;
     if levels == 0 {
-        return stays(r, mode, at, t);
+        let q = stay(&*r, at.ctx, mode, &*t)?;
+        return Ok(Some(q));
     }
     let less = levels - 1;
     let below = |run: &mut Run, mode: Mode, at: &Place<'_>, t: &Term| -> Result<Option<Equiv>, NoMemory>

@@ -160,7 +160,8 @@ fn applied<O: TypeOracle>(
 {
     let Reliefs { pairs, shown } = found;
     let q = apply_theorem(r.alloc, r.w, ctx, &g.theorem, g.part, &pairs, shown)?;
-    in_mode(r.alloc, r.w, q, mode)
+    let answer = in_mode(r.alloc, r.w, q, mode)?;
+    Ok(answer)
 }
 
 /// The instance of a rule's right side, which is rewritten, where it isn't too large.
