@@ -20,3 +20,9 @@ pub mod Negated
 pub mod FactsRelieve
 pub mod Bounded
 pub mod Leading
+pub mod Levels
+pub mod Froms
+pub mod Chosen
+pub mod Arguments
+pub mod Walked
+pub mod Chained

@@ -1,0 +1,80 @@
+-- Equivalences from a term, under facts and a mode.
+use Rattle.std.proofs.Common.{◌≡◌, Bool, true, false, List, [], ◌∷◌, map, length, Option, Some, None, IsTrue, refl, sym, ap, ◌∙◌, subst}
+use Rattle.std.specs.Option.{option_map}
+use Rattle.ap_list.specs.Lists.{Each}
+use Rattle.ap_value.specs.declared.symbol.Symbol.{Symbol}
+use Rattle.ap_value.specs.Values.{symbol_eq}
+use Rattle.ap_term.specs.declared.term.Term.{Term, Call}
+use Rattle.ap_world.specs.Meaning.{Defs}
+use Rattle.ap_world.specs.World.{Shown, function_of}
+use Rattle.ap_world.specs.Facts.{Facts}
+use Rattle.ap_world.specs.Names.{if_name, not_name}
+use Rattle.ap_world.specs.Clauses.{not_of}
+use Rattle.ap_world.specs.Sound.{known}
+use Rattle.ap_world.specs.Shapes.{shape_of, choice, negation}
+use Rattle.ap_world.proofs.Knowing.{known_args, each_true}
+use Rattle.ap_world.proofs.Shaped.{Says, shape_says}
+use Rattle.ap_kernel.specs.declared.objects.Ctx.{Ctx}
+use Rattle.ap_kernel.specs.declared.objects.Mode.{Mode}
+use Rattle.ap_kernel.specs.declared.objects.Mode.TheVariants.{Equal}
+use Rattle.ap_kernel.specs.declared.objects.Sequent.{Sequent}
+use Rattle.ap_kernel.specs.declared.objects.Equiv.{Equiv}
+use Rattle.ap_kernel.specs.Standing.{Stands}
+use Rattle.ap_kernel.specs.Answers.{if_of, ModeFits}
+use Rattle.ap_rewrite.specs.Leading.{leads_made, said_of}
+use Rattle.ap_rewrite.specs.Answering.{From, right_of}
+
+-- what a row made
+pub from_made : (w : Shown) (o : Mode) (c : Ctx) (u v : Term) (q : Equiv) → Stands w q → q.says ≡ leads_made c o u v → From w o c u q
+from_made w o c u v q s e = record { stands = s; ctx = ap (λ (x : Sequent). x.ctx) e; mode = ap (λ (x : Sequent). x.mode) e; lhs = ap (λ (x : Sequent). x.lhs) e }
+
+pub right_made : (c : Ctx) (o : Mode) (u v : Term) (q : Equiv) → q.says ≡ leads_made c o u v → q.says.rhs ≡ v
+right_made c o u v q e = ap (λ (x : Sequent). x.rhs) e
+
+-- from the term that the left side is
+pub from_at : (w : Shown) (o : Mode) (c : Ctx) (u v : Term) (q : Equiv) → u ≡ v → From w o c u q → From w o c v q
+from_at w o c u v q e f = subst (λ x. From w o c x q) e f
+
+-- the facts of a context
+pub facts_of : (c : Ctx) (fs : Facts) → c ≡ record { 0 = fs } → c.0 ≡ fs
+facts_of c fs e = ap (λ (x : Ctx). x.0) e
+
+pub same_facts : (c : Ctx) (fs : Facts) → c.0 ≡ fs → c ≡ record { 0 = fs }
+same_facts c fs e = ap (λ (x : Facts). record { 0 = x }) e
+
+-- what is answered where something may be
+pub right_found : (o : Option Equiv) (c : Ctx) (m : Mode) (u : Term) (x : Option Term) → said_of o ≡ option_map (leads_made c m u) x → right_of o ≡ x
+right_found None c m u None e = refl
+right_found None c m u (Some v) e = cc
+right_found (Some q) c m u None e = cc
+right_found (Some q) c m u (Some v) e = let k : q.says ≡ leads_made c m u v = cc in ap Some (right_made c m u v q k)
+
+pub from_found : (w : Shown) (q : Equiv) (c : Ctx) (m : Mode) (u : Term) (x : Option Term) → Stands w q → said_of (Some q) ≡ option_map (leads_made c m u) x → From w m c u q
+from_found w q c m u None s e = cc
+from_found w q c m u (Some v) s e = let k : q.says ≡ leads_made c m u v = cc in from_made w m c u v q s k
+
+-- the parts of a known `if`, a known negation, a known call
+pub if_parts : (D : Defs) (u a b c : Term) → known D u ≡ true → shape_of u ≡ choice a b c → (u ≡ if_of a b c) × (known D a ≡ true) × (known D b ≡ true) × (known D c ≡ true)
+if_parts D u a b c k e =
+    let is : u ≡ if_of a b c = subst (Says u) e (shape_says u) in
+    let ks = each_true (known D) (a ∷ b ∷ c ∷ []) (known_args D if_name (a ∷ b ∷ c ∷ []) (subst (λ x. known D x ≡ true) is k)) in
+    (is, ks.0, ks.1.0, ks.1.1.0)
+
+pub choice_parts : (D : Defs) (a b c : Term) → known D (if_of a b c) ≡ true → (known D a ≡ true) × (known D b ≡ true) × (known D c ≡ true)
+choice_parts D a b c k =
+    let ks = each_true (known D) (a ∷ b ∷ c ∷ []) (known_args D if_name (a ∷ b ∷ c ∷ []) k) in
+    (ks.0, ks.1.0, ks.1.1.0)
+
+pub not_part : (D : Defs) (u a : Term) → known D u ≡ true → shape_of u ≡ negation a → (u ≡ not_of a) × (known D a ≡ true)
+not_part D u a k e =
+    let is : u ≡ not_of a = subst (Says u) e (shape_says u) in
+    let ks = each_true (known D) (a ∷ []) (known_args D not_name (a ∷ []) (subst (λ x. known D x ≡ true) is k)) in
+    (is, ks.0)
+
+pub call_parts : (D : Defs) (f : Symbol) (us : List Term) → known D (Call f us) ≡ true → Each (λ u. IsTrue (known D u)) us
+call_parts D f us k = each_true (known D) us (known_args D f us k)
+
+-- equality fits an argument of any call
+pub equal_fits : (b : Bool) (m : Mode) → m ≡ Equal → ModeFits b m
+equal_fits true m e = tt
+equal_fits false m e = e
