@@ -1,5 +1,5 @@
 -- Rules by the heads of their left sides.
-use Rattle.std.specs.Prelude.{List, [], map, unwrap_or}
+use Rattle.std.specs.Prelude.{Bool, cond, List, [], ◌∷◌, map, drop, unwrap_or}
 use Rattle.std.specs.Map.{lookup}
 use Rattle.ap_value.specs.declared.symbol.Symbol.{Symbol}
 use Rattle.ap_value.specs.Values.{symbol_eq}
@@ -16,3 +16,10 @@ group_at table f = unwrap_or (lookup (symbol_eq f) table) []
 
 abbrev pub grouped_at : Table → Symbol → List Rule
 grouped_at table f = map rule_in (group_at table f)
+
+-- with one rule more before them, without the first, or as they are
+abbrev pub with_first : Bool → RewriteRule → List RewriteRule → List RewriteRule
+with_first b g gs = cond b (g ∷ gs) gs
+
+abbrev pub without_first : Bool → List RewriteRule → List RewriteRule
+without_first b gs = cond b (drop 1 gs) gs

@@ -2,4 +2,6 @@ pub mod Indexed
 pub mod Made
 pub mod Grouped
 pub mod Index
+pub mod Carried
 pub mod Laws
+pub mod Refused

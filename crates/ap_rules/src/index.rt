@@ -1,6 +1,8 @@
-ghost use Rattle.std.specs.Prelude.{◌≡◌, [], ◌∷◌, map};
+ghost use Rattle.std.specs.Prelude.{◌≡◌, [], ◌∷◌, map, OnOk, OnErr};
+ghost use Rattle.ap_value.specs.declared.symbol.Symbol.{Symbol};
+ghost use Rattle.ap_value.specs.Values.{symbol_eq};
 ghost use Rattle.ap_rules.specs.Made.{rule_in};
-ghost use Rattle.ap_rules.specs.Grouped.{group_at};
+ghost use Rattle.ap_rules.specs.Grouped.{group_at, with_first, without_first};
 ghost use Rattle.ap_rules.specs.Index.{rules_at};
 
 use crate::group::Group;
@@ -53,6 +55,37 @@ impl Groups {
         match self.groups.get(f) {
             Some(group) => group.as_slice(),
             None => &[],
+        }
+    }
+
+    /// Adds a rule to those of a head, of which it is then the first. Where memory is refused all have the rules
+    /// that they had.
+    pub(crate) fn add(
+        &mut self,
+        alloc: Global,
+        head: Symbol,
+        rule: RewriteRule,
+    ) -> Result<(), NoMemory>
+        ensures ok { OnOk result ((f : Symbol) → group_at self.new f ≡ with_first (symbol_eq head f) rule (group_at self.old f)) }
+        ensures err { OnErr result ((f : Symbol) → group_at self.new f ≡ group_at self.old f) }
+    {
+        match self.groups.get_mut(&head) {
+            Some(group) => group.add(alloc, rule),
+            None => {
+                let mut group = Group::new(alloc);
+                group.add(alloc, rule)?;
+                self.groups.insert(head, group)?;
+                Ok(())
+            }
+        }
+    }
+
+    /// Takes the first rule of a head away. Takes no memory.
+    pub(crate) fn remove_first(&mut self, head: &Symbol)
+        ensures { (f : Symbol) → group_at self.new f ≡ without_first (symbol_eq head.now f) (group_at self.old f) }
+    {
+        if let Some(group) = self.groups.get_mut(head) {
+            group.remove_first();
         }
     }
 }

@@ -1,13 +1,20 @@
 //! The rewrite rules of theorems, and the index by which those of a call's head are found.
 //!
-//! [`RewriteRule`] is a part of a theorem as a rule. [`by_head`] answers the rules of a head, newest first. See
-//! the manual's topics `rewrite` and `rule-classes`.
+//! [`rules_of`] answers the rules of a theorem, or why it has none of a class that it asks for. [`index`] answers
+//! the rules of a world by the heads of their left sides, and [`by_head`] those of one head, newest first.
+//! [`Ruled`] is a world with its index, which grows with it. See the manual's topics `rewrite` and
+//! `rule-classes`.
 #![tactic(auto)]
 
+mod carrying;
 mod group;
 mod index;
 mod laws;
+mod making;
+mod refusing;
 mod rule;
+mod ruled;
+mod statement;
 
 pub use ap_list::{NoMemory, Seq};
 pub use ap_term::Term;
@@ -15,4 +22,7 @@ pub use ap_value::Symbol;
 pub use ap_world::{RuleClass, World};
 pub use index::{Groups, RuleIndex, by_head};
 pub use laws::rules_are_parts;
+pub use refusing::RuleError;
 pub use rule::RewriteRule;
+pub use ruled::{Ruled, index};
+mod tests;

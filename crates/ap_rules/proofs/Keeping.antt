@@ -1,0 +1,205 @@
+-- An index with the heads of its rules, as rules are added at the end and taken away there.
+use Rattle.std.proofs.Common.{◌≡◌, ℕ, zero, suc, ◌+◌, ◌<◌, ◌≤◌, Bool, true, false, cond, List, [], ◌∷◌, ◌++◌, map, length, take, drop, Option, Some, None, slice_get, refl, sym, ap, ◌∙◌, subst, append_assoc, arith}
+use Rattle.std.proofs.lemmas.List.{map-append, length-append, length-map, append-nil}
+use Rattle.ap_value.specs.declared.symbol.Symbol.{Symbol}
+use Rattle.ap_value.specs.Values.{symbol_eq}
+use Rattle.ap_term.specs.declared.term.Term.{Term, out-Term}
+use Rattle.ap_term.specs.declared.term.Term.TheOpen.{Term-F}
+use Rattle.ap_world.specs.declared.entry.Entry.{Entry}
+use Rattle.ap_world.specs.Prescribing.{called}
+use Rattle.ap_world.specs.Rules.{Rule, is_left, newest_first, rules_in_entry, rules_in}
+use Rattle.ap_rules.specs.declared.rule.RewriteRule.{RewriteRule}
+use Rattle.ap_rules.specs.Made.{rule_in}
+use Rattle.ap_rules.specs.Grouped.{Table, group_at, grouped_at, with_first, without_first}
+use Rattle.ap_rules.specs.Indexed.{kept, may_begin, begins, rules_for}
+use Rattle.ap_rules.specs.Carried.{Has, head_in, Keeps, all_rules, starts_from, Carried}
+
+-- a rule by its head
+begins_by : (f h : Symbol) (y : Term-F Term) → called y ≡ Some h → may_begin f y ≡ symbol_eq h f
+begins_by f h (Term-F.Call g ts) e = let same : g ≡ h = cc in ap (λ k. symbol_eq k f) same
+begins_by f h (Term-F.Var x) e = absurd (cc e)
+begins_by f h (Term-F.Quote v) e = absurd (cc e)
+
+-- with one rule more before those of its head
+pub has_more : (old new : Table) (h : Symbol) (g : RewriteRule) (gs : List Rule) → head_in (rule_in g) ≡ Some h
+    → ((f : Symbol) → group_at new f ≡ with_first (symbol_eq h f) g (group_at old f)) → Has old gs → Has new (rule_in g ∷ gs)
+has_more old new h g gs head added has f =
+    ap (map rule_in) (added f) ∙ go (symbol_eq h f) ∙ ap (λ b. cond b (rule_in g ∷ rules_for f gs) (rules_for f gs)) (sym (begins_by f h (out-Term g.lhs) head))
+  where
+    go : (b : Bool) → map rule_in (with_first b g (group_at old f)) ≡ cond b (rule_in g ∷ rules_for f gs) (rules_for f gs)
+    go true = ap (λ rs. rule_in g ∷ rs) (has f)
+    go false = has f
+
+map_rest : (xs : List RewriteRule) (r : Rule) (rs : List Rule) → map rule_in xs ≡ r ∷ rs → map rule_in (drop 1 xs) ≡ rs
+map_rest [] r rs e = absurd (cc e)
+map_rest (x ∷ xs) r rs e = cc
+
+-- without the first of those of its head
+pub has_less : (old new : Table) (h : Symbol) (r : Rule) (gs : List Rule) → head_in r ≡ Some h
+    → ((f : Symbol) → group_at new f ≡ without_first (symbol_eq h f) (group_at old f)) → Has old (r ∷ gs) → Has new gs
+has_less old new h r gs head removed has f =
+    ap (map rule_in) (removed f) ∙ go (symbol_eq h f) (has f ∙ ap (λ b. cond b (r ∷ rules_for f gs) (rules_for f gs)) (begins_by f h (out-Term r.lhs) head))
+  where
+    go : (b : Bool) → map rule_in (group_at old f) ≡ cond b (r ∷ rules_for f gs) (rules_for f gs) → map rule_in (without_first b (group_at old f)) ≡ rules_for f gs
+    go true e = map_rest (group_at old f) r (rules_for f gs) e
+    go false e = e
+
+pub newest_append : (xs ys : List Rule) → newest_first (xs ++ ys) ≡ newest_first ys ++ newest_first xs
+newest_append [] ys = sym (append-nil (newest_first ys))
+newest_append (x ∷ xs) ys = ap (λ zs. zs ++ x ∷ []) (newest_append xs ys) ∙ append_assoc (newest_first ys) (newest_first xs) (x ∷ [])
+
+pub newest_last : (rs : List Rule) (r : Rule) → newest_first (rs ++ r ∷ []) ≡ r ∷ newest_first rs
+newest_last rs r = newest_append rs (r ∷ [])
+
+-- the same table under another of the same groups
+pub has_same : (old new : Table) (gs : List Rule) → ((f : Symbol) → group_at new f ≡ group_at old f) → Has old gs → Has new gs
+has_same old new gs same has f = ap (map rule_in) (same f) ∙ has f
+
+-- one rule more
+pub keeps_more : (old new : Table) (hs more : List Symbol) (h : Symbol) (g : RewriteRule) (rs : List Rule) → head_in (rule_in g) ≡ Some h → more ≡ hs ++ h ∷ []
+    → ((f : Symbol) → group_at new f ≡ with_first (symbol_eq h f) g (group_at old f)) → Keeps old hs rs → Keeps new more (rs ++ rule_in g ∷ [])
+keeps_more old new hs more h g rs head longer added k = record {
+  has = subst (Has new) (sym (newest_last rs (rule_in g))) (has_more old new h g (newest_first rs) head added k.has);
+  headed = ap (map Some) longer ∙ map-append Some hs (h ∷ []) ∙ ap (λ os. os ++ Some h ∷ []) k.headed ∙ ap (λ o. map head_in rs ++ o ∷ []) (sym head) ∙ sym (map-append head_in rs (rule_in g ∷ []));
+}
+
+-- as it was
+pub keeps_same : (old new : Table) (hs same : List Symbol) (rs : List Rule) → same ≡ hs → ((f : Symbol) → group_at new f ≡ group_at old f) → Keeps old hs rs → Keeps new same rs
+keeps_same old new hs same rs e groups k = record {
+  has = has_same old new (newest_first rs) groups k.has;
+  headed = ap (map Some) e ∙ k.headed;
+}
+
+-- the last of the rules that heads are of
+pub record LastOf (hs : List Symbol) (h : Symbol) (qs : List Rule) : Type 0 where
+  pub front : List Rule
+  pub last : Rule
+  pub whole : qs ≡ front ++ last ∷ []
+  pub fronts : map Some hs ≡ map head_in front
+  pub head : head_in last ≡ Some h
+
+last_of : (hs : List Symbol) (h : Symbol) (qs : List Rule) → map Some (hs ++ h ∷ []) ≡ map head_in qs → LastOf hs h qs
+last_of [] h [] e = absurd (cc e)
+last_of [] h (q ∷ []) e = record { front = []; last = q; whole = refl; fronts = refl; head = cc }
+last_of [] h (q ∷ r ∷ qs) e = absurd (cc e)
+last_of (x ∷ hs) h [] e = absurd (cc e)
+last_of (x ∷ hs) h (q ∷ qs) e =
+    let rest : map Some (hs ++ h ∷ []) ≡ map head_in qs = cc in
+    let first : Some x ≡ head_in q = cc in
+    let l = last_of hs h qs rest in
+    record {
+      front = q ∷ l.front;
+      last = l.last;
+      whole = ap (λ rs. q ∷ rs) l.whole;
+      fronts = ap (λ os. Some x ∷ os) l.fronts ∙ ap (λ o. o ∷ map head_in l.front) first;
+      head = l.head;
+    }
+
+-- one rule less
+pub record Lessened (table : Table) (hs : List Symbol) (qs : List Rule) : Type 0 where
+  pub front : List Rule
+  pub last : Rule
+  pub whole : qs ≡ front ++ last ∷ []
+  pub keeps : Keeps table hs front
+
+pub keeps_less : (old new : Table) (hs fewer : List Symbol) (h : Symbol) (qs : List Rule) → hs ≡ fewer ++ h ∷ []
+    → ((f : Symbol) → group_at new f ≡ without_first (symbol_eq h f) (group_at old f)) → Keeps old hs qs → Lessened new fewer qs
+keeps_less old new hs fewer h qs is removed k =
+    let l = last_of fewer h qs (sym (ap (map Some) is) ∙ k.headed) in
+    record {
+      front = l.front;
+      last = l.last;
+      whole = l.whole;
+      keeps = record {
+        has = has_less old new h l.last (newest_first l.front) l.head removed (subst (Has old) (ap newest_first l.whole ∙ newest_last l.front l.last) k.has);
+        headed = l.fronts;
+      };
+    }
+
+-- as many heads as rules
+pub as_many : (table : Table) (hs : List Symbol) (rs : List Rule) → Keeps table hs rs → length hs ≡ length rs
+as_many table hs rs k = sym (length-map Some hs) ∙ ap length k.headed ∙ length-map head_in rs
+
+-- the rules of a world, newest first
+pub world_rules : (W : List Entry) → rules_in W ≡ newest_first (all_rules W)
+world_rules [] = refl
+world_rules (y ∷ W) = ap (λ rs. rs ++ newest_first (rules_in_entry y)) (world_rules W) ∙ sym (newest_append (rules_in_entry y) (all_rules W))
+
+pub all_end : (W : List Entry) (y : Entry) → all_rules (W ++ y ∷ []) ≡ all_rules W ++ rules_in_entry y
+all_end [] y = append-nil (rules_in_entry y)
+all_end (z ∷ W) y = ap (λ rs. rules_in_entry z ++ rs) (all_end W y) ∙ sym (append_assoc (rules_in_entry z) (all_rules W) (rules_in_entry y))
+
+-- the rules of an entry that is added come before those of the world
+pub world_more : (W : List Entry) (y : Entry) → rules_in (W ++ y ∷ []) ≡ newest_first (rules_in_entry y) ++ rules_in W
+world_more W y =
+    world_rules (W ++ y ∷ []) ∙ ap newest_first (all_end W y) ∙ newest_append (all_rules W) (rules_in_entry y)
+    ∙ ap (λ rs. newest_first (rules_in_entry y) ++ rs) (sym (world_rules W))
+
+pub starts_end : (n : ℕ) (W : List Entry) (y : Entry) → starts_from n (W ++ y ∷ []) ≡ starts_from n W ++ (n + length (all_rules W)) ∷ []
+starts_end n [] y = ap (λ k. k ∷ []) (omega arith)
+starts_end n (z ∷ W) y =
+    let sum : (n + length (rules_in_entry z)) + length (all_rules W) ≡ n + length (rules_in_entry z ++ all_rules W) = omega (arith, length-append (rules_in_entry z) (all_rules W)) in
+    ap (λ ks. n ∷ ks) (starts_end (n + length (rules_in_entry z)) W y ∙ ap (λ k. starts_from (n + length (rules_in_entry z)) W ++ k ∷ []) sum)
+
+-- with one entry more
+pub carried_more : (W : List Entry) (y : Entry) (old new : Table) (hs more : List Symbol) (ks ls : List ℕ) (gs : List RewriteRule)
+    → map rule_in gs ≡ rules_in_entry y → ls ≡ ks ++ length hs ∷ []
+    → ((rs : List Rule) → Keeps old hs rs → Keeps new more (rs ++ map rule_in gs))
+    → Carried W old hs ks → Carried (W ++ y ∷ []) new more ls
+carried_more W y old new hs more ks ls gs made started added c = record {
+  keeps = subst (Keeps new more) (ap (λ rs. all_rules W ++ rs) made ∙ sym (all_end W y)) (added (all_rules W) c.keeps);
+  started = started ∙ ap (λ l. l ++ length hs ∷ []) c.started ∙ ap (λ k. starts_from 0 W ++ k ∷ []) count ∙ sym (starts_end 0 W y);
+}
+  where
+    count : length hs ≡ 0 + length (all_rules W)
+    count = as_many old hs (all_rules W) c.keeps ∙ omega arith
+
+take_front : {A : Type 0} (xs ys : List A) → take (length xs) (xs ++ ys) ≡ xs
+take_front [] ys = refl
+take_front (x ∷ xs) ys = ap (λ zs. x ∷ zs) (take_front xs ys)
+
+-- where the rules of the entries from a place on start
+start_at : (n k i : ℕ) (W : List Entry) → slice_get (starts_from n W) k ≡ Some i → i ≡ n + length (all_rules (take k W))
+start_at n k i [] e = absurd (cc e)
+start_at n zero i (y ∷ W) e = let same : n ≡ i = cc in sym same ∙ omega arith
+start_at n (suc k) i (y ∷ W) e =
+    start_at (n + length (rules_in_entry y)) k i W e ∙ omega (arith, length-append (rules_in_entry y) (all_rules (take k W)))
+
+rest_of : (k : ℕ) (W : List Entry) → (R : List Rule) × (all_rules W ≡ all_rules (take k W) ++ R)
+rest_of zero W = (all_rules W, refl)
+rest_of (suc k) [] = ([], refl)
+rest_of (suc k) (y ∷ W) =
+    let (R, is) = rest_of k W in
+    (R, ap (λ rs. rules_in_entry y ++ rs) is ∙ sym (append_assoc (rules_in_entry y) (all_rules (take k W)) R))
+
+first_rules : (k : ℕ) (W : List Entry) → take (length (all_rules (take k W))) (all_rules W) ≡ all_rules (take k W)
+first_rules k W = let (R, is) = rest_of k W in ap (take (length (all_rules (take k W)))) is ∙ take_front (all_rules (take k W)) R
+
+first_starts : (n k : ℕ) (W : List Entry) → take k (starts_from n W) ≡ starts_from n (take k W)
+first_starts n zero W = refl
+first_starts n (suc k) [] = refl
+first_starts n (suc k) (y ∷ W) = ap (λ ks. n ∷ ks) (first_starts (n + length (rules_in_entry y)) k W)
+
+no_more : (n k : ℕ) (W : List Entry) → slice_get (starts_from n W) k ≡ None → take k W ≡ W
+no_more n zero [] e = refl
+no_more n (suc k) [] e = refl
+no_more n zero (y ∷ W) e = absurd (cc e)
+no_more n (suc k) (y ∷ W) e = ap (λ ys. y ∷ ys) (no_more (n + length (rules_in_entry y)) k W e)
+
+-- with the first entries alone
+pub carried_less : (W : List Entry) (k i : ℕ) (old new : Table) (hs fewer : List Symbol) (ks ls : List ℕ)
+    → slice_get ks k ≡ Some i → ls ≡ take k ks → ((rs : List Rule) → Keeps old hs rs → Keeps new fewer (take i rs))
+    → Carried W old hs ks → Carried (take k W) new fewer ls
+carried_less W k i old new hs fewer ks ls there cut kept c = record {
+  keeps = subst (Keeps new fewer) (ap (λ n. take n (all_rules W)) at ∙ first_rules k W) (kept (all_rules W) c.keeps);
+  started = cut ∙ ap (take k) c.started ∙ first_starts 0 k W;
+}
+  where
+    at : i ≡ length (all_rules (take k W))
+    at = start_at 0 k i W (ap (λ l. slice_get l k) (sym c.started) ∙ there) ∙ omega arith
+
+pub carried_all : (W : List Entry) (k : ℕ) (table : Table) (hs : List Symbol) (ks : List ℕ) → slice_get ks k ≡ None → Carried W table hs ks → Carried (take k W) table hs ks
+carried_all W k table hs ks none c = subst (λ X. Carried X table hs ks) (sym (no_more 0 k W (ap (λ l. slice_get l k) (sym c.started) ∙ none))) c
+
+pub carried_none : Carried [] [] [] []
+carried_none = record { keeps = record { has = λ f. refl; headed = refl }; started = refl }

@@ -1,0 +1,40 @@
+-- Why a theorem gives no rules of its classes.
+use Rattle.std.specs.Prelude.{Bool, true, false, cond, ◌&&◌, List, [], ◌∷◌, Option, Some, None}
+use Rattle.ap_list.specs.Lists.{is_within}
+use Rattle.ap_value.specs.declared.symbol.Symbol.{Symbol}
+use Rattle.ap_value.specs.Values.{symbol_eq}
+use Rattle.ap_term.specs.declared.term.Term.{Term, out-Term}
+use Rattle.ap_term.specs.declared.term.Term.TheOpen.{Term-F}
+use Rattle.ap_term.specs.Terms.{vars_after}
+use Rattle.ap_world.specs.declared.entry.RuleClass.{RuleClass}
+use Rattle.ap_world.specs.Names.{if_name}
+use Rattle.ap_world.specs.Rules.{Rule, rules_of_term, vars_in, rewrites}
+use Rattle.ap_rules.specs.declared.refusing.RuleError.{RuleError}
+use Rattle.ap_rules.specs.declared.refusing.RuleError.TheVariants.{LhsVariable, LhsConstant, FreeInRhs}
+
+-- the first of two
+abbrev pub or_else : Option RuleError → Option RuleError → Option RuleError
+or_else None o = o
+or_else (Some e) o = Some e
+
+-- the first that a test gives of a list
+abbrev pub first_refusal : {A : Type 0} → (A → Option RuleError) → List A → Option RuleError
+first_refusal test [] = None
+first_refusal test (x ∷ xs) = or_else (test x) (first_refusal test xs)
+
+-- a left side is a call, and not of `if`
+abbrev pub left_refusal : Term-F Term → Option RuleError
+left_refusal (Term-F.Var x) = Some LhsVariable
+left_refusal (Term-F.Quote v) = Some LhsConstant
+left_refusal (Term-F.Call f ts) = cond (symbol_eq f if_name) (Some LhsConstant) None
+
+-- each variable of the right side is in the left side or in a hypothesis
+abbrev pub right_refusal : Rule → Option RuleError
+right_refusal r = cond (is_within symbol_eq (vars_after r.rhs []) (vars_in r.hyps (vars_after r.lhs []))) None (Some FreeInRhs)
+
+abbrev pub rule_refusal : Rule → Option RuleError
+rule_refusal r = or_else (left_refusal (out-Term r.lhs)) (right_refusal r)
+
+-- a theorem as rewrite rules, its conjuncts in their order
+abbrev pub rewrite_refusal : Symbol → Term → Option RuleError
+rewrite_refusal name u = first_refusal rule_refusal (rules_of_term name u)

@@ -1,0 +1,140 @@
+ghost use Rattle.std.specs.Prelude.{◌≡◌, IfOk, map, true};
+ghost use Rattle.ap_list.specs.Lists.{Each};
+ghost use Rattle.ap_term.specs.declared.term.Term.{out-Term};
+ghost use Rattle.ap_world.specs.Rules.{is_left, rules_from, rules_of_term, rewrites, sound_rules, rules_in_entry};
+ghost use Rattle.ap_world.specs.declared.entry.Entry.TheVariants as entry;
+ghost use Rattle.ap_rules.specs.Made.{rule_in, part_rule};
+
+use crate::refusing::rewrite_refusal;
+use crate::rule::RewriteRule;
+use crate::statement::{sides, state};
+use ap_list::{NoMemory, Seq};
+use ap_term::{Term, copy_terms};
+use ap_value::{Symbol, copy_symbol};
+use ap_world::{Entry, RuleClass};
+use std::alloc::{AllocError, Global};
+
+/// The rule of a conjunct.
+fn rule_of(
+    alloc: Global,
+    name: &Symbol,
+    hyps: &[Term],
+    part: u32,
+    t: &Term,
+) -> Result<RewriteRule, NoMemory>
+    ensures { IfOk result (λ g. rule_in g ≡ part_rule name.now hyps.now part t.now) }
+{
+    let sides = sides(alloc, t)?;
+    let theorem = copy_symbol(alloc, name)?;
+    let hyps = copy_terms(alloc, hyps)?;
+    Ok(RewriteRule {
+        theorem,
+        part,
+        iff: sides.iff,
+        lhs: sides.lhs,
+        rhs: sides.rhs,
+        hyps,
+    })
+}
+
+/// A number of 32 bits. A theorem with more conjuncts doesn't fit the memory.
+fn numbered(place: usize) -> Result<u32, NoMemory>
+    ensures { IfOk result (λ n. n ≡ place) }
+{
+    match u32::try_from(place) {
+        Ok(number) => Ok(number),
+        Err(_) => Err(AllocError),
+    }
+}
+
+/// The rules of conjuncts under hypotheses, in their order.
+fn rules_from(
+    alloc: Global,
+    name: &Symbol,
+    hyps: &[Term],
+    parts: &[Term],
+) -> Result<Seq<RewriteRule>, NoMemory>
+    ensures { IfOk result (λ gs. map rule_in gs ≡ rules_from name.now hyps.now 0 parts.now) }
+{
+    let mut out = Seq::new(alloc);
+    for (place, t) in parts.iter().enumerate() {
+        out.push(rule_of(alloc, name, hyps, numbered(place)?, t)?)?;
+    }
+    Ok(out)
+}
+
+/// The rules that a theorem's term has, in the order of its conjuncts, whether or not they are refused.
+pub(crate) fn parts_of(
+    alloc: Global,
+    name: &Symbol,
+    t: &Term,
+) -> Result<Seq<RewriteRule>, NoMemory>
+    ensures { IfOk result (λ gs. map rule_in gs ≡ rules_of_term name.now t.now) }
+{
+    let statement = state(alloc, t)?;
+    rules_from(
+        alloc,
+        name,
+        statement.hyps.as_slice(),
+        statement.parts.as_slice(),
+    )
+}
+
+/// Whether the classes have that of rewrite rules.
+pub(crate) fn rewrites(classes: &[RuleClass]) -> bool
+    ensures { result ≡ rewrites classes.now }
+{
+    let mut left = classes;
+    while let [first, rest @ ..] = left {
+        if matches!(first, RuleClass::Rewrite) {
+            return true;
+        }
+        left = rest;
+    }
+    false
+}
+
+/// The rules, or none where one of them is refused.
+fn sound_rules(alloc: Global, rules: Seq<RewriteRule>) -> Result<Seq<RewriteRule>, NoMemory>
+    ensures made { IfOk result (λ gs. map rule_in gs ≡ sound_rules (map rule_in rules)) }
+    ensures left { IfOk result (λ gs. Each (λ g. is_left (out-Term g.lhs) ≡ true) gs) }
+{
+    match rewrite_refusal(alloc, rules.as_slice())? {
+        None => Ok(rules),
+        Some(_) => Ok(Seq::new(alloc)),
+    }
+}
+
+/// The rules that a theorem gives.
+pub(crate) fn theorem_rules(
+    alloc: Global,
+    name: &Symbol,
+    term: &Term,
+    classes: &[RuleClass],
+) -> Result<Seq<RewriteRule>, NoMemory>
+    ensures made { IfOk result (λ gs. map rule_in gs ≡ rules_in_entry (entry.Theorem (record { name = name.now; term = term.now; classes = classes.now }))) }
+    ensures left { IfOk result (λ gs. Each (λ g. is_left (out-Term g.lhs) ≡ true) gs) }
+{
+    if !rewrites(classes) {
+        return Ok(Seq::new(alloc));
+    }
+    let rules = parts_of(alloc, name, term)?;
+    sound_rules(alloc, rules)
+}
+
+/// The rules that an entry gives.
+pub(crate) fn entry_rules(alloc: Global, entry: &Entry) -> Result<Seq<RewriteRule>, NoMemory>
+    ensures made { IfOk result (λ gs. map rule_in gs ≡ rules_in_entry entry.now) }
+    ensures left { IfOk result (λ gs. Each (λ g. is_left (out-Term g.lhs) ≡ true) gs) }
+{
+    match entry {
+        Entry::Theorem(theorem) => theorem_rules(
+            alloc,
+            &theorem.name,
+            &theorem.term,
+            theorem.classes.as_slice(),
+        ),
+        Entry::Function(_) => Ok(Seq::new(alloc)),
+        Entry::Constant(_, _) => Ok(Seq::new(alloc)),
+    }
+}

@@ -1,0 +1,204 @@
+ghost use Rattle.std.specs.Prelude.{◌≡◌, [], ◌∷◌, ◌++◌, true, IfOk, OnOk};
+ghost use Rattle.ap_value.specs.Values.{symbol_eq};
+ghost use Rattle.ap_world.specs.Clauses.{is_nil, conjuncts};
+ghost use Rattle.ap_world.specs.Names.{if_name, not_name, equal_name, implies_name, iff_name};
+ghost use Rattle.ap_world.specs.Recursion.{nil_constant, t_constant};
+ghost use Rattle.ap_world.specs.Rules.{stated, call_sides, sides};
+
+use ap_list::{NoMemory, Seq};
+use ap_term::{Term, copy_term};
+use ap_value::{Symbol, Value, is_named, named};
+use std::alloc::Global;
+
+/// A theorem's hypotheses, and the conjuncts of its conclusion.
+#[derive(Drop)]
+pub(crate) struct Statement {
+    pub hyps: Seq<Term>,
+    pub parts: Seq<Term>,
+}
+
+/// How a conjunct is read: whether as an equivalence of truth alone, and its two sides.
+#[derive(Drop)]
+pub(crate) struct Reading {
+    pub iff: bool,
+    pub lhs: Term,
+    pub rhs: Term,
+}
+
+/// Whether a symbol is `if`.
+#[tactic(auto, unfolding(ap_world::specs::Names::if_name))]
+pub(crate) fn is_if(symbol: &Symbol) -> bool
+    ensures { result ≡ symbol_eq symbol.now if_name }
+{
+    is_named(symbol, b"IF")
+}
+
+/// Whether a symbol is `implies`.
+#[tactic(auto, unfolding(ap_world::specs::Names::implies_name))]
+fn is_implies(symbol: &Symbol) -> bool
+    ensures { result ≡ symbol_eq symbol.now implies_name }
+{
+    is_named(symbol, b"IMPLIES")
+}
+
+/// Whether a symbol is `equal`.
+#[tactic(auto, unfolding(ap_world::specs::Names::equal_name))]
+fn is_equal(symbol: &Symbol) -> bool
+    ensures { result ≡ symbol_eq symbol.now equal_name }
+{
+    is_named(symbol, b"EQUAL")
+}
+
+/// Whether a symbol is `iff`.
+#[tactic(auto, unfolding(ap_world::specs::Names::iff_name))]
+fn is_iff(symbol: &Symbol) -> bool
+    ensures { result ≡ symbol_eq symbol.now iff_name }
+{
+    is_named(symbol, b"IFF")
+}
+
+/// Whether a symbol is `not`.
+#[tactic(auto, unfolding(ap_world::specs::Names::not_name))]
+pub(crate) fn is_not(symbol: &Symbol) -> bool
+    ensures { result ≡ symbol_eq symbol.now not_name }
+{
+    is_named(symbol, b"NOT")
+}
+
+/// Whether a term is a constant that means `nil`.
+fn is_nil_term(t: &Term) -> bool
+    ensures { result ≡ is_nil t.now }
+{
+    match t {
+        Term::Quote(Value::Sym(symbol)) => is_named(symbol, b"NIL"),
+        _ => false,
+    }
+}
+
+/// The constant `'NIL`. Takes no memory.
+#[tactic(auto, unfolding(ap_world::specs::Names::nil_name))]
+fn nil_term() -> Term
+    ensures { result ≡ nil_constant }
+{
+    Term::Quote(Value::Sym(named(b"NIL")))
+}
+
+/// The constant `'T`. Takes no memory.
+#[tactic(auto, unfolding(ap_world::specs::Names::t_name))]
+fn t_term() -> Term
+    ensures { result ≡ t_constant }
+{
+    Term::Quote(Value::Sym(named(b"T")))
+}
+
+/// Adds the conjuncts of a term.
+#[tactic(auto, using(crate::proofs::Stated::conjoining))]
+fn push_conjuncts(alloc: Global, out: &mut Seq<Term>, t: &Term) -> Result<(), NoMemory>
+    ensures { OnOk result (out.new ≡ out.old ++ conjuncts t.now) }
+{
+    match t {
+        Term::Call(f, ts) => match (is_if(f), ts.as_slice()) {
+            (true, [a, b, c]) => {
+                if !is_nil_term(c) {
+                    return out.push(copy_term(alloc, t)?);
+                }
+                push_conjuncts(alloc, out, a)?;
+                push_conjuncts(alloc, out, b)
+            }
+            _ => out.push(copy_term(alloc, t)?),
+        },
+        Term::Var(_) => out.push(copy_term(alloc, t)?),
+        Term::Quote(_) => out.push(copy_term(alloc, t)?),
+    }
+}
+
+/// Adds the hypotheses of a theorem, and answers its conclusion.
+#[tactic(auto, using(crate::proofs::Stated::stating))]
+fn push_hyps<'a>(alloc: Global, hyps: &mut Seq<Term>, t: &'a Term) -> Result<&'a Term, NoMemory>
+    ensures hyps { OnOk result (hyps.new ≡ hyps.old ++ (stated t.now).0) }
+    ensures rest { IfOk result (λ u. u.now ≡ (stated t.now).1) }
+{
+    match t {
+        Term::Call(f, ts) => match (is_implies(f), ts.as_slice()) {
+            (true, [h, c]) => {
+                push_conjuncts(alloc, hyps, h)?;
+                push_hyps(alloc, hyps, c)
+            }
+            _ => Ok(t),
+        },
+        Term::Var(_) => Ok(t),
+        Term::Quote(_) => Ok(t),
+    }
+}
+
+/// The hypotheses of a theorem and the conjuncts of its conclusion.
+pub(crate) fn state(alloc: Global, t: &Term) -> Result<Statement, NoMemory>
+    ensures hyps { IfOk result (λ s. s.hyps ≡ (stated t.now).0) }
+    ensures parts { IfOk result (λ s. s.parts ≡ conjuncts (stated t.now).1) }
+{
+    let mut hyps = Seq::new(alloc);
+    let conclusion = push_hyps(alloc, &mut hyps, t)?;
+    let mut parts = Seq::new(alloc);
+    push_conjuncts(alloc, &mut parts, conclusion)?;
+    Ok(Statement { hyps, parts })
+}
+
+/// Two terms as the sides of an equation.
+fn both(alloc: Global, iff: bool, a: &Term, b: &Term) -> Result<Reading, NoMemory>
+    ensures { IfOk result (λ s. (s.iff, s.lhs, s.rhs) ≡ (iff, a.now, b.now)) }
+{
+    let lhs = copy_term(alloc, a)?;
+    let rhs = copy_term(alloc, b)?;
+    Ok(Reading { iff, lhs, rhs })
+}
+
+/// A term that isn't `nil`.
+fn alone(alloc: Global, t: &Term) -> Result<Reading, NoMemory>
+    ensures { IfOk result (λ s. (s.iff, s.lhs, s.rhs) ≡ (true, t.now, t_constant)) }
+{
+    let lhs = copy_term(alloc, t)?;
+    Ok(Reading {
+        iff: true,
+        lhs,
+        rhs: t_term(),
+    })
+}
+
+/// How a call of two arguments is read.
+fn two_sides(alloc: Global, t: &Term, f: &Symbol, a: &Term, b: &Term) -> Result<Reading, NoMemory>
+    ensures { IfOk result (λ s. (s.iff, s.lhs, s.rhs) ≡ call_sides (symbol_eq f.now equal_name) (symbol_eq f.now iff_name) (symbol_eq f.now not_name) (a.now ∷ b.now ∷ []) (true, t.now, t_constant)) }
+{
+    if is_equal(f) {
+        return both(alloc, false, a, b);
+    }
+    if is_iff(f) {
+        return both(alloc, true, a, b);
+    }
+    alone(alloc, t)
+}
+
+/// How a call of one argument is read.
+fn one_side(alloc: Global, t: &Term, f: &Symbol, a: &Term) -> Result<Reading, NoMemory>
+    ensures { IfOk result (λ s. (s.iff, s.lhs, s.rhs) ≡ call_sides (symbol_eq f.now equal_name) (symbol_eq f.now iff_name) (symbol_eq f.now not_name) (a.now ∷ []) (true, t.now, t_constant)) }
+{
+    if is_not(f) {
+        return both(alloc, false, a, &nil_term());
+    }
+    alone(alloc, t)
+}
+
+/// How a conjunct is read: `(equal l r)` and `(iff l r)` by their parts, `(not p)` as p to `'NIL`, and another p
+/// as p to `'T` under iff.
+pub(crate) fn sides(alloc: Global, t: &Term) -> Result<Reading, NoMemory>
+    ensures { IfOk result (λ s. (s.iff, s.lhs, s.rhs) ≡ sides t.now) }
+{
+    match t {
+        Term::Call(f, ts) => match ts.as_slice() {
+            [a, b] => two_sides(alloc, t, f, a, b),
+            [a] => one_side(alloc, t, f, a),
+            _ => alone(alloc, t),
+        },
+        Term::Var(_) => alone(alloc, t),
+        Term::Quote(_) => alone(alloc, t),
+    }
+}
