@@ -9,6 +9,7 @@ mod calls;
 mod equating;
 mod facts;
 pub mod laws;
+mod literals;
 mod opening;
 mod ordering;
 mod refuting;
@@ -22,5 +23,6 @@ mod shaping;
 mod testing;
 mod trying;
 
+pub use literals::literal;
 pub use rewriter::{Place, Rewriter, Run};
 pub use rewriting::rewrite;

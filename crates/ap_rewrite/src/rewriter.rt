@@ -30,6 +30,7 @@ pub struct Place<'a> {
 }
 
 /// What changes while terms are rewritten: the number of steps that are left.
+#[derive(Clone, Copy, Debug)]
 pub struct Run {
     pub left: u32,
 }
