@@ -1,5 +1,5 @@
 -- The arguments of a call, one after another.
-use Rattle.std.proofs.Common.{◌≡◌, ℕ, ◌+◌, List, [], ◌∷◌, ◌++◌, map, take, drop, length, Option, Some, None, refl, sym, ap, ◌∙◌, subst, append_assoc}
+use Rattle.std.proofs.Common.{◌≡◌, ℕ, suc, ◌+◌, ◌<◌, List, [], ◌∷◌, ◌++◌, map, take, drop, length, Option, Some, None, refl, sym, ap, ◌∙◌, subst, append_assoc, get_or, drop-cons, add-one}
 use Rattle.std.proofs.Math.ListN.{length-map}
 use Rattle.ap_list.specs.Lists.{Each}
 use Rattle.ap_term.specs.declared.term.Term.{Term}
@@ -34,19 +34,18 @@ pub behind_none : (g : Got (List Term)) → g ≡ behind [] g
 behind_none None = refl
 behind_none (Some p) = refl
 
+append_nil : (us : List Term) → us ++ [] ≡ us
+append_nil [] = refl
+append_nil (u ∷ us) = ap (λ x. u ∷ x) (append_nil us)
+
 pub behind_all : (done : List Term) (n : ℕ) → behind done (Some ([], n)) ≡ Some (done, n)
-behind_all [] n = refl
-behind_all (u ∷ us) n = let e : behind us (Some ([], n)) ≡ Some (us, n) = behind_all us n in let k : us ++ [] ≡ us = cc in rw k refl
+behind_all done n = ap (λ us. Some (us, n)) (append_nil done)
 
 -- what the loop keeps: what is left, behind what is done, gives what all give
-pub record ArgumentsDone (w : Shown) (c : Ctx) (g all : Got (List Term)) (us : List Term) (qs : List Equiv) : Type 0 where
+pub record ArgumentsDone (w : Shown) (c : Ctx) (g all : Got (List Term)) (rest us : List Term) (qs : List Equiv) : Type 0 where
   pub is : all ≡ behind (rights (said qs)) g
-  pub left : lefts (said qs) ≡ us
+  pub left : lefts (said qs) ++ rest ≡ us
   pub each : Each (Leads w Equal c) qs
-
-said_snoc : (f : Equiv → Term) (qs : List Equiv) (q : Equiv) → map f (qs ++ q ∷ []) ≡ map f qs ++ f q ∷ []
-said_snoc f [] q = refl
-said_snoc f (p ∷ qs) q = ap (λ us. f p ∷ us) (said_snoc f qs q)
 
 pub lefts_snoc : (qs : List Equiv) (q : Equiv) → lefts (said (qs ++ q ∷ [])) ≡ lefts (said qs) ++ q.says.lhs ∷ []
 lefts_snoc [] q = refl
@@ -61,22 +60,44 @@ each_snoc P [] q h k = (k, tt)
 each_snoc P (p ∷ qs) q h k = (h.0, each_snoc P qs q h.1 k)
 
 -- one argument more
-pub argument_done : (w : Shown) (c : Ctx) (S : Setting) (r : Inner) (p : Place) (all : Got (List Term)) (u : Term) (rest us : List Term) (qs out : List Equiv) (n m : ℕ) (q : Equiv)
-    → ArgumentsDone w c (rewrite_args S r p (u ∷ rest) n) all us qs → Some (q.says.rhs, m) ≡ r Equal p u n → From w Equal c u q → out ≡ qs ++ q ∷ []
-    → ArgumentsDone w c (rewrite_args S r p rest m) all (us ++ u ∷ []) out
-argument_done w c S r p all u rest us qs out n m q h is f e = record {
+pub argument_done : (w : Shown) (c : Ctx) (S : Setting) (r : Inner) (p : Place) (all : Got (List Term)) (u : Term) (front rest us : List Term) (qs out : List Equiv) (n m : ℕ) (q : Equiv)
+    → front ≡ u ∷ rest → ArgumentsDone w c (rewrite_args S r p front n) all front us qs → Some (q.says.rhs, m) ≡ r Equal p u n → From w Equal c u q → out ≡ qs ++ q ∷ []
+    → ArgumentsDone w c (rewrite_args S r p rest m) all rest us out
+argument_done w c S r p all u front rest us qs out n m q at h is f e = record {
   is =
-      h.is ∙ behind_next S r p u rest (rights (said qs)) n q.says.rhs m is
+      h.is
+      ∙ ap (λ x. behind (rights (said qs)) (rewrite_args S r p x n)) at
+      ∙ behind_next S r p u rest (rights (said qs)) n q.says.rhs m is
       ∙ ap (λ done. behind done (rewrite_args S r p rest m)) (sym (ap (λ x. rights (said x)) e ∙ rights_snoc qs q));
-  left = ap (λ x. lefts (said x)) e ∙ lefts_snoc qs q ∙ ap (λ x. x ++ q.says.lhs ∷ []) h.left ∙ ap (λ x. us ++ x ∷ []) f.lhs;
+  left =
+      ap (λ x. lefts (said x) ++ rest) e
+      ∙ ap (λ x. x ++ rest) (lefts_snoc qs q ∙ ap (λ x. lefts (said qs) ++ x ∷ []) f.lhs)
+      ∙ append_assoc (lefts (said qs)) (u ∷ []) rest
+      ∙ ap (λ x. lefts (said qs) ++ x) (sym at)
+      ∙ h.left;
   each = subst (Each (Leads w Equal c)) (sym e) (each_snoc (Leads w Equal c) qs q h.each (record { stands = f.stands; ctx = f.ctx; mode = f.mode; lhs = refl }));
 }
 
-pub none_done : (w : Shown) (c : Ctx) (g : Got (List Term)) → ArgumentsDone w c g g [] []
-none_done w c g = record { is = behind_none g; left = refl; each = tt }
+-- an argument for which the steps ran out
+pub argument_out : (w : Shown) (c : Ctx) (S : Setting) (r : Inner) (p : Place) (all : Got (List Term)) (u : Term) (front rest us : List Term) (qs : List Equiv) (n : ℕ)
+    → front ≡ u ∷ rest → ArgumentsDone w c (rewrite_args S r p front n) all front us qs → None ≡ r Equal p u n → None ≡ all
+argument_out w c S r p all u front rest us qs n at h is =
+    sym (h.is ∙ ap (λ x. behind (rights (said qs)) (rewrite_args S r p x n)) at ∙ behind_out S r p u rest (rights (said qs)) n is)
 
-pub all_done : (w : Shown) (c : Ctx) (all : Got (List Term)) (us : List Term) (qs : List Equiv) (m : ℕ) → ArgumentsDone w c (Some ([], m)) all us qs → got_all (Some qs) m ≡ all
-all_done w c all us qs m h = sym (h.is ∙ behind_all (rights (said qs)) m)
+pub none_done : (w : Shown) (c : Ctx) (g : Got (List Term)) (us : List Term) → ArgumentsDone w c g g us us []
+none_done w c g us = record { is = behind_none g; left = refl; each = tt }
+
+-- all are done
+pub all_done : (w : Shown) (c : Ctx) (S : Setting) (r : Inner) (p : Place) (all : Got (List Term)) (rest us : List Term) (qs : List Equiv) (m : ℕ) → rest ≡ []
+    → ArgumentsDone w c (rewrite_args S r p rest m) all rest us qs → (got_all (Some qs) m ≡ all) × (lefts (said qs) ≡ us)
+all_done w c S r p all rest us qs m at h = (
+  sym (h.is ∙ ap (λ x. behind (rights (said qs)) (rewrite_args S r p x m)) at ∙ behind_all (rights (said qs)) m),
+  sym (append_nil (lefts (said qs))) ∙ ap (λ x. lefts (said qs) ++ x) (sym at) ∙ h.left,
+)
+
+-- what stands from a place on begins with what is there
+pub from_place : {A : Type 0} (xs : List A) (i : ℕ) (a : A) → i < length xs → a ≡ get_or xs i a → drop i xs ≡ a ∷ drop (i + 1) xs
+from_place xs i a h e = drop-cons xs i a h ∙ ap (λ z. z ∷ drop (suc i) xs) (sym e) ∙ ap (λ k. a ∷ drop k xs) (sym (add-one i))
 
 -- as many
 pub lefts_many : (qs : List Equiv) → length (lefts (said qs)) ≡ length qs

@@ -1,5 +1,5 @@
 -- Equivalences from a term, under facts and a mode.
-use Rattle.std.proofs.Common.{◌≡◌, Bool, true, false, List, [], ◌∷◌, map, length, Option, Some, None, IsTrue, refl, sym, ap, ◌∙◌, subst}
+use Rattle.std.proofs.Common.{◌≡◌, Bool, true, false, List, [], ◌∷◌, map, length, Option, Some, None, is_some, IfSome, IsTrue, refl, sym, ap, ◌∙◌, subst}
 use Rattle.std.specs.Option.{option_map}
 use Rattle.ap_list.specs.Lists.{Each}
 use Rattle.ap_value.specs.declared.symbol.Symbol.{Symbol}
@@ -8,6 +8,7 @@ use Rattle.ap_term.specs.declared.term.Term.{Term, Call}
 use Rattle.ap_world.specs.Meaning.{Defs}
 use Rattle.ap_world.specs.World.{Shown, function_of}
 use Rattle.ap_world.specs.Facts.{Facts}
+use Rattle.ap_world.specs.Assume.{assume}
 use Rattle.ap_world.specs.Names.{if_name, not_name}
 use Rattle.ap_world.specs.Clauses.{not_of}
 use Rattle.ap_world.specs.Sound.{known}
@@ -16,12 +17,12 @@ use Rattle.ap_world.proofs.Knowing.{known_args, each_true}
 use Rattle.ap_world.proofs.Shaped.{Says, shape_says}
 use Rattle.ap_kernel.specs.declared.objects.Ctx.{Ctx}
 use Rattle.ap_kernel.specs.declared.objects.Mode.{Mode}
-use Rattle.ap_kernel.specs.declared.objects.Mode.TheVariants.{Equal}
+use Rattle.ap_kernel.specs.declared.objects.Mode.TheVariants.{Equal, Iff}
 use Rattle.ap_kernel.specs.declared.objects.Sequent.{Sequent}
 use Rattle.ap_kernel.specs.declared.objects.Equiv.{Equiv}
 use Rattle.ap_kernel.specs.Standing.{Stands}
-use Rattle.ap_kernel.specs.Answers.{if_of, ModeFits}
-use Rattle.ap_rewrite.specs.Leading.{leads_made, said_of}
+use Rattle.ap_kernel.specs.Answers.{if_of, ModeFits, trans_made, branch_made}
+use Rattle.ap_rewrite.specs.Leading.{leads_made, said_of, Serves}
 use Rattle.ap_rewrite.specs.Answering.{From, right_of}
 
 -- what a row made
@@ -78,3 +79,45 @@ call_parts D f us k = each_true (known D) us (known_args D f us k)
 pub equal_fits : (b : Bool) (m : Mode) → m ≡ Equal → ModeFits b m
 equal_fits true m e = tt
 equal_fits false m e = e
+
+-- one after another
+pub from_followed : (w : Shown) (o : Mode) (c : Ctx) (a b q : Equiv) → From w o c a.says.lhs a → Stands w q → q.says ≡ trans_made a.says b.says → From w o c a.says.lhs q
+from_followed w o c a b q f s e = record {
+  stands = s;
+  ctx = ap (λ (x : Sequent). x.ctx) e ∙ f.ctx;
+  mode = ap (λ (x : Sequent). x.mode) e ∙ f.mode;
+  lhs = ap (λ (x : Sequent). x.lhs) e;
+}
+
+-- an `if` of what its parts lead to
+pub from_joined : (w : Shown) (o : Mode) (c : Ctx) (a b d q : Equiv) → From w Iff c a.says.lhs a → Stands w q → q.says ≡ branch_made o a.says b.says d.says
+    → From w o c (if_of a.says.lhs b.says.lhs d.says.lhs) q
+from_joined w o c a b d q f s e = record {
+  stands = s;
+  ctx = ap (λ (x : Sequent). x.ctx) e ∙ f.ctx;
+  mode = ap (λ (x : Sequent). x.mode) e;
+  lhs = ap (λ (x : Sequent). x.lhs) e;
+}
+
+-- the facts of a branch
+pub under_facts : (a b : Equiv) (c : Ctx) (s : Bool) → a.says.ctx ≡ c → b.says.ctx ≡ record { 0 = assume c.0 a.says.rhs s } → b.says.ctx.0 ≡ assume a.says.ctx.0 a.says.rhs s
+under_facts a b c s e k = facts_of b.says.ctx (assume c.0 a.says.rhs s) k ∙ ap (λ (x : Ctx). assume x.0 a.says.rhs s) (sym e)
+
+-- the sides and the facts of what comes from a known term are those of the world
+pub left_known : (w : Shown) (o : Mode) (c : Ctx) (u : Term) (q : Equiv) → From w o c u q → known (function_of w.entries) u ≡ true
+left_known w o c u q f = subst (λ x. known (function_of w.entries) x ≡ true) f.lhs f.stands.says.left
+
+pub right_known : (w : Shown) (o : Mode) (c : Ctx) (u : Term) (q : Equiv) → From w o c u q → known (function_of w.entries) q.says.rhs ≡ true
+right_known w o c u q f = f.stands.says.right
+
+-- equality serves under both modes
+pub equal_serves : (m o : Mode) → m ≡ Equal → Serves m o
+equal_serves m o e = subst (λ x. Serves x o) (sym e) tt
+
+pub mode_made : (o : Mode) (c : Ctx) (u v : Term) (p q : Equiv) → p.says ≡ leads_made c Equal u v → q.says ≡ leads_made p.says.ctx o p.says.lhs p.says.rhs → q.says ≡ leads_made c o u v
+mode_made o c u v p q e k = k ∙ ap (λ (x : Sequent). leads_made x.ctx o x.lhs x.rhs) e
+
+-- the answer that there is
+pub if_some : {A : Type 0} (o : Option A) (P : A → Type 0) → is_some o ≡ true → IfSome o P → (u : A) × (o ≡ Some u) × P u
+if_some None P h k = cc
+if_some (Some u) P h k = (u, refl, k)

@@ -1,4 +1,4 @@
-use Rattle.std.proofs.Common.{◌≡◌, take, drop}
+use Rattle.std.proofs.Common.{drop}
 use Rattle.ap_rewrite.specs.Rewriting.{rewrite_args}
 use Rattle.ap_rewrite.specs.Answering.{setting_of, inner_of, seen_at}
 use Rattle.ap_rewrite.proofs.Arguments.{ArgumentsDone}
@@ -9,4 +9,4 @@ abbrev pub invariant-loop-u : goal.invariant-loop-u
 invariant-loop-u g l = ArgumentsDone l.l.r.now.w.now l.at.ctx.now
     (rewrite_args (setting_of l.l.r.now) (inner_of l.l.r.now l.l.levels) (seen_at l.at) (drop l.u-index l.us) l.run.left)
     (rewrite_args (setting_of l.l.r.now) (inner_of l.l.r.now l.l.levels) (seen_at l.at) l.us l.fn.run.left)
-    (take l.u-index l.us) l.out
+    (drop l.u-index l.us) l.us l.out
