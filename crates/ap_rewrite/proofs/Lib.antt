@@ -26,3 +26,4 @@ pub mod Chosen
 pub mod Arguments
 pub mod Walked
 pub mod Chained
+pub mod Reliefs

@@ -1,11 +1,12 @@
 -- The walk down a body, as the code takes it.
-use Rattle.std.proofs.Common.{◌≡◌, ℕ, Bool, true, false, List, [], ◌∷◌, map, Option, Some, None, refl, sym, ap, ◌∙◌, subst}
+use Rattle.std.proofs.Common.{◌≡◌, ℕ, ◌+◌, ◌*◌, ◌<◌, arith, Bool, true, false, cond, List, [], ◌∷◌, map, Option, Some, None, refl, sym, ap, ◌∙◌, subst}
 use Rattle.ap_value.specs.declared.symbol.Symbol.{Symbol}
 use Rattle.ap_value.specs.declared.value.Value.{Value}
 use Rattle.ap_term.specs.declared.term.Term.{Term, Var, Quote, Call}
 use Rattle.ap_term.specs.Metered.{after}
+use Rattle.ap_term.specs.Terms.{size_step, term_size}
 use Rattle.ap_list.specs.Lists.{Each}
-use Rattle.ap_term.proofs.Induction.{term_ind, para_var, para_quote, para_call}
+use Rattle.ap_term.proofs.Induction.{term_ind, fold_call, para_var, para_quote, para_call}
 use Rattle.ap_world.specs.Names.{if_name}
 use Rattle.ap_world.specs.Shapes.{Shape, constant, choice, negation, equation, pair, other, Head, if_head, not_head, equal_head, cons_head, head_of, call_shape, shape_of}
 use Rattle.ap_world.proofs.Equations.{names_open}
@@ -106,3 +107,14 @@ no_branches u (lent.Not a) e h = rw (← e) refl
 no_branches u (lent.Equal a b) e h = rw (← e) refl
 no_branches u (lent.Cons a b) e h = rw (← e) refl
 no_branches u lent.Other e h = rw (← e) refl
+
+-- the branches of an `if` are smaller, and so is the one that is taken
+pub branches_smaller : (u a b c : Term) → u ≡ if_of a b c → 2 * (term_size b + term_size c) + 1 < 2 * term_size u
+branches_smaller u a b c is =
+    let e : term_size (if_of a b c) ≡ (term_size a + (term_size b + (term_size c + 0))) + 1 = fold_call size_step if_name (a ∷ b ∷ c ∷ []) in
+    let k : term_size u ≡ (term_size a + (term_size b + (term_size c + 0))) + 1 = ap term_size is ∙ e in
+    omega (arith, k)
+
+pub branch_smaller : (s : Bool) (u b c : Term) → u ≡ cond s b c → 2 * term_size u < 2 * (term_size b + term_size c) + 1
+branch_smaller true u b c is = let k : term_size u ≡ term_size b = ap term_size is in omega (arith, k)
+branch_smaller false u b c is = let k : term_size u ≡ term_size c = ap term_size is in omega (arith, k)
