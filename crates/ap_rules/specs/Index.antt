@@ -3,7 +3,7 @@ use Rattle.std.specs.Prelude.{◌≡◌, List}
 use Rattle.ap_value.specs.declared.symbol.Symbol.{Symbol}
 use Rattle.ap_world.specs.declared.entry.Entry.{Entry}
 use Rattle.ap_world.specs.Rules.{Rule, rules_in}
-use Rattle.ap_rules.specs.declared.index.RuleIndex.{RuleIndex}
+use Rattle.ap_rules.specs.declared.table.RuleIndex.{RuleIndex}
 use Rattle.ap_rules.specs.Grouped.{grouped_at}
 use Rattle.ap_rules.specs.Indexed.{rules_for}
 

@@ -35,6 +35,10 @@ right_refusal r = cond (is_within symbol_eq (vars_after r.rhs []) (vars_in r.hyp
 abbrev pub rule_refusal : Rule → Option RuleError
 rule_refusal r = or_else (left_refusal (out-Term r.lhs)) (right_refusal r)
 
--- a theorem as rewrite rules, its conjuncts in their order
-abbrev pub rewrite_refusal : Symbol → Term → Option RuleError
-rewrite_refusal name u = first_refusal rule_refusal (rules_of_term name u)
+-- the rewrite rules that a theorem asks for, whether or not they are refused
+abbrev pub asked_rules : Symbol → Term → List RuleClass → List Rule
+asked_rules name u cs = cond (rewrites cs) (rules_of_term name u) []
+
+-- the rewrite rules are looked at first, a conjunct after another
+abbrev pub refusal : Symbol → Term → List RuleClass → Option RuleError
+refusal name u cs = first_refusal rule_refusal (asked_rules name u cs)

@@ -6,7 +6,7 @@ ghost use Rattle.ap_world.specs.Rules.{Rule, is_left, rules_in_entry};
 ghost use Rattle.ap_rules.specs.Made.{rule_in};
 ghost use Rattle.ap_rules.specs.Carried.{Keeps, Carried};
 
-use crate::index::{Groups, RuleIndex};
+use crate::table::{Groups, RuleIndex};
 use crate::making::entry_rules;
 use crate::rule::RewriteRule;
 use ap_list::{NoMemory, Seq};

@@ -17,7 +17,7 @@ pub(crate) struct Group {
 }
 
 impl Model for Group {
-    ghost use Rattle.std.specs.Prelude.{List};
+    ghost use Rattle.std.specs.Prelude.{◌≤◌, List, drop, vec_len};
     ghost use Rattle.std.specs.Coded.{coded_list};
     ghost use Rattle.ap_rules.specs.declared.rule.RewriteRule.{RewriteRule};
     ghost use Rattle.ap_rules.specs.contracts.rule.RewriteRule as rule;

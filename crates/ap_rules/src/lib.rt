@@ -8,21 +8,21 @@
 
 mod carrying;
 mod group;
-mod index;
+mod table;
 mod laws;
 mod making;
 mod refusing;
 mod rule;
-mod ruled;
+mod worlds;
 mod statement;
 
 pub use ap_list::{NoMemory, Seq};
 pub use ap_term::Term;
 pub use ap_value::Symbol;
 pub use ap_world::{RuleClass, World};
-pub use index::{Groups, RuleIndex, by_head};
+pub use table::{Groups, RuleIndex, by_head};
 pub use laws::rules_are_parts;
+pub use making::rules_of;
 pub use refusing::RuleError;
 pub use rule::RewriteRule;
-pub use ruled::{Ruled, index};
-mod tests;
+pub use worlds::{Ruled, index};

@@ -1,11 +1,12 @@
-ghost use Rattle.std.specs.Prelude.{◌≡◌, IfOk, map, true};
+ghost use Rattle.std.specs.Prelude.{◌≡◌, ◌⊎◌, IfOk, IfErr, OnOk, None, Some, map, true};
 ghost use Rattle.ap_list.specs.Lists.{Each};
 ghost use Rattle.ap_term.specs.declared.term.Term.{out-Term};
 ghost use Rattle.ap_world.specs.Rules.{is_left, rules_from, rules_of_term, rewrites, sound_rules, rules_in_entry};
 ghost use Rattle.ap_world.specs.declared.entry.Entry.TheVariants as entry;
 ghost use Rattle.ap_rules.specs.Made.{rule_in, part_rule};
+ghost use Rattle.ap_rules.specs.Refused.{asked_rules, refusal};
 
-use crate::refusing::rewrite_refusal;
+use crate::refusing::{RuleError, rewrite_refusal};
 use crate::rule::RewriteRule;
 use crate::statement::{sides, state};
 use ap_list::{NoMemory, Seq};
@@ -105,6 +106,22 @@ fn sound_rules(alloc: Global, rules: Seq<RewriteRule>) -> Result<Seq<RewriteRule
     }
 }
 
+/// The rewrite rules that a theorem asks for, whether or not they are refused.
+fn asked_rules(
+    alloc: Global,
+    name: &Symbol,
+    term: &Term,
+    classes: &[RuleClass],
+) -> Result<Seq<RewriteRule>, NoMemory>
+    ensures { IfOk result (λ gs. map rule_in gs ≡ asked_rules name.now term.now classes.now) }
+{
+    if rewrites(classes) {
+        parts_of(alloc, name, term)
+    } else {
+        Ok(Seq::new(alloc))
+    }
+}
+
 /// The rules that a theorem gives.
 pub(crate) fn theorem_rules(
     alloc: Global,
@@ -115,11 +132,29 @@ pub(crate) fn theorem_rules(
     ensures made { IfOk result (λ gs. map rule_in gs ≡ rules_in_entry (entry.Theorem (record { name = name.now; term = term.now; classes = classes.now }))) }
     ensures left { IfOk result (λ gs. Each (λ g. is_left (out-Term g.lhs) ≡ true) gs) }
 {
-    if !rewrites(classes) {
-        return Ok(Seq::new(alloc));
-    }
-    let rules = parts_of(alloc, name, term)?;
+    let rules = asked_rules(alloc, name, term, classes)?;
     sound_rules(alloc, rules)
+}
+
+/// The rules of a theorem of a name, in the order of its conjuncts: those of the class of rewrite rules, where
+/// the classes have it. A rule is refused where its left side is a variable, or a constant or an `if`, or where
+/// a variable of its right side is neither in its left side nor in a hypothesis; the first conjunct that is
+/// refused decides.
+pub fn rules_of(
+    alloc: Global,
+    name: &Symbol,
+    term: &Term,
+    classes: &Seq<RuleClass>,
+) -> Result<Seq<RewriteRule>, RuleError>
+    ensures made { IfOk result (λ gs. map rule_in gs ≡ rules_in_entry (entry.Theorem (record { name = name.now; term = term.now; classes = classes.now }))) }
+    ensures ok { OnOk result (refusal name.now term.now classes.now ≡ None) }
+    ensures refused { IfErr result (λ e. (e ≡ RuleError.NoMemory) ⊎ (refusal name.now term.now classes.now ≡ Some e)) }
+{
+    let rules = asked_rules(alloc, name, term, classes.as_slice())?;
+    if let Some(error) = rewrite_refusal(alloc, rules.as_slice())? {
+        return Err(error);
+    }
+    Ok(rules)
 }
 
 /// The rules that an entry gives.

@@ -4,6 +4,7 @@ ghost use Rattle.ap_world.specs.Clauses.{is_nil, conjuncts};
 ghost use Rattle.ap_world.specs.Names.{if_name, not_name, equal_name, implies_name, iff_name};
 ghost use Rattle.ap_world.specs.Recursion.{nil_constant, t_constant};
 ghost use Rattle.ap_world.specs.Rules.{stated, call_sides, sides};
+ghost use Rattle.ap_rules.specs.Made.{as_sides};
 
 use ap_list::{NoMemory, Seq};
 use ap_term::{Term, copy_term};
@@ -145,7 +146,7 @@ pub(crate) fn state(alloc: Global, t: &Term) -> Result<Statement, NoMemory>
 
 /// Two terms as the sides of an equation.
 fn both(alloc: Global, iff: bool, a: &Term, b: &Term) -> Result<Reading, NoMemory>
-    ensures { IfOk result (λ s. (s.iff, s.lhs, s.rhs) ≡ (iff, a.now, b.now)) }
+    ensures { IfOk result (λ s. as_sides s ≡ (iff, a.now, b.now)) }
 {
     let lhs = copy_term(alloc, a)?;
     let rhs = copy_term(alloc, b)?;
@@ -154,7 +155,7 @@ fn both(alloc: Global, iff: bool, a: &Term, b: &Term) -> Result<Reading, NoMemor
 
 /// A term that isn't `nil`.
 fn alone(alloc: Global, t: &Term) -> Result<Reading, NoMemory>
-    ensures { IfOk result (λ s. (s.iff, s.lhs, s.rhs) ≡ (true, t.now, t_constant)) }
+    ensures { IfOk result (λ s. as_sides s ≡ (true, t.now, t_constant)) }
 {
     let lhs = copy_term(alloc, t)?;
     Ok(Reading {
@@ -166,7 +167,7 @@ fn alone(alloc: Global, t: &Term) -> Result<Reading, NoMemory>
 
 /// How a call of two arguments is read.
 fn two_sides(alloc: Global, t: &Term, f: &Symbol, a: &Term, b: &Term) -> Result<Reading, NoMemory>
-    ensures { IfOk result (λ s. (s.iff, s.lhs, s.rhs) ≡ call_sides (symbol_eq f.now equal_name) (symbol_eq f.now iff_name) (symbol_eq f.now not_name) (a.now ∷ b.now ∷ []) (true, t.now, t_constant)) }
+    ensures { IfOk result (λ s. as_sides s ≡ call_sides (symbol_eq f.now equal_name) (symbol_eq f.now iff_name) (symbol_eq f.now not_name) (a.now ∷ b.now ∷ []) (true, t.now, t_constant)) }
 {
     if is_equal(f) {
         return both(alloc, false, a, b);
@@ -179,7 +180,7 @@ fn two_sides(alloc: Global, t: &Term, f: &Symbol, a: &Term, b: &Term) -> Result<
 
 /// How a call of one argument is read.
 fn one_side(alloc: Global, t: &Term, f: &Symbol, a: &Term) -> Result<Reading, NoMemory>
-    ensures { IfOk result (λ s. (s.iff, s.lhs, s.rhs) ≡ call_sides (symbol_eq f.now equal_name) (symbol_eq f.now iff_name) (symbol_eq f.now not_name) (a.now ∷ []) (true, t.now, t_constant)) }
+    ensures { IfOk result (λ s. as_sides s ≡ call_sides (symbol_eq f.now equal_name) (symbol_eq f.now iff_name) (symbol_eq f.now not_name) (a.now ∷ []) (true, t.now, t_constant)) }
 {
     if is_not(f) {
         return both(alloc, false, a, &nil_term());
@@ -190,7 +191,7 @@ fn one_side(alloc: Global, t: &Term, f: &Symbol, a: &Term) -> Result<Reading, No
 /// How a conjunct is read: `(equal l r)` and `(iff l r)` by their parts, `(not p)` as p to `'NIL`, and another p
 /// as p to `'T` under iff.
 pub(crate) fn sides(alloc: Global, t: &Term) -> Result<Reading, NoMemory>
-    ensures { IfOk result (λ s. (s.iff, s.lhs, s.rhs) ≡ sides t.now) }
+    ensures { IfOk result (λ s. as_sides s ≡ sides t.now) }
 {
     match t {
         Term::Call(f, ts) => match ts.as_slice() {
