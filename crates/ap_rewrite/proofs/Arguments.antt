@@ -87,6 +87,9 @@ argument_out w c S r p all u front rest us qs n at h is =
 pub none_done : (w : Shown) (c : Ctx) (g : Got (List Term)) (us : List Term) → ArgumentsDone w c g g us us []
 none_done w c g us = record { is = behind_none g; left = refl; each = tt }
 
+pub args_begin : (w : Shown) (c : Ctx) (g : Got (List Term)) (us : List Term) (qs : List Equiv) → qs ≡ [] → ArgumentsDone w c g g us us qs
+args_begin w c g us qs e = subst (ArgumentsDone w c g g us us) (sym e) (none_done w c g us)
+
 -- all are done
 pub all_done : (w : Shown) (c : Ctx) (S : Setting) (r : Inner) (p : Place) (all : Got (List Term)) (rest us : List Term) (qs : List Equiv) (m : ℕ) → rest ≡ []
     → ArgumentsDone w c (rewrite_args S r p rest m) all rest us qs → (got_all (Some qs) m ≡ all) × (lefts (said qs) ≡ us)

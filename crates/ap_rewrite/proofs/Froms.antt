@@ -40,9 +40,6 @@ from_at w o c u v q e f = subst (λ x. From w o c x q) e f
 pub facts_of : (c : Ctx) (fs : Facts) → c ≡ record { 0 = fs } → c.0 ≡ fs
 facts_of c fs e = ap (λ (x : Ctx). x.0) e
 
-pub same_facts : (c : Ctx) (fs : Facts) → c.0 ≡ fs → c ≡ record { 0 = fs }
-same_facts c fs e = ap (λ (x : Facts). record { 0 = x }) e
-
 -- what is answered where something may be
 pub right_found : (o : Option Equiv) (c : Ctx) (m : Mode) (u : Term) (x : Option Term) → said_of o ≡ option_map (leads_made c m u) x → right_of o ≡ x
 right_found None c m u None e = refl

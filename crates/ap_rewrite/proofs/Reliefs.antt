@@ -58,12 +58,12 @@ pub record ReliefsDone (w : Shown) (c : Ctx) (g all : Got (Option Pairs)) (rest 
   pub is : all ≡ g
   pub done : List Term
   pub front : done ++ rest ≡ hs
-  pub relieve : AllRelieve w c s done qs
+  pub shown : AllRelieve w c s done qs
   pub known : KnownPairs (function_of w.entries) s
   pub extends : Extends first s
 
 pub none_relieved : (w : Shown) (c : Ctx) (g : Got (Option Pairs)) (hs : List Term) (s : Pairs) → KnownPairs (function_of w.entries) s → ReliefsDone w c g g hs hs s s []
-none_relieved w c g hs s k = record { is = refl; done = []; front = refl; relieve = tt; known = k; extends = λ x t e. e }
+none_relieved w c g hs s k = record { is = refl; done = []; front = refl; shown = tt; known = k; extends = λ x t e. e }
 
 few_left : (b : Bool) (g h : Got (Option Pairs)) → b ≡ true → cond b g h ≡ g
 few_left true g h e = refl
@@ -97,8 +97,8 @@ module _ (w : Shown) (c : Ctx) (r : Inner) (p : Place) (all : Got (Option Pairs)
     is = once b ∙ ap (λ g. after g (λ o. then_more o (relieve r p rest))) (sym e);
     done = before.done ++ h ∷ [];
     front = append_assoc before.done (h ∷ []) rest ∙ ap (λ x. before.done ++ x) (sym at) ∙ before.front;
-    relieve = subst (AllRelieve w c q.pairs.0 (before.done ++ h ∷ [])) (sym k)
-        (all_snoc w c q.pairs.0 before.done qs h q.shown (all_more w c s q.pairs.0 before.done qs f.extends before.relieve) f.relieves);
+    shown = subst (AllRelieve w c q.pairs.0 (before.done ++ h ∷ [])) (sym k)
+        (all_snoc w c q.pairs.0 before.done qs h q.shown (all_more w c s q.pairs.0 before.done qs f.extends before.shown) f.relieves);
     known = f.known;
     extends = extends_more first s q.pairs.0 before.extends f.extends;
   }
@@ -112,7 +112,7 @@ pub all_relieved : (w : Shown) (c : Ctx) (r : Inner) (p : Place) (all : Got (Opt
     → ReliefsDone w c (relieve r p rest q.pairs.0 m) all rest hs first q.pairs.0 q.shown → (Some (Some q.pairs.0, m) ≡ all) × Shows w c hs first q
 all_relieved w c r p all rest hs first q m at d =
     let front : d.done ≡ hs = sym (append_none d.done) ∙ ap (λ x. d.done ++ x) (sym at) ∙ d.front in
-    let each : AllRelieve w c q.pairs.0 hs q.shown = subst (λ x. AllRelieve w c q.pairs.0 x q.shown) front d.relieve in (
+    let each : AllRelieve w c q.pairs.0 hs q.shown = subst (λ x. AllRelieve w c q.pairs.0 x q.shown) front d.shown in (
       sym (d.is ∙ ap (λ x. relieve r p x q.pairs.0 m) at),
       record { stand = all_stand w c q.pairs.0 hs q.shown each; lead = all_lead w c q.pairs.0 hs q.shown each; known = d.known; extends = d.extends },
     )

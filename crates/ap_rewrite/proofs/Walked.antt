@@ -63,7 +63,7 @@ module _ (S : Setting) (r : Inner) (o : Mode) (p q : Place) where
       → down (if_of a b c) taken n ≡ after (r Iff p a n) (λ a'. walk_on S r o p q taken a' (truth_of a') (b, down b) (c, down c))
   walk_if a b c taken n =
       let e : down (if_of a b c) ≡ walk_shape S r o p q (if_of a b c) (call_shape (head_of if_name) ((a, down a) ∷ (b, down b) ∷ (c, down c) ∷ [])) = para_call _ if_name (a ∷ b ∷ c ∷ []) in
-      ap (λ (g : Walk). g taken n) (e ∙ ap (λ y. walk_shape S r o p q (if_of a b c) y) (call_if (a, down a) (b, down b) (c, down c)))
+      ap (λ (g : Walk). g taken n) (e ∙ ap (λ (y : Shape (Term × Walk)). walk_shape S r o p q (if_of a b c) y) (call_if (a, down a) (b, down b) (c, down c)))
 
   stops : (u : Term) (y : Shape (Term × Walk)) (taken : Bool) (n : ℕ) → branches_there y ≡ false → walk_shape S r o p q u y taken n ≡ leaf_on r o p u taken n
   stops u (choice a b c) taken n h = cc
