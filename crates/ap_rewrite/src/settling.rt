@@ -20,7 +20,7 @@ use ap_kernel::{
     weaken_mode,
 };
 use ap_term::is_same;
-use ap_value::named;
+use ap_value::{Fixed, named};
 use std::alloc::Global;
 
 /// The value `t`. Takes no memory.
@@ -28,7 +28,7 @@ use std::alloc::Global;
 pub(crate) fn t_value() -> Value
     ensures { Quote result ≡ t_constant }
 {
-    Value::Sym(named(b"T"))
+    Value::Sym(named(Fixed::T))
 }
 
 /// The value `nil`. Takes no memory.
@@ -36,7 +36,7 @@ pub(crate) fn t_value() -> Value
 pub(crate) fn nil_value() -> Value
     ensures { Quote result ≡ nil_constant }
 {
-    Value::Sym(named(b"NIL"))
+    Value::Sym(named(Fixed::Nil))
 }
 
 /// Whether only `nil` or not counts. Takes no memory.
