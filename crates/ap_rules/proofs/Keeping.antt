@@ -1,6 +1,7 @@
 -- An index with the heads of its rules, as rules are added at the end and taken away there.
-use Rattle.std.proofs.Common.{◌≡◌, ℕ, zero, suc, ◌+◌, ◌<◌, ◌≤◌, Bool, true, false, cond, List, [], ◌∷◌, ◌++◌, map, length, take, drop, Option, Some, None, slice_get, refl, sym, ap, ◌∙◌, subst, append_assoc, arith}
-use Rattle.std.proofs.lemmas.List.{map-append, length-append, length-map, append-nil}
+use Rattle.std.proofs.Common.{◌≡◌, ℕ, zero, suc, ◌+◌, ◌-◌, ◌<◌, ◌≤◌, Bool, true, false, cond, List, [], ◌∷◌, ◌++◌, map, length, take, drop, Option, Some, None, slice_get, refl, sym, ap, ◌∙◌, subst, append_assoc, arith}
+use Rattle.std.proofs.lemmas.List.{map-append, length-append, length-map, append-nil, length_push, same_from_push}
+use Rattle.std.specs.Prelude.{MatchOption}
 use Rattle.ap_value.specs.declared.symbol.Symbol.{Symbol}
 use Rattle.ap_value.specs.Values.{symbol_eq}
 use Rattle.ap_term.specs.declared.term.Term.{Term, out-Term}
@@ -8,11 +9,15 @@ use Rattle.ap_term.specs.declared.term.Term.TheOpen.{Term-F}
 use Rattle.ap_world.specs.declared.entry.Entry.{Entry}
 use Rattle.ap_world.specs.Prescribing.{called}
 use Rattle.ap_world.specs.Rules.{Rule, is_left, newest_first, rules_in_entry, rules_in}
+use Rattle.ap_world.proofs.Prescribed.{all_but_last}
 use Rattle.ap_rules.specs.declared.rule.RewriteRule.{RewriteRule}
 use Rattle.ap_rules.specs.Made.{rule_in}
 use Rattle.ap_rules.specs.Grouped.{Table, group_at, grouped_at, with_first, without_first}
 use Rattle.ap_rules.specs.Indexed.{kept, may_begin, begins, rules_for}
 use Rattle.ap_rules.specs.Carried.{Has, head_in, Keeps, all_rules, starts_from, Carried}
+
+no_push : {A : Type 0} (xs : List A) (x : A) → [] ≡ xs ++ x ∷ [] → ⊥
+no_push xs x h = let n : 0 ≡ length xs + 1 = ap length h ∙ length_push xs x in omega (arith, n)
 
 -- a rule by its head
 begins_by : (f h : Symbol) (y : Term-F Term) → called y ≡ Some h → may_begin f y ≡ symbol_eq h f
@@ -50,6 +55,15 @@ newest_append (x ∷ xs) ys = ap (λ zs. zs ++ x ∷ []) (newest_append xs ys) �
 
 pub newest_last : (rs : List Rule) (r : Rule) → newest_first (rs ++ r ∷ []) ≡ r ∷ newest_first rs
 newest_last rs r = newest_append rs (r ∷ [])
+
+-- an element that was added last is taken off again
+pub popped : {A : Type 0} (xs more left : List A) (x : A) (o : Option A) → more ≡ xs ++ x ∷ [] → MatchOption o ((more ≡ []) × (left ≡ [])) (λ last. more ≡ left ++ last ∷ []) → left ≡ xs
+popped xs more left x None e (none, gone) = absurd (no_push xs x (sym none ∙ e))
+popped xs more left x (Some y) e is = (same_from_push left xs y x (sym is ∙ e)).0
+
+-- a rule comes to those so far
+pub came : (qs : List Rule) (g : RewriteRule) (left rest : List RewriteRule) (all : List Rule) → left ≡ g ∷ rest → qs ++ map rule_in left ≡ all → (qs ++ rule_in g ∷ []) ++ map rule_in rest ≡ all
+came qs g left rest all is h = append_assoc qs (rule_in g ∷ []) (map rule_in rest) ∙ ap (λ gs. qs ++ map rule_in gs) (sym is) ∙ h
 
 -- the same table under another of the same groups
 pub has_same : (old new : Table) (gs : List Rule) → ((f : Symbol) → group_at new f ≡ group_at old f) → Has old gs → Has new gs
@@ -116,9 +130,56 @@ keeps_less old new hs fewer h qs is removed k =
       };
     }
 
+-- without the last
+pub keeps_last : (old new : Table) (hs fewer : List Symbol) (h : Symbol) (rs : List Rule) → hs ≡ fewer ++ h ∷ []
+    → ((f : Symbol) → group_at new f ≡ without_first (symbol_eq h f) (group_at old f)) → Keeps old hs rs → Keeps new fewer (take (length rs - 1) rs)
+keeps_last old new hs fewer h rs is removed k =
+    let l = keeps_less old new hs fewer h rs is removed k in
+    subst (Keeps new fewer) (sym (all_but_last l.front l.last) ∙ ap (λ xs. take (length xs - 1) xs) (sym l.whole)) l.keeps
+
+-- where there is none
+pub keeps_none : (table : Table) (hs same : List Symbol) (rs : List Rule) → hs ≡ [] → same ≡ [] → Keeps table hs rs → Keeps table same (take (length rs - 1) rs)
+keeps_none table hs same [] e f k = record { has = k.has; headed = ap (map Some) f }
+keeps_none table hs same (r ∷ rs) e f k =
+    let none : map Some hs ≡ [] = ap (map Some) e in
+    let some : map Some hs ≡ head_in r ∷ map head_in rs = k.headed in
+    absurd (cc (none, some))
+
+take_less : {A : Type 0} (n m : ℕ) (xs : List A) → n ≤ m → take n (take m xs) ≡ take n xs
+take_less zero m xs h = refl
+take_less (suc n) zero xs h = absurd (omega arith)
+take_less (suc n) (suc m) [] h = refl
+take_less (suc n) (suc m) (x ∷ xs) h = ap (λ ys. x ∷ ys) (take_less n m xs (omega arith))
+
+take_whole : {A : Type 0} (n : ℕ) (xs : List A) → length xs ≤ n → take n xs ≡ xs
+take_whole zero [] h = refl
+take_whole (suc n) [] h = refl
+take_whole zero (x ∷ xs) h = absurd (omega arith)
+take_whole (suc n) (x ∷ xs) h = ap (λ ys. x ∷ ys) (take_whole n xs (omega arith))
+
+take_front : {A : Type 0} (xs ys : List A) → take (length xs) (xs ++ ys) ≡ xs
+take_front [] ys = refl
+take_front (x ∷ xs) ys = ap (λ zs. x ∷ zs) (take_front xs ys)
+
 -- as many heads as rules
 pub as_many : (table : Table) (hs : List Symbol) (rs : List Rule) → Keeps table hs rs → length hs ≡ length rs
-as_many table hs rs k = sym (length-map Some hs) ∙ ap length k.headed ∙ length-map head_in rs
+as_many table hs rs k = sym (length-map hs Some) ∙ ap length k.headed ∙ length-map rs head_in
+
+-- while more than so many stand, the last is one too many
+pub one_too_many : (table : Table) (hs : List Symbol) (qs rs : List Rule) (n : ℕ) → Keeps table hs qs → n < length hs → take n qs ≡ take n rs → take n (take (length qs - 1) qs) ≡ take n rs
+one_too_many table hs qs rs n k more same =
+    let many : length hs ≡ length qs = as_many table hs qs k in
+    take_less n (length qs - 1) qs (omega arith) ∙ same
+
+-- once no more stand, they are the first ones
+pub no_more_left : (table : Table) (hs : List Symbol) (qs rs : List Rule) (n : ℕ) → Keeps table hs qs → length hs ≤ n → take n qs ≡ take n rs → Keeps table hs (take n rs)
+no_more_left table hs qs rs n k few same =
+    let many : length hs ≡ length qs = as_many table hs qs k in
+    subst (Keeps table hs) (sym (take_whole n qs (omega arith)) ∙ same) k
+
+-- what stood before others
+pub first_ones : (table : Table) (hs : List Symbol) (rs : List Rule) (n : ℕ) → n ≡ length hs → Keeps table hs rs → (qs : List Rule) → take n (rs ++ qs) ≡ rs
+first_ones table hs rs n is k qs = ap (λ m. take m (rs ++ qs)) (is ∙ as_many table hs rs k) ∙ take_front rs qs
 
 -- the rules of a world, newest first
 pub world_rules : (W : List Entry) → rules_in W ≡ newest_first (all_rules W)
@@ -153,10 +214,6 @@ carried_more W y old new hs more ks ls gs made started added c = record {
   where
     count : length hs ≡ 0 + length (all_rules W)
     count = as_many old hs (all_rules W) c.keeps ∙ omega arith
-
-take_front : {A : Type 0} (xs ys : List A) → take (length xs) (xs ++ ys) ≡ xs
-take_front [] ys = refl
-take_front (x ∷ xs) ys = ap (λ zs. x ∷ zs) (take_front xs ys)
 
 -- where the rules of the entries from a place on start
 start_at : (n k i : ℕ) (W : List Entry) → slice_get (starts_from n W) k ≡ Some i → i ≡ n + length (all_rules (take k W))

@@ -1,12 +1,18 @@
 -- What the hypotheses and the conjuncts of a theorem are at each kind of term.
-use Rattle.std.proofs.Common.{◌≡◌, ◌<◌, ◌≤◌, Bool, true, List, [], ◌∷◌, ◌++◌, refl, ap, sym, ◌∙◌, append_assoc, length, get_or, arith}
+use Rattle.std.proofs.Common.{◌≡◌, ◌↔◌, IsTrue, ◌<◌, ◌≤◌, Bool, true, false, List, [], ◌∷◌, ◌++◌, refl, ap, sym, ◌∙◌, subst, append_assoc, length, get_or, arith}
 use Rattle.ap_value.specs.declared.symbol.Symbol.{Symbol}
-use Rattle.ap_value.specs.Values.{symbol_eq}
+use Rattle.ap_value.specs.declared.value.Value.{Value}
+use Rattle.ap_value.specs.declared.value.Value.TheVariants.{Sym}
+use Rattle.ap_value.specs.Values.{V, symbol_eq, val_of, value_eq}
+use Rattle.ap_value.proofs.Equals.{symbol_eq-true, value_eq-true, value_eq-same}
 use Rattle.ap_term.specs.declared.term.Term.{Term, Call}
-use Rattle.ap_world.specs.Names.{if_name, implies_name}
+use Rattle.ap_world.specs.Names.{nil_name, if_name, not_name, equal_name, implies_name, iff_name}
+use Rattle.ap_world.specs.Primitives.{nil}
 use Rattle.ap_world.specs.Clauses.{is_nil, conjuncts}
-use Rattle.ap_world.specs.Rules.{stated}
+use Rattle.ap_world.specs.Recursion.{nil_constant}
+use Rattle.ap_world.specs.Rules.{Sides, call_sides, stated}
 use Rattle.ap_world.proofs.Written.{conjuncts_var, conjuncts_quote}
+use Rattle.ap_world.proofs.Equations.{val_of_nil}
 use Rattle.ap_world.proofs.Given.{conjuncts_called}
 use Rattle.ap_world.proofs.RulesStand.{stated_var, stated_quote, stated_called}
 
@@ -39,3 +45,24 @@ stated_pair u f h c e q = ap stated e ∙ stated_called f (h ∷ c ∷ []) ∙ r
 -- what is added by two steps
 pub by_steps : (out new xs ys zs : List Term) → zs ≡ xs ++ ys → new ≡ out ++ xs → out ++ zs ≡ new ++ ys
 by_steps out new xs ys zs e h = ap (λ us. out ++ us) e ∙ sym (append_assoc out xs ys) ∙ ap (λ us. us ++ ys) (sym h)
+
+abbrev never : Term → Sides
+never a = (false, a, nil_constant)
+
+-- a call of `not` says that its argument is nil
+pub negated_sides : (f : Symbol) (a : Term) (alone : Sides) → symbol_eq f not_name ≡ true → call_sides (symbol_eq f equal_name) (symbol_eq f iff_name) (symbol_eq f not_name) (a ∷ []) alone ≡ never a
+unfolding not_name equal_name iff_name
+negated_sides f a alone h =
+    subst (λ g. call_sides (symbol_eq g equal_name) (symbol_eq g iff_name) (symbol_eq g not_name) (a ∷ []) alone ≡ never a) (sym (symbol_eq-true f not_name h)) refl
+
+-- a test that is true exactly where two values are one is the definitions' test
+value_is : (r : Bool) (a b : V) → (IsTrue r ↔ (a ≡ b)) → r ≡ value_eq a b
+value_is true a b h = sym (ap (λ v. value_eq a v) (sym (h.0 refl)) ∙ value_eq-same a)
+value_is false a b h = go (value_eq a b) refl
+  where
+    go : (t : Bool) → value_eq a b ≡ t → false ≡ t
+    go true e = h.1 (value_eq-true a b e)
+    go false e = refl
+
+pub nil_told : (r : Bool) (v : Value) (s : Symbol) → s ≡ nil_name → (IsTrue r ↔ (val_of v ≡ val_of (Sym s))) → r ≡ value_eq (val_of v) nil
+nil_told r v s is h = value_is r (val_of v) nil (subst (λ w. IsTrue r ↔ (val_of v ≡ w)) (ap (λ x. val_of (Sym x)) is ∙ val_of_nil) h)

@@ -4,4 +4,5 @@ pub mod Grouped
 pub mod Index
 pub mod Carried
 pub mod Laws
+pub mod Shapes
 pub mod Refused

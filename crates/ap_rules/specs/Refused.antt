@@ -8,9 +8,12 @@ use Rattle.ap_term.specs.declared.term.Term.TheOpen.{Term-F}
 use Rattle.ap_term.specs.Terms.{vars_after}
 use Rattle.ap_world.specs.declared.entry.RuleClass.{RuleClass}
 use Rattle.ap_world.specs.Names.{if_name}
-use Rattle.ap_world.specs.Rules.{Rule, rules_of_term, vars_in, rewrites}
+use Rattle.ap_world.specs.Clauses.{conjuncts}
+use Rattle.ap_world.specs.Prescribing.{prescribes}
+use Rattle.ap_world.specs.Rules.{Rule, stated, rules_of_term, vars_in, rewrites}
+use Rattle.ap_rules.specs.Shapes.{is_linear, all_inequalities, is_type_form}
 use Rattle.ap_rules.specs.declared.refusing.RuleError.{RuleError}
-use Rattle.ap_rules.specs.declared.refusing.RuleError.TheVariants.{LhsVariable, LhsConstant, FreeInRhs}
+use Rattle.ap_rules.specs.declared.refusing.RuleError.TheVariants.{LhsVariable, LhsConstant, FreeInRhs, NotInequality, NotTypeForm}
 
 -- the first of two
 abbrev pub or_else : Option RuleError → Option RuleError → Option RuleError
@@ -39,6 +42,14 @@ rule_refusal r = or_else (left_refusal (out-Term r.lhs)) (right_refusal r)
 abbrev pub asked_rules : Symbol → Term → List RuleClass → List Rule
 asked_rules name u cs = cond (rewrites cs) (rules_of_term name u) []
 
+-- the conjuncts of a linear theorem are inequalities
+abbrev pub linear_refusal : Term → List RuleClass → Option RuleError
+linear_refusal u cs = cond (is_linear cs) (cond (all_inequalities (conjuncts (stated u).1)) None (Some NotInequality)) None
+
+-- a type prescription is a recogniser on a call, without hypotheses
+abbrev pub type_refusal : Term → List RuleClass → Option RuleError
+type_refusal u cs = cond (prescribes cs) (cond (is_type_form (out-Term u)) None (Some NotTypeForm)) None
+
 -- the rewrite rules are looked at first, a conjunct after another
 abbrev pub refusal : Symbol → Term → List RuleClass → Option RuleError
-refusal name u cs = first_refusal rule_refusal (asked_rules name u cs)
+refusal name u cs = or_else (first_refusal rule_refusal (asked_rules name u cs)) (or_else (linear_refusal u cs) (type_refusal u cs))

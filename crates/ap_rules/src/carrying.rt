@@ -1,7 +1,8 @@
-ghost use Rattle.std.specs.Prelude.{◌≡◌, ◌∷◌, [], ◌++◌, List, OnOk, OnErr, IfOk, map, take, true};
+ghost use Rattle.std.specs.Prelude.{◌≡◌, ◌-◌, ◌∷◌, [], ◌++◌, List, Some, OnOk, OnErr, IfOk, length, map, take, true};
 ghost use Rattle.ap_list.specs.Lists.{Each};
 ghost use Rattle.ap_term.specs.declared.term.Term.{out-Term};
 ghost use Rattle.ap_world.specs.declared.entry.Entry.{Entry};
+ghost use Rattle.ap_world.specs.Prescribing.{called};
 ghost use Rattle.ap_world.specs.Rules.{Rule, is_left, rules_in_entry};
 ghost use Rattle.ap_rules.specs.Made.{rule_in};
 ghost use Rattle.ap_rules.specs.Carried.{Keeps, Carried};
@@ -13,7 +14,7 @@ use ap_list::{NoMemory, Seq};
 use ap_term::Term;
 use ap_value::{Symbol, copy_symbol};
 use ap_world::Entry;
-use std::alloc::Global;
+use std::alloc::{AllocError, Global};
 
 /// The rules of a world's entries by their heads. `heads` has the head of each rule, in the order of the
 /// entries, and `starts` for each entry how many come before its own, so that they are found again when
@@ -23,6 +24,28 @@ pub(crate) struct Carrier {
     pub rules: RuleIndex,
     pub heads: Seq<Symbol>,
     pub starts: Seq<usize>,
+}
+
+/// The head of a rule's left side.
+fn head_of(alloc: Global, t: &Term) -> Result<Symbol, NoMemory>
+    requires { is_left (out-Term t.now) ≡ true }
+    ensures { IfOk result (λ h. called (out-Term t.now) ≡ Some h) }
+{
+    match t {
+        Term::Call(f, _) => copy_symbol(alloc, f),
+        // No left side is one of these.
+        Term::Var(_) => Err(AllocError),
+        Term::Quote(_) => Err(AllocError),
+    }
+}
+
+/// Adds a copy of a head.
+fn push_head(alloc: Global, heads: &mut Seq<Symbol>, head: &Symbol) -> Result<(), NoMemory>
+    ensures ok { OnOk result (heads.new ≡ heads.old ++ head.now ∷ []) }
+    ensures err { OnErr result (heads.new ≡ heads.old) }
+{
+    let copy = copy_symbol(alloc, head)?;
+    heads.push(copy)
 }
 
 /// Adds a rule as the newest. Where memory is refused the others stay.
@@ -36,11 +59,8 @@ fn add_rule(
     ensures ok { OnOk result ((rs : List Rule) → Keeps groups.old heads.old rs → Keeps groups.new heads.new (rs ++ rule_in rule ∷ [])) }
     ensures err { OnErr result ((rs : List Rule) → Keeps groups.old heads.old rs → Keeps groups.new heads.new rs) }
 {
-    let Term::Call(called, _) = &rule.lhs else {
-        unreachable!()
-    };
-    let head = copy_symbol(alloc, called)?;
-    heads.push(copy_symbol(alloc, &head)?)?;
+    let head = head_of(alloc, &rule.lhs)?;
+    push_head(alloc, heads, &head)?;
     if let Err(error) = groups.add(alloc, head, rule) {
         heads.pop();
         return Err(error);
@@ -48,14 +68,22 @@ fn add_rule(
     Ok(())
 }
 
+/// Takes the last rule away, where there is one. Takes no memory.
+fn remove_last(groups: &mut Groups, heads: &mut Seq<Symbol>)
+    ensures keeps { (rs : List Rule) → Keeps groups.old heads.old rs → Keeps groups.new heads.new (take (length rs - 1) rs) }
+    ensures fewer { length heads.new ≡ length heads.old - 1 }
+{
+    if let Some(head) = heads.pop() {
+        groups.remove_first(&head);
+    }
+}
+
 /// Keeps the first `kept` rules. Takes no memory.
 fn cut(groups: &mut Groups, heads: &mut Seq<Symbol>, kept: usize)
     ensures { (rs : List Rule) → Keeps groups.old heads.old rs → Keeps groups.new heads.new (take kept rs) }
 {
     while heads.len() > kept {
-        if let Some(head) = heads.pop() {
-            groups.remove_first(&head);
-        }
+        remove_last(groups, heads);
     }
 }
 
@@ -100,12 +128,13 @@ impl Carrier {
         ensures ok { OnOk result ((W : List Entry) (y : Entry) → map rule_in rules ≡ rules_in_entry y → Carried W self.old.rules.groups self.old.heads self.old.starts → Carried (W ++ y ∷ []) self.new.rules.groups self.new.heads self.new.starts) }
         ensures err { OnErr result ((W : List Entry) → Carried W self.old.rules.groups self.old.heads self.old.starts → Carried W self.new.rules.groups self.new.heads self.new.starts) }
     {
-        self.starts.push(self.heads.len())?;
-        let added = add_rules(alloc, &mut self.rules.groups, &mut self.heads, rules);
-        if added.is_err() {
+        let start = self.heads.len();
+        self.starts.push(start)?;
+        if let Err(error) = add_rules(alloc, &mut self.rules.groups, &mut self.heads, rules) {
             self.starts.pop();
+            return Err(error);
         }
-        added
+        Ok(())
     }
 
     /// Adds the rules of an entry.

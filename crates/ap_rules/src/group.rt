@@ -1,7 +1,7 @@
-ghost use Rattle.std.specs.Prelude.{◌≡◌, ◌<◌, ◌≤◌, [], ◌∷◌, length, drop, vec_len, IfOk, OnOk, OnErr};
+ghost use Rattle.std.specs.Prelude.{◌≡◌, ◌<◌, ◌≤◌, [], ◌∷◌, drop, vec_len, IfOk, OnOk, OnErr};
 
 use crate::rule::RewriteRule;
-use ap_list::{NoMemory, Seq};
+use ap_list::{Fixed, NoMemory, Seq};
 use ap_term::Term;
 use ap_value::{Value, named};
 use std::alloc::Global;
@@ -34,7 +34,7 @@ impl Model for Group {
 /// What stands in the room for rules to come. Takes no memory.
 fn filler(alloc: Global) -> RewriteRule {
     RewriteRule {
-        theorem: named(b""),
+        theorem: named(Fixed::Nil),
         part: 0,
         iff: false,
         lhs: Term::Quote(Value::Int(0)),
@@ -48,7 +48,7 @@ fn fillers(alloc: Global, count: usize) -> Result<Vec<RewriteRule>, NoMemory>
     ensures { IfOk result (λ v. vec_len v ≡ count) }
 {
     let mut out = Vec::new(alloc);
-    for _ in 0..count {
+    while out.len() < count {
         out.push(filler(alloc))?;
     }
     Ok(out)
@@ -57,14 +57,36 @@ fn fillers(alloc: Global, count: usize) -> Result<Vec<RewriteRule>, NoMemory>
 /// Puts room before the rules, one more than they are, and answers where they start then. Where memory is
 /// refused they stay as they were.
 fn make_room(alloc: Global, slots: &mut Vec<RewriteRule>) -> Result<usize, NoMemory>
-    ensures ok { IfOk result (λ n. (0 < n) × (n ≤ vec_len slots.new) × (drop n slots.new.items ≡ slots.old.items)) }
+    ensures some { IfOk result (λ n. 0 < n) }
+    ensures within { IfOk result (λ n. n ≤ vec_len slots.new) }
+    ensures ok { IfOk result (λ n. drop n slots.new.items ≡ slots.old.items) }
     ensures err { OnErr result (slots.new.items ≡ slots.old.items) }
 {
-    let count = slots.len() + 1;
+    let count = slots.len().saturating_add(1);
     let mut wider = fillers(alloc, count)?;
     wider.append(slots)?;
     *slots = wider;
     Ok(count)
+}
+
+/// Sees that there is room before the rules, and answers where they start then. Where memory is refused they
+/// stay as they were.
+fn with_room(
+    alloc: Global,
+    slots: &mut Vec<RewriteRule>,
+    start: usize,
+) -> Result<usize, NoMemory>
+    requires { start ≤ vec_len slots.old }
+    ensures some { IfOk result (λ n. 0 < n) }
+    ensures within { IfOk result (λ n. n ≤ vec_len slots.new) }
+    ensures ok { IfOk result (λ n. drop n slots.new.items ≡ drop start slots.old.items) }
+    ensures err { OnErr result (slots.new.items ≡ slots.old.items) }
+{
+    if start == 0 {
+        make_room(alloc, slots)
+    } else {
+        Ok(start)
+    }
 }
 
 impl Group {
@@ -90,11 +112,10 @@ impl Group {
         ensures ok { OnOk result (self.new ≡ rule ∷ self.old) }
         ensures err { OnErr result (self.new ≡ self.old) }
     {
-        if self.start == 0 {
-            self.start = make_room(alloc, &mut self.slots)?;
-        }
-        self.start -= 1;
-        self.slots[self.start] = rule;
+        let start = with_room(alloc, &mut self.slots, self.start)?;
+        let place = start - 1;
+        self.slots[place] = rule;
+        self.start = place;
         Ok(())
     }
 

@@ -13,6 +13,7 @@ mod laws;
 mod making;
 mod refusing;
 mod rule;
+mod shapes;
 mod worlds;
 mod statement;
 

@@ -1,13 +1,16 @@
 ghost use Rattle.std.specs.Prelude.{◌≡◌, ◌⊎◌, IfOk, IfErr, OnOk, None, Some, map, true};
 ghost use Rattle.ap_list.specs.Lists.{Each};
 ghost use Rattle.ap_term.specs.declared.term.Term.{out-Term};
+ghost use Rattle.ap_world.specs.Prescribing.{prescribes};
 ghost use Rattle.ap_world.specs.Rules.{is_left, rules_from, rules_of_term, rewrites, sound_rules, rules_in_entry};
 ghost use Rattle.ap_world.specs.declared.entry.Entry.TheVariants as entry;
 ghost use Rattle.ap_rules.specs.Made.{rule_in, part_rule};
-ghost use Rattle.ap_rules.specs.Refused.{asked_rules, refusal};
+ghost use Rattle.ap_rules.specs.Shapes.{is_linear};
+ghost use Rattle.ap_rules.specs.Refused.{or_else, first_refusal, rule_refusal, asked_rules, linear_refusal, type_refusal, refusal};
 
 use crate::refusing::{RuleError, rewrite_refusal};
 use crate::rule::RewriteRule;
+use crate::shapes::{are_inequalities, is_type_form};
 use crate::statement::{sides, state};
 use ap_list::{NoMemory, Seq};
 use ap_term::{Term, copy_terms};
@@ -136,10 +139,89 @@ pub(crate) fn theorem_rules(
     sound_rules(alloc, rules)
 }
 
+/// Whether the classes have that of linear rules.
+fn is_linear(classes: &[RuleClass]) -> bool
+    ensures { result ≡ is_linear classes.now }
+{
+    let mut left = classes;
+    while let [first, rest @ ..] = left {
+        if matches!(first, RuleClass::Linear) {
+            return true;
+        }
+        left = rest;
+    }
+    false
+}
+
+/// Whether the classes have that of type prescriptions.
+fn prescribes(classes: &[RuleClass]) -> bool
+    ensures { result ≡ prescribes classes.now }
+{
+    let mut left = classes;
+    while let [first, rest @ ..] = left {
+        if matches!(first, RuleClass::TypePrescription) {
+            return true;
+        }
+        left = rest;
+    }
+    false
+}
+
+/// What a theorem is refused for as a linear one.
+fn linear_refusal(
+    alloc: Global,
+    term: &Term,
+    classes: &[RuleClass],
+) -> Result<Option<RuleError>, NoMemory>
+    ensures { IfOk result (λ o. o ≡ linear_refusal term.now classes.now) }
+{
+    if !is_linear(classes) {
+        return Ok(None);
+    }
+    let statement = state(alloc, term)?;
+    if are_inequalities(alloc, statement.parts.as_slice())? {
+        Ok(None)
+    } else {
+        Ok(Some(RuleError::NotInequality))
+    }
+}
+
+/// What a theorem is refused for as a type prescription.
+fn type_refusal(term: &Term, classes: &[RuleClass]) -> Option<RuleError>
+    ensures { result ≡ type_refusal term.now classes.now }
+{
+    if !prescribes(classes) || is_type_form(term) {
+        None
+    } else {
+        Some(RuleError::NotTypeForm)
+    }
+}
+
+/// What a theorem with these rewrite rules is refused for.
+fn refusal(
+    alloc: Global,
+    rules: &[RewriteRule],
+    term: &Term,
+    classes: &[RuleClass],
+) -> Result<Option<RuleError>, NoMemory>
+    ensures { IfOk result (λ o. o ≡ or_else (first_refusal rule_refusal (map rule_in rules.now)) (or_else (linear_refusal term.now classes.now) (type_refusal term.now classes.now))) }
+{
+    if let Some(error) = rewrite_refusal(alloc, rules)? {
+        return Ok(Some(error));
+    }
+    if let Some(error) = linear_refusal(alloc, term, classes)? {
+        return Ok(Some(error));
+    }
+    Ok(type_refusal(term, classes))
+}
+
 /// The rules of a theorem of a name, in the order of its conjuncts: those of the class of rewrite rules, where
 /// the classes have it. A rule is refused where its left side is a variable, or a constant or an `if`, or where
 /// a variable of its right side is neither in its left side nor in a hypothesis; the first conjunct that is
-/// refused decides.
+/// refused decides. Then, where the classes have that of linear rules, each conjunct must be an inequality
+/// with a trigger: `(< a b)`, its negation or `(equal a b)`, with an atom that is a call with all variables of
+/// the conjunct. Then, where they have that of type prescriptions, the theorem must be a recogniser on a call
+/// of distinct variables, without hypotheses.
 pub fn rules_of(
     alloc: Global,
     name: &Symbol,
@@ -151,7 +233,7 @@ pub fn rules_of(
     ensures refused { IfErr result (λ e. (e ≡ RuleError.NoMemory) ⊎ (refusal name.now term.now classes.now ≡ Some e)) }
 {
     let rules = asked_rules(alloc, name, term, classes.as_slice())?;
-    if let Some(error) = rewrite_refusal(alloc, rules.as_slice())? {
+    if let Some(error) = refusal(alloc, rules.as_slice(), term, classes.as_slice())? {
         return Err(error);
     }
     Ok(rules)

@@ -9,7 +9,7 @@ ghost use Rattle.ap_rules.specs.Refused.{first_refusal, left_refusal, right_refu
 
 use crate::rule::RewriteRule;
 use crate::statement::is_if;
-use ap_list::{NoMemory, Seq};
+use ap_list::{Fixed, NoMemory, Seq};
 use ap_term::{Term, copy_term, is_symbol, vars};
 use ap_value::{Symbol, named};
 use std::alloc::{AllocError, Global};
@@ -66,6 +66,7 @@ pub(crate) fn are_within(xs: &[Symbol], ys: &[Symbol]) -> bool
 }
 
 /// The variables of a rule's left side and of its hypotheses: those of a call of these.
+#[tactic(auto, using(crate::proofs::Made::call_variables))]
 fn bound_variables(alloc: Global, rule: &RewriteRule) -> Result<Seq<Symbol>, NoMemory>
     ensures { IfOk result (λ xs. xs ≡ vars_in rule.now.hyps (vars_after rule.now.lhs [])) }
 {
@@ -74,7 +75,7 @@ fn bound_variables(alloc: Global, rule: &RewriteRule) -> Result<Seq<Symbol>, NoM
     for hyp in rule.hyps.as_slice() {
         terms.push(copy_term(alloc, hyp)?)?;
     }
-    let all = Term::call(alloc, named(b"LIST"), terms)?;
+    let all = Term::call(alloc, named(Fixed::Nil), terms)?;
     vars(alloc, &all)
 }
 

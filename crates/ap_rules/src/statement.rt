@@ -1,14 +1,15 @@
-ghost use Rattle.std.specs.Prelude.{◌≡◌, [], ◌∷◌, ◌++◌, true, IfOk, OnOk};
-ghost use Rattle.ap_value.specs.Values.{symbol_eq};
+ghost use Rattle.std.specs.Prelude.{◌≡◌, [], ◌∷◌, ◌++◌, true, false, IfOk, OnOk};
+ghost use Rattle.ap_value.specs.Values.{symbol_eq, val_of, value_eq};
 ghost use Rattle.ap_world.specs.Clauses.{is_nil, conjuncts};
+ghost use Rattle.ap_world.specs.Primitives.{nil};
 ghost use Rattle.ap_world.specs.Names.{if_name, not_name, equal_name, implies_name, iff_name};
 ghost use Rattle.ap_world.specs.Recursion.{nil_constant, t_constant};
 ghost use Rattle.ap_world.specs.Rules.{stated, call_sides, sides};
 ghost use Rattle.ap_rules.specs.Made.{as_sides};
 
-use ap_list::{NoMemory, Seq};
+use ap_list::{Fixed, NoMemory, Seq};
 use ap_term::{Term, copy_term};
-use ap_value::{Symbol, Value, is_named, named};
+use ap_value::{Symbol, Value, is_named, named, same};
 use std::alloc::Global;
 
 /// A theorem's hypotheses, and the conjuncts of its conclusion.
@@ -66,13 +67,22 @@ pub(crate) fn is_not(symbol: &Symbol) -> bool
     is_named(symbol, b"NOT")
 }
 
+/// Whether a value is `nil`.
+fn is_nil(v: &Value) -> bool
+    ensures { result ≡ value_eq (val_of v.now) nil }
+{
+    let wanted = Value::Sym(named(Fixed::Nil));
+    same(v, &wanted)
+}
+
 /// Whether a term is a constant that means `nil`.
 fn is_nil_term(t: &Term) -> bool
     ensures { result ≡ is_nil t.now }
 {
     match t {
-        Term::Quote(Value::Sym(symbol)) => is_named(symbol, b"NIL"),
-        _ => false,
+        Term::Quote(v) => is_nil(v),
+        Term::Var(_) => false,
+        Term::Call(_, _) => false,
     }
 }
 
@@ -81,7 +91,7 @@ fn is_nil_term(t: &Term) -> bool
 fn nil_term() -> Term
     ensures { result ≡ nil_constant }
 {
-    Term::Quote(Value::Sym(named(b"NIL")))
+    Term::Quote(Value::Sym(named(Fixed::Nil)))
 }
 
 /// The constant `'T`. Takes no memory.
@@ -89,7 +99,7 @@ fn nil_term() -> Term
 fn t_term() -> Term
     ensures { result ≡ t_constant }
 {
-    Term::Quote(Value::Sym(named(b"T")))
+    Term::Quote(Value::Sym(named(Fixed::T)))
 }
 
 /// Adds the conjuncts of a term.
@@ -165,6 +175,18 @@ fn alone(alloc: Global, t: &Term) -> Result<Reading, NoMemory>
     })
 }
 
+/// A term that is `nil`.
+fn never(alloc: Global, t: &Term) -> Result<Reading, NoMemory>
+    ensures { IfOk result (λ s. as_sides s ≡ (false, t.now, nil_constant)) }
+{
+    let lhs = copy_term(alloc, t)?;
+    Ok(Reading {
+        iff: false,
+        lhs,
+        rhs: nil_term(),
+    })
+}
+
 /// How a call of two arguments is read.
 fn two_sides(alloc: Global, t: &Term, f: &Symbol, a: &Term, b: &Term) -> Result<Reading, NoMemory>
     ensures { IfOk result (λ s. as_sides s ≡ call_sides (symbol_eq f.now equal_name) (symbol_eq f.now iff_name) (symbol_eq f.now not_name) (a.now ∷ b.now ∷ []) (true, t.now, t_constant)) }
@@ -183,7 +205,7 @@ fn one_side(alloc: Global, t: &Term, f: &Symbol, a: &Term) -> Result<Reading, No
     ensures { IfOk result (λ s. as_sides s ≡ call_sides (symbol_eq f.now equal_name) (symbol_eq f.now iff_name) (symbol_eq f.now not_name) (a.now ∷ []) (true, t.now, t_constant)) }
 {
     if is_not(f) {
-        return both(alloc, false, a, &nil_term());
+        return never(alloc, a);
     }
     alone(alloc, t)
 }

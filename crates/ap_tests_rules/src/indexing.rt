@@ -4,7 +4,7 @@ ghost use Rattle.ap_term.specs.declared.term.Term.{Term};
 ghost use Rattle.ap_term.specs.declared.term.Term.TheVariants.{Quote, Call};
 ghost use Rattle.ap_world.specs.Names.{equal_name};
 
-use ap_list::{Bytes, NoMemory, Seq};
+use ap_list::{Bytes, Fixed, NoMemory, Seq};
 use ap_rules::{RewriteRule, Ruled, RuleIndex, by_head, index};
 use ap_term::Term;
 use ap_value::{Value, acl2, named};
@@ -20,7 +20,7 @@ fn equal(alloc: Global, a: Term, b: Term) -> Result<Term, NoMemory>
     let mut parts = Seq::new(alloc);
     parts.push(a)?;
     parts.push(b)?;
-    Term::call(alloc, named(b"EQUAL"), parts)
+    Term::call(alloc, named(Fixed::Equal), parts)
 }
 
 /// `(equal 7 7)`.
@@ -73,8 +73,8 @@ fn names(alloc: Global, rules: &[RewriteRule]) -> Result<Bytes, NoMemory> {
 
 /// Whether the theorems of the rules of `equal` are these, and no other head has rules.
 fn has(alloc: Global, rules: &RuleIndex, wanted: &[u8]) -> Result<bool, NoMemory> {
-    let found = names(alloc, by_head(rules, &named(b"EQUAL")))?;
-    let others = by_head(rules, &named(b"CAR"));
+    let found = names(alloc, by_head(rules, &named(Fixed::Equal)))?;
+    let others = by_head(rules, &acl2(alloc, b"CAR")?);
     Ok(found.as_slice() == wanted && others.is_empty())
 }
 

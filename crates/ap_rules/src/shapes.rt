@@ -1,0 +1,194 @@
+ghost use Rattle.std.specs.Prelude.{◌≡◌, IfOk, is_some, map};
+ghost use Rattle.ap_list.specs.Lists.{all_true, is_distinct, is_among};
+ghost use Rattle.ap_value.specs.Values.{acl2, symbol_eq};
+ghost use Rattle.ap_term.specs.declared.term.Term.{out-Term};
+ghost use Rattle.ap_term.specs.Equal.{term_eq};
+ghost use Rattle.ap_world.specs.Rows.{recognised};
+ghost use Rattle.ap_world.specs.Typing.{is_variable, are_distinct_variables};
+ghost use Rattle.ap_rules.specs.Shapes.{told, is_trigger, trigger_in, has_trigger, is_inequality, all_inequalities, calls_variables, is_type_form};
+
+use crate::refusing::are_within;
+use crate::statement::is_not;
+use ap_list::{NoMemory, Seq};
+use ap_poly::{Poly, of_literal};
+use ap_term::{Term, is_same, vars};
+use ap_value::{Symbol, is_named};
+use std::alloc::Global;
+
+/// What a conjunct says of integers.
+fn told(alloc: Global, t: &Term) -> Result<Seq<Poly>, NoMemory>
+    ensures { IfOk result (λ ps. ps ≡ told t.now) }
+{
+    match t {
+        Term::Call(f, ts) => match (is_not(f), ts.as_slice()) {
+            (true, [a]) => of_literal(alloc, a, false),
+            _ => of_literal(alloc, t, true),
+        },
+        Term::Var(_) => of_literal(alloc, t, true),
+        Term::Quote(_) => of_literal(alloc, t, true),
+    }
+}
+
+/// Whether an atom is a call with all variables of a conjunct.
+fn is_trigger(alloc: Global, t: &Term, atom: &Term) -> Result<bool, NoMemory>
+    ensures { IfOk result (λ b. b ≡ is_trigger t.now atom.now) }
+{
+    match atom {
+        Term::Call(_, _) => {
+            let wanted = vars(alloc, t)?;
+            let there = vars(alloc, atom)?;
+            Ok(are_within(wanted.as_slice(), there.as_slice()))
+        }
+        Term::Var(_) => Ok(false),
+        Term::Quote(_) => Ok(false),
+    }
+}
+
+/// Whether one of the atoms is a trigger.
+fn is_trigger_among(alloc: Global, t: &Term, parts: &[(Term, i128)]) -> Result<bool, NoMemory>
+    ensures { IfOk result (λ b. b ≡ trigger_in t.now parts.now) }
+{
+    let mut left = parts;
+    while let [first, rest @ ..] = left {
+        if is_trigger(alloc, t, &first.0)? {
+            return Ok(true);
+        }
+        left = rest;
+    }
+    Ok(false)
+}
+
+/// Whether one of the polynomials has a trigger.
+fn has_trigger(alloc: Global, t: &Term, polys: &[Poly]) -> Result<bool, NoMemory>
+    ensures { IfOk result (λ b. b ≡ has_trigger t.now polys.now) }
+{
+    let mut left = polys;
+    while let [first, rest @ ..] = left {
+        if is_trigger_among(alloc, t, first.parts.as_slice())? {
+            return Ok(true);
+        }
+        left = rest;
+    }
+    Ok(false)
+}
+
+/// Whether a conjunct is an inequality with a trigger.
+fn is_inequality(alloc: Global, t: &Term) -> Result<bool, NoMemory>
+    ensures { IfOk result (λ b. b ≡ is_inequality t.now) }
+{
+    let polys = told(alloc, t)?;
+    has_trigger(alloc, t, polys.as_slice())
+}
+
+/// Whether all conjuncts are inequalities with a trigger.
+pub(crate) fn are_inequalities(alloc: Global, parts: &[Term]) -> Result<bool, NoMemory>
+    ensures { IfOk result (λ b. b ≡ all_inequalities parts.now) }
+{
+    let mut left = parts;
+    while let [first, rest @ ..] = left {
+        if !is_inequality(alloc, first)? {
+            return Ok(false);
+        }
+        left = rest;
+    }
+    Ok(true)
+}
+
+/// Whether a symbol is one of package `ACL2` with a name of a list.
+fn is_one_of(symbol: &Symbol, names: &[&'static [u8]]) -> bool
+    ensures { result ≡ is_among symbol_eq symbol.now (map (λ n. acl2 n.now) names.now) }
+{
+    for name in names {
+        if is_named(symbol, name) {
+            return true;
+        }
+    }
+    false
+}
+
+/// Whether a symbol names a recogniser.
+fn is_recogniser(symbol: &Symbol) -> bool
+    ensures { result ≡ is_some (recognised symbol.now) }
+{
+    is_one_of(
+        symbol,
+        &[
+            b"CONSP",
+            b"INTEGERP",
+            b"SYMBOLP",
+            b"STRINGP",
+            b"CHARACTERP",
+            b"TRUE-LISTP",
+        ],
+    )
+}
+
+/// Whether a term is a variable.
+fn is_variable(t: &Term) -> bool
+    ensures { result ≡ is_variable (out-Term t.now) }
+{
+    matches!(t, Term::Var(_))
+}
+
+/// Whether all terms are variables.
+fn are_variables(ts: &[Term]) -> bool
+    ensures { result ≡ all_true (map (λ u. is_variable (out-Term u)) ts.now) }
+{
+    for t in ts {
+        if !is_variable(t) {
+            return false;
+        }
+    }
+    true
+}
+
+/// Whether a term is one of a list.
+fn is_among(t: &Term, list: &[Term]) -> bool
+    ensures { result ≡ is_among term_eq t.now list.now }
+{
+    for u in list {
+        if is_same(t, u) {
+            return true;
+        }
+    }
+    false
+}
+
+/// Whether no term comes twice.
+fn are_distinct(ts: &[Term]) -> bool
+    ensures { result ≡ is_distinct term_eq ts.now }
+{
+    let mut left = ts;
+    while let [first, rest @ ..] = left {
+        if is_among(first, rest) {
+            return false;
+        }
+        left = rest;
+    }
+    true
+}
+
+/// Whether a term is a call of distinct variables.
+fn calls_variables(t: &Term) -> bool
+    ensures { result ≡ calls_variables (out-Term t.now) }
+{
+    match t {
+        Term::Call(_, ts) => are_variables(ts.as_slice()) && are_distinct(ts.as_slice()),
+        Term::Var(_) => false,
+        Term::Quote(_) => false,
+    }
+}
+
+/// Whether a term is a recogniser on a call of distinct variables.
+pub(crate) fn is_type_form(t: &Term) -> bool
+    ensures { result ≡ is_type_form (out-Term t.now) }
+{
+    match t {
+        Term::Call(r, ts) => match ts.as_slice() {
+            [a] => is_recogniser(r) && calls_variables(a),
+            _ => false,
+        },
+        Term::Var(_) => false,
+        Term::Quote(_) => false,
+    }
+}
