@@ -7,7 +7,7 @@ use Rattle.ap_value.specs.Values.{symbol_eq}
 use Rattle.ap_term.specs.declared.term.Term.{Term, Call}
 use Rattle.ap_world.specs.Meaning.{Defs}
 use Rattle.ap_world.specs.World.{Shown, function_of}
-use Rattle.ap_world.specs.Facts.{Facts}
+use Rattle.ap_world.specs.Facts.{Facts, KnownFacts}
 use Rattle.ap_world.specs.Assume.{assume}
 use Rattle.ap_world.specs.Names.{if_name, not_name}
 use Rattle.ap_world.specs.Clauses.{not_of}
@@ -15,6 +15,7 @@ use Rattle.ap_world.specs.Sound.{known}
 use Rattle.ap_world.specs.Shapes.{shape_of, choice, negation}
 use Rattle.ap_world.proofs.Knowing.{known_args, each_true}
 use Rattle.ap_world.proofs.Shaped.{Says, shape_says}
+use Rattle.ap_world.proofs.Assumed.{assume_known}
 use Rattle.ap_kernel.specs.declared.objects.Ctx.{Ctx}
 use Rattle.ap_kernel.specs.declared.objects.Mode.{Mode}
 use Rattle.ap_kernel.specs.declared.objects.Mode.TheVariants.{Equal, Iff}
@@ -118,3 +119,23 @@ mode_made o c u v p q e k = k ∙ ap (λ (x : Sequent). leads_made x.ctx o x.lhs
 pub if_some : {A : Type 0} (o : Option A) (P : A → Type 0) → is_some o ≡ true → IfSome o P → (u : A) × (o ≡ Some u) × P u
 if_some None P h k = cc
 if_some (Some u) P h k = (u, refl, k)
+
+-- from its own left side
+pub from_own : (w : Shown) (o : Mode) (c : Ctx) (u : Term) (q : Equiv) → From w o c u q → From w o c q.says.lhs q
+from_own w o c u q f = record { stands = f.stands; ctx = f.ctx; mode = f.mode; lhs = refl }
+
+ctx_of : Facts → Ctx
+ctx_of fs = record { 0 = fs }
+
+-- a context by its facts
+pub ctx_is : (c : Ctx) (fs : Facts) → c.0 ≡ fs → c ≡ record { 0 = fs }
+unfolding ctx_of
+ctx_is c fs e = ap ctx_of e
+
+-- what is assumed of a known term is known
+pub assumed_known : (D : Defs) (fs : Facts) (u : Term) (s : Bool) (gs : Facts) → gs ≡ assume fs u s → KnownFacts D fs → known D u ≡ true → KnownFacts D gs
+assumed_known D fs u s gs e fk k = subst (KnownFacts D) (sym e) (assume_known D fs u s fk k)
+
+-- where the left side is the term
+pub followed_from : (w : Shown) (o : Mode) (c : Ctx) (u : Term) (a q : Equiv) → From w o c u a → From w o c a.says.lhs q → From w o c u q
+followed_from w o c u a q f h = from_at w o c a.says.lhs u q f.lhs h
