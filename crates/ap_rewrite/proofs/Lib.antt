@@ -27,3 +27,4 @@ pub mod Arguments
 pub mod Walked
 pub mod Chained
 pub mod Reliefs
+pub mod Conged

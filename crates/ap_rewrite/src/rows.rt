@@ -1,5 +1,5 @@
 // The kernel's rows, by what is asked and answered here: from a term, under facts and a mode.
-ghost use Rattle.std.specs.Prelude.{◌≡◌, Bool, IsTrue, IfOk, Some, None, true, false, cond, is_some};
+ghost use Rattle.std.specs.Prelude.{◌≡◌, ◌∷◌, [], Bool, IsTrue, IfOk, Some, None, true, false, cond, is_some};
 ghost use Rattle.ap_term.specs.declared.term.Term.{Term};
 ghost use Rattle.ap_world.specs.Assume.{assume};
 ghost use Rattle.ap_world.specs.Clauses.{not_of};
@@ -18,6 +18,7 @@ use ap_kernel::{
     Ctx, Equiv, Mode, NoMemory, Seq, Term, TypeOracle, bare_test, branch, cong, if_shape,
     not_symbol, open_def, refl, trans,
 };
+use std::alloc::Global;
 
 /// From a term to itself.
 pub fn stay<O: TypeOracle>(
@@ -109,6 +110,15 @@ pub fn picked<O: TypeOracle>(
     Ok(q)
 }
 
+/// A list of one equivalence.
+fn alone(alloc: Global, q: Equiv) -> Result<Seq<Equiv>, NoMemory>
+    ensures { IfOk result (λ qs. qs ≡ q ∷ []) }
+{
+    let mut out = Seq::new(alloc);
+    out.push(q)?;
+    Ok(out)
+}
+
 /// From a negation to the negation of what its argument leads to.
 pub fn negate<O: TypeOracle>(
     r: &Rewriter<'_, O>,
@@ -122,9 +132,9 @@ pub fn negate<O: TypeOracle>(
     ensures is { IfOk result (λ a. a.says.rhs ≡ not_of q.says.rhs) }
     ensures from { IfOk result (From r.now.w.now mode ctx.now (not_of q.says.lhs)) }
 {
-    let mut args = Seq::new(r.alloc);
-    args.push(q)?;
-    let equal = cong(r.alloc, r.w, ctx, &not_symbol(), args)?;
+    let args = alone(r.alloc, q)?;
+    let head = not_symbol();
+    let equal = cong(r.alloc, r.w, ctx, &head, args)?;
     let answer = in_mode(r.alloc, r.w, equal, mode)?;
     Ok(answer)
 }
