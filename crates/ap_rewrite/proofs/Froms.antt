@@ -1,5 +1,5 @@
 -- Equivalences from a term, under facts and a mode.
-use Rattle.std.proofs.Common.{◌≡◌, Bool, true, false, List, [], ◌∷◌, map, length, Option, Some, None, is_some, IfSome, IsTrue, refl, sym, ap, ◌∙◌, subst}
+use Rattle.std.proofs.Common.{◌≡◌, ℕ, Bool, true, false, cond, List, [], ◌∷◌, map, length, Option, Some, None, is_some, IfSome, IsTrue, refl, sym, ap, ◌∙◌, subst}
 use Rattle.std.specs.Option.{option_map}
 use Rattle.ap_list.specs.Lists.{Each}
 use Rattle.ap_value.specs.declared.symbol.Symbol.{Symbol}
@@ -24,7 +24,9 @@ use Rattle.ap_kernel.specs.declared.objects.Equiv.{Equiv}
 use Rattle.ap_kernel.specs.Standing.{Stands}
 use Rattle.ap_kernel.specs.Answers.{if_of, ModeFits, trans_made, branch_made}
 use Rattle.ap_rewrite.specs.Leading.{leads_made, said_of, Serves}
-use Rattle.ap_rewrite.specs.Answering.{From, right_of}
+use Rattle.ap_rewrite.specs.Answering.{From, right_of, got, got_any}
+use Rattle.ap_rewrite.specs.Rewriting.{answered}
+use Rattle.ap_term.specs.Metered.{Got, known as answer}
 
 -- what a row made
 pub from_made : (w : Shown) (o : Mode) (c : Ctx) (u v : Term) (q : Equiv) → Stands w q → q.says ≡ leads_made c o u v → From w o c u q
@@ -139,3 +141,17 @@ assumed_known D fs u s gs e fk k = subst (KnownFacts D) (sym e) (assume_known D 
 -- where the left side is the term
 pub followed_from : (w : Shown) (o : Mode) (c : Ctx) (u : Term) (a q : Equiv) → From w o c u a → From w o c a.says.lhs q → From w o c u q
 followed_from w o c u a q f h = from_at w o c a.says.lhs u q f.lhs h
+
+-- each of an answer that may not be there
+pub each_found : (w : Shown) (o : Option Equiv) (c : Ctx) (m : Mode) (u : Term) (x : Option Term) → IfSome o (λ q. Stands w q) → said_of o ≡ option_map (leads_made c m u) x → IfSome o (From w m c u)
+each_found w None c m u x s e = tt
+each_found w (Some q) c m u x s e = from_found w q c m u x s e
+
+-- an answer that is there
+pub got_answered : (o : Option Equiv) (n : ℕ) → got_any (option_map Some o) n ≡ answered (got o n)
+got_answered None n = refl
+got_answered (Some q) n = refl
+
+pub cond_answered : (b : Bool) (u : Term) (n : ℕ) (g : Got Term) → answered (cond b (answer u n) g) ≡ cond b (answer (Some u) n) (answered g)
+cond_answered true u n g = refl
+cond_answered false u n g = refl

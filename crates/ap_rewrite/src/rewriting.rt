@@ -10,8 +10,7 @@ ghost use Rattle.ap_rewrite.specs.Answering.{defs_in, Ready, setting_of, inner_o
 use crate::branching::{rewrite_if, rewrite_not};
 use crate::calls::rewrite_call;
 use crate::rewriter::{Level, Place, Rewriter, Run};
-use crate::rows::stay;
-use crate::settling::{constant_equiv, settled};
+use crate::rows::{as_constant, settled_by_type, stay};
 use ap_kernel::{Equiv, Mode, NoMemory, ShapeRef, Term, TypeOracle, shape_of};
 
 /// A variable, a constant, or a call that is no `if` and no negation.
@@ -33,11 +32,11 @@ fn rewrite_parts<
 {
     match t {
         Term::Var(_) => {
-            let q = settled(l.r.alloc, l.r.w, l.r.oracle, at.ctx, mode, t)?;
+            let q = settled_by_type(l.r, at.ctx, mode, t)?;
             Ok(Some(q))
         }
         Term::Quote(v) => {
-            let q = constant_equiv(l.r.alloc, l.r.w, at.ctx, mode, t, v)?;
+            let q = as_constant(l.r, at.ctx, mode, t, v)?;
             Ok(Some(q))
         }
         Term::Call(f, us) => rewrite_call(l, run, mode, at, f, us.as_slice()),

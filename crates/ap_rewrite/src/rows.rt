@@ -1,21 +1,25 @@
 // The kernel's rows, by what is asked and answered here: from a term, under facts and a mode.
-ghost use Rattle.std.specs.Prelude.{◌≡◌, ◌∷◌, [], Bool, IsTrue, IfOk, Some, None, true, false, cond, is_some};
-ghost use Rattle.ap_term.specs.declared.term.Term.{Term};
+ghost use Rattle.std.specs.Prelude.{◌≡◌, ◌∷◌, [], Bool, IsTrue, IfOk, IfSome, List, Some, None, true, false, cond, is_some};
+ghost use Rattle.ap_value.specs.declared.symbol.Symbol.{Symbol};
+ghost use Rattle.ap_term.specs.declared.term.Term.{Term, Quote, Call};
 ghost use Rattle.ap_world.specs.Assume.{assume};
 ghost use Rattle.ap_world.specs.Clauses.{not_of};
 ghost use Rattle.ap_world.specs.Facts.{KnownFacts};
 ghost use Rattle.ap_world.specs.Sound.{known};
 ghost use Rattle.ap_kernel.specs.Answers.{if_of};
 ghost use Rattle.ap_kernel.specs.declared.objects.Mode.TheVariants.{Equal, Iff};
+ghost use Rattle.ap_kernel.specs.Equations.{equation_leads};
 ghost use Rattle.ap_kernel.specs.Opening.{opened};
-ghost use Rattle.ap_rewrite.specs.Rewriting.{truth_of, shaped, negated};
-ghost use Rattle.ap_rewrite.specs.Answering.{defs_in, Ready, setting_of, From};
+ghost use Rattle.ap_rewrite.specs.Rewriting.{truth_of, shaped, negated, constant_in, run, settle, settled};
+ghost use Rattle.ap_rewrite.specs.Answering.{defs_in, Ready, setting_of, right_of, From};
 
+use crate::equating::equated;
 use crate::rewriter::Rewriter;
-use crate::settling::in_mode;
+use crate::running;
+use crate::settling::{constant_equiv, in_mode, settle, settled};
 use crate::shaping::{negated, shaped};
 use ap_kernel::{
-    Ctx, Equiv, Mode, NoMemory, Seq, Term, TypeOracle, bare_test, branch, cong, if_shape,
+    Ctx, Equiv, Mode, NoMemory, Seq, Term, TypeOracle, Value, bare_test, branch, cong, if_shape,
     not_symbol, open_def, refl, trans,
 };
 use std::alloc::Global;
@@ -173,4 +177,92 @@ pub fn opened<O: TypeOracle>(
     let equal = open_def(r.alloc, r.w, ctx, t)?;
     let q = in_mode(r.alloc, r.w, equal, mode)?;
     Ok(q)
+}
+
+/// From a call of constants to its value, where it is run and gives one.
+pub fn ran<O: TypeOracle>(
+    r: &Rewriter<'_, O>,
+    ctx: &Ctx,
+    mode: Mode,
+    t: &Term,
+) -> Result<Option<Equiv>, NoMemory>
+    requires ready { Ready r.now }
+    requires facts { KnownFacts (defs_in r.now) ctx.now.0 }
+    requires term { IsTrue (known (defs_in r.now) t.now) }
+    requires call { (f : Symbol) × (us : List Term) × (t.now ≡ Call f us) }
+    ensures is { IfOk result (λ o. (f : Symbol) (us : List Term) → t.now ≡ Call f us → right_of o ≡ run (setting_of r.now) mode f us) }
+    ensures from { IfOk result (λ o. IfSome o (From r.now.w.now mode ctx.now t.now)) }
+{
+    let found = running::run(r.alloc, r.w, r.theory, ctx, mode, t)?;
+    Ok(found)
+}
+
+/// From a term to what its mask settles, where that is another term.
+pub fn settles<O: TypeOracle>(
+    r: &Rewriter<'_, O>,
+    ctx: &Ctx,
+    mode: Mode,
+    t: &Term,
+) -> Result<Option<Equiv>, NoMemory>
+    requires ready { Ready r.now }
+    requires facts { KnownFacts (defs_in r.now) ctx.now.0 }
+    requires term { IsTrue (known (defs_in r.now) t.now) }
+    ensures is { IfOk result (λ o. right_of o ≡ settle (setting_of r.now) mode (record { facts = ctx.now.0; closed = []; chain = 0 }) t.now) }
+    ensures from { IfOk result (λ o. IfSome o (From r.now.w.now mode ctx.now t.now)) }
+{
+    let found = settle(r.alloc, r.w, r.oracle, ctx, mode, t)?;
+    Ok(found)
+}
+
+/// From an equation to where it leads.
+pub fn equates<O: TypeOracle>(
+    r: &Rewriter<'_, O>,
+    ctx: &Ctx,
+    mode: Mode,
+    t: &Term,
+) -> Result<Option<Equiv>, NoMemory>
+    requires ready { Ready r.now }
+    requires facts { KnownFacts (defs_in r.now) ctx.now.0 }
+    requires term { IsTrue (known (defs_in r.now) t.now) }
+    ensures is { IfOk result (λ o. right_of o ≡ equation_leads ctx.now.0 t.now) }
+    ensures from { IfOk result (λ o. IfSome o (From r.now.w.now mode ctx.now t.now)) }
+{
+    let found = equated(r.alloc, r.w, ctx, mode, t)?;
+    Ok(found)
+}
+
+/// From a term to what its mask settles, which may be the term itself.
+pub fn settled_by_type<O: TypeOracle>(
+    r: &Rewriter<'_, O>,
+    ctx: &Ctx,
+    mode: Mode,
+    t: &Term,
+) -> Result<Equiv, NoMemory>
+    requires ready { Ready r.now }
+    requires facts { KnownFacts (defs_in r.now) ctx.now.0 }
+    requires term { IsTrue (known (defs_in r.now) t.now) }
+    ensures is { IfOk result (λ q. q.says.rhs ≡ settled (setting_of r.now) mode ctx.now.0 t.now) }
+    ensures from { IfOk result (From r.now.w.now mode ctx.now t.now) }
+{
+    let found = settled(r.alloc, r.w, r.oracle, ctx, mode, t)?;
+    Ok(found)
+}
+
+/// From a constant to what it is under a mode.
+pub fn as_constant<O: TypeOracle>(
+    r: &Rewriter<'_, O>,
+    ctx: &Ctx,
+    mode: Mode,
+    t: &Term,
+    v: &Value,
+) -> Result<Equiv, NoMemory>
+    requires ready { Ready r.now }
+    requires facts { KnownFacts (defs_in r.now) ctx.now.0 }
+    requires term { IsTrue (known (defs_in r.now) t.now) }
+    requires constant { t.now ≡ Quote v.now }
+    ensures is { IfOk result (λ q. q.says.rhs ≡ constant_in mode v.now) }
+    ensures from { IfOk result (From r.now.w.now mode ctx.now t.now) }
+{
+    let found = constant_equiv(r.alloc, r.w, ctx, mode, t, v)?;
+    Ok(found)
 }

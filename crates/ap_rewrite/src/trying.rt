@@ -10,12 +10,11 @@ ghost use Rattle.ap_rewrite.specs.Rewriting.{equate, tried};
 ghost use Rattle.ap_rewrite.specs.Answering.{defs_in, setting_of, inner_of, seen_at, got_any, lead_on, got, from_settling, from_equating, from_rules, by_opening, From, IsLevel};
 
 use crate::branching::go_on;
-use crate::equating::{equated, is_quoted};
+use crate::equating::is_quoted;
 use crate::opening::by_definition;
 use crate::rewriter::{Level, Place, Run};
+use crate::rows::{equates, ran, settles};
 use crate::rules::by_rules;
-use crate::running;
-use crate::settling::settle;
 use ap_kernel::{Equiv, Mode, NoMemory, Term, TypeOracle};
 
 /// Where an equation leads: that is the answer where it is a constant, and else it is rewritten in its turn.
@@ -68,7 +67,7 @@ fn equate<
     ensures is { IfOk result (λ o. got_any o run.new.left ≡ equate (inner_of l.now.r.now l.now.levels) mode (seen_at at.now) t.now run.old.left) }
     ensures from { IfOk result (λ o. IfSome o (λ a. IfSome a (From l.now.r.now.w.now mode at.now.ctx.now t.now))) }
 {
-    match equated(l.r.alloc, l.r.w, at.ctx, mode, t)? {
+    match equates(l.r, at.ctx, mode, t)? {
         None => Ok(Some(None)),
         Some(first) => {
             let found = lead(l, run, mode, at, first)?;
@@ -145,7 +144,7 @@ fn after_running<
     ensures is { IfOk result (λ o. (f : Symbol) (us : List Term) → t.now ≡ Call f us → got_any o run.new.left ≡ first_that (from_settling (setting_of l.now.r.now) (inner_of l.now.r.now l.now.levels) mode (seen_at at.now) f us) run.old.left) }
     ensures from { IfOk result (λ o. IfSome o (λ a. IfSome a (From l.now.r.now.w.now mode at.now.ctx.now t.now))) }
 {
-    match settle(l.r.alloc, l.r.w, l.r.oracle, at.ctx, mode, t)? {
+    match settles(l.r, at.ctx, mode, t)? {
         Some(q) => Ok(Some(Some(q))),
         None => after_settling(l, run, mode, at, t),
     }
@@ -170,7 +169,7 @@ pub fn tried<
     ensures is { IfOk result (λ o. (f : Symbol) (us : List Term) → t.now ≡ Call f us → got_any o run.new.left ≡ first_that (tried (setting_of l.now.r.now) (inner_of l.now.r.now l.now.levels) mode (seen_at at.now) f us) run.old.left) }
     ensures from { IfOk result (λ o. IfSome o (λ a. IfSome a (From l.now.r.now.w.now mode at.now.ctx.now t.now))) }
 {
-    match running::run(l.r.alloc, l.r.w, l.r.theory, at.ctx, mode, t)? {
+    match ran(l.r, at.ctx, mode, t)? {
         Some(q) => Ok(Some(Some(q))),
         None => after_running(l, run, mode, at, t),
     }
