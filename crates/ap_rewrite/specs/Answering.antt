@@ -23,7 +23,6 @@ use Rattle.ap_kernel.specs.declared.objects.Mode.TheVariants.{Equal}
 use Rattle.ap_kernel.specs.declared.objects.Equiv.{Equiv}
 use Rattle.ap_kernel.specs.Answers.{said, rights}
 use Rattle.ap_kernel.specs.Applying.{AllLead}
-use Rattle.ap_kernel.specs.Opening.{is_quoted}
 use Rattle.ap_kernel.specs.Standing.{HasGround, Stands}
 use Rattle.ap_rewrite.specs.declared.rewriter.Rewriter.{Rewriter}
 use Rattle.ap_rewrite.specs.declared.rewriter.Place.{Place}
@@ -78,10 +77,6 @@ abbrev pub got_all : Option (List Equiv) → ℕ → Got (List Term)
 got_all None n = None
 got_all (Some qs) n = Some (rights (said qs), n)
 
--- where an equation leads: a constant is the answer, another term is rewritten in its turn
-abbrev pub lead_on : Inner → Mode → Stood → Term → By Term
-lead_on r o p u n = cond (is_quoted u) (answer u n) (r o p u n)
-
 -- what is tried on a call after each thing that comes before
 module _ (S : Setting) (r : Inner) (o : Mode) (p : Stood) (f : Symbol) (us : List Term) where
   abbrev pub by_opening : List (By (Option Term))
@@ -91,7 +86,7 @@ module _ (S : Setting) (r : Inner) (o : Mode) (p : Stood) (f : Symbol) (us : Lis
   from_rules = by_rules S r o p (Call f us) ∷ by_opening
 
   abbrev pub from_equating : List (By (Option Term))
-  from_equating = equate r o p (Call f us) ∷ by_arithmetic S r p f us ∷ from_rules
+  from_equating = equate S r o p (Call f us) ∷ by_arithmetic S r p f us ∷ from_rules
 
   abbrev pub from_settling : List (By (Option Term))
   from_settling = answer (settle S o p (Call f us)) ∷ from_equating

@@ -181,7 +181,7 @@ fn right<
     requires rule { IsRuleOf l.now.r.now.w.now (rule_in g.now) }
     requires fits { IsTrue (fits_mode mode (rule_in g.now)) }
     requires shown { Shows l.now.r.now.w.now at.now.ctx.now g.now.hyps [] found }
-    ensures is { IfOk result (λ o. got_any o run.new.left ≡ right (inner_of l.now.r.now l.now.levels) mode (seen_at at.now) (subst_of found.pairs.0 g.now.rhs) run.old.left) }
+    ensures is { IfOk result (λ o. got_any o run.new.left ≡ right (setting_of l.now.r.now) (inner_of l.now.r.now l.now.levels) mode (seen_at at.now) (subst_of found.pairs.0 g.now.rhs) run.old.left) }
     ensures from { IfOk result (λ o. IfSome o (λ a. IfSome a (From l.now.r.now.w.now mode at.now.ctx.now (subst_of found.pairs.0 g.now.lhs)))) }
 {
     let first = applied(l.r, at.ctx, mode, g, found)?;
@@ -211,7 +211,7 @@ fn relieved<
     requires fits { IsTrue (fits_mode mode (rule_in g.now)) }
     requires shown { Shows l.now.r.now.w.now at.now.ctx.now g.now.hyps [] found }
     requires instance { subst_of found.pairs.0 g.now.lhs ≡ t.now }
-    ensures is { IfOk result (λ o. got_any o run.new.left ≡ relieved (inner_of l.now.r.now l.now.levels) mode (seen_at at.now) t.now (rule_in g.now) (Some found.pairs.0) run.old.left) }
+    ensures is { IfOk result (λ o. got_any o run.new.left ≡ relieved (setting_of l.now.r.now) (inner_of l.now.r.now l.now.levels) mode (seen_at at.now) t.now (rule_in g.now) (Some found.pairs.0) run.old.left) }
     ensures from { IfOk result (λ o. IfSome o (λ a. IfSome a (From l.now.r.now.w.now mode at.now.ctx.now t.now))) }
 {
     if !in_order_then(l.r.alloc, g, &found.pairs, t)? {
@@ -239,7 +239,7 @@ fn apply<
     requires rule { IsRuleOf l.now.r.now.w.now (rule_in g.now) }
     requires fits { IsTrue (fits_mode mode (rule_in g.now)) }
     requires matched { matched g.now.lhs t.now [] ≡ Some s.0 }
-    ensures is { IfOk result (λ o. got_any o run.new.left ≡ apply (inner_of l.now.r.now l.now.levels) mode (seen_at at.now) t.now (rule_in g.now) (Some s.0) run.old.left) }
+    ensures is { IfOk result (λ o. got_any o run.new.left ≡ apply (setting_of l.now.r.now) (inner_of l.now.r.now l.now.levels) mode (seen_at at.now) t.now (rule_in g.now) (Some s.0) run.old.left) }
     ensures from { IfOk result (λ o. IfSome o (λ a. IfSome a (From l.now.r.now.w.now mode at.now.ctx.now t.now))) }
 {
     if !in_order_first(l.r.alloc, g, &s, t)? {

@@ -6,8 +6,8 @@ ghost use Rattle.ap_term.specs.declared.term.Term.{Term, Call};
 ghost use Rattle.ap_term.specs.Metered.{first_that};
 ghost use Rattle.ap_world.specs.Facts.{KnownFacts};
 ghost use Rattle.ap_world.specs.Sound.{known};
-ghost use Rattle.ap_rewrite.specs.Rewriting.{equate, tried};
-ghost use Rattle.ap_rewrite.specs.Answering.{defs_in, setting_of, inner_of, seen_at, got_any, lead_on, got, from_settling, from_equating, from_rules, by_opening, From, IsLevel};
+ghost use Rattle.ap_rewrite.specs.Rewriting.{led, equate, tried};
+ghost use Rattle.ap_rewrite.specs.Answering.{defs_in, setting_of, inner_of, seen_at, got_any, from_settling, from_equating, from_rules, by_opening, From, IsLevel};
 
 use crate::branching::go_on;
 use crate::equating::is_quoted;
@@ -27,17 +27,18 @@ fn lead<
     mode: Mode,
     at: &Place<'_>,
     first: Equiv,
-) -> Result<Option<Equiv>, NoMemory>
+) -> Result<Option<Option<Equiv>>, NoMemory>
     requires level { IsLevel (F.pre l.now.below.now) (F.post l.now.below.now) l.now.r.now l.now.levels }
     requires facts { KnownFacts (defs_in l.now.r.now) at.now.ctx.now.0 }
     requires first { From l.now.r.now.w.now mode at.now.ctx.now first.says.lhs first }
-    ensures is { IfOk result (λ o. got o run.new.left ≡ lead_on (inner_of l.now.r.now l.now.levels) mode (seen_at at.now) first.says.rhs run.old.left) }
-    ensures from { IfOk result (λ o. IfSome o (From l.now.r.now.w.now mode at.now.ctx.now first.says.lhs)) }
+    ensures is { IfOk result (λ o. got_any o run.new.left ≡ led (setting_of l.now.r.now) (inner_of l.now.r.now l.now.levels) mode (seen_at at.now) (Some first.says.rhs) run.old.left) }
+    ensures from { IfOk result (λ o. IfSome o (λ a. IfSome a (From l.now.r.now.w.now mode at.now.ctx.now first.says.lhs))) }
 {
     if is_quoted(first.rhs()) {
-        return Ok(Some(first));
+        return Ok(Some(Some(first)));
     }
-    go_on(l, run, mode, at, first)
+    let found = go_on(l, run, mode, at, first)?;
+    Ok(answered(found))
 }
 
 /// An answer that is there, where the steps haven't run out. Takes no memory.
@@ -64,15 +65,12 @@ fn equate<
     requires level { IsLevel (F.pre l.now.below.now) (F.post l.now.below.now) l.now.r.now l.now.levels }
     requires facts { KnownFacts (defs_in l.now.r.now) at.now.ctx.now.0 }
     requires term { IsTrue (known (defs_in l.now.r.now) t.now) }
-    ensures is { IfOk result (λ o. got_any o run.new.left ≡ equate (inner_of l.now.r.now l.now.levels) mode (seen_at at.now) t.now run.old.left) }
+    ensures is { IfOk result (λ o. got_any o run.new.left ≡ equate (setting_of l.now.r.now) (inner_of l.now.r.now l.now.levels) mode (seen_at at.now) t.now run.old.left) }
     ensures from { IfOk result (λ o. IfSome o (λ a. IfSome a (From l.now.r.now.w.now mode at.now.ctx.now t.now))) }
 {
     match equates(l.r, at.ctx, mode, t)? {
         None => Ok(Some(None)),
-        Some(first) => {
-            let found = lead(l, run, mode, at, first)?;
-            Ok(answered(found))
-        }
+        Some(first) => lead(l, run, mode, at, first),
     }
 }
 
