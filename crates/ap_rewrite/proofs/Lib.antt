@@ -28,3 +28,4 @@ pub mod Walked
 pub mod Chained
 pub mod Reliefs
 pub mod Conged
+pub mod Indexing

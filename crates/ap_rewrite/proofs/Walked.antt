@@ -118,3 +118,12 @@ branches_smaller u a b c is =
 pub branch_smaller : (s : Bool) (u b c : Term) → u ≡ cond s b c → 2 * term_size u < 2 * (term_size b + term_size c) + 1
 branch_smaller true u b c is = let k : term_size u ≡ term_size b = ap term_size is in omega (arith, k)
 branch_smaller false u b c is = let k : term_size u ≡ term_size c = ap term_size is in omega (arith, k)
+
+-- the walk at an `if`, and at another term
+pub walk_at : (S : Setting) (r : Inner) (o : Mode) (p q : Place) (u a b c : Term) (taken : Bool) (n : ℕ) → u ≡ if_of a b c
+    → walk S r o p q u taken n ≡ after (r Iff p a n) (λ a'. walk_on S r o p q taken a' (truth_of a') (b, walk S r o p q b) (c, walk S r o p q c))
+walk_at S r o p q u a b c taken n is = ap (λ (x : Term). walk S r o p q x taken n) is ∙ walk_if S r o p q a b c taken n
+
+pub leaf_at : (S : Setting) (r : Inner) (o : Mode) (p q : Place) (u v : Term) (y : ShapeRef) (taken : Bool) (n : ℕ) → u ≡ v → seen y ≡ shape_of u → ((a b c : Bor Term) → y ≡ lent.If a b c → ⊥)
+    → walk S r o p q v taken n ≡ leaf_on r o p v taken n
+leaf_at S r o p q u v y taken n is e h = subst (λ (x : Term). walk S r o p q x taken n ≡ leaf_on r o p x taken n) is (walk_leaf S r o p q u (no_branches u y e h) taken n)

@@ -19,6 +19,7 @@ ghost use Rattle.ap_rewrite.specs.Relieved.{RelievedFrom};
 
 use crate::branching::go_on;
 use crate::facts::{Relieved, by_sign, is_bound};
+use crate::laws::search_by_head;
 use crate::ordering::{fits_mode, in_order_first, in_order_then};
 use crate::rewriter::{Level, Place, Rewriter, Run, deeper};
 use crate::settling::{in_mode, to_true};
@@ -27,9 +28,10 @@ use crate::trying::answered;
 use ap_kernel::{
     Ctx, Equiv, Mode, NoMemory, Seq, Subst, Term, TypeOracle, apply_theorem, is_constant, subst,
 };
-use ap_rules::{RewriteRule, by_head};
+use ap_rules::{RewriteRule, by_head, rules_are_parts};
 use ap_term::one_way_match;
 use ap_world::RuneKind;
+use ap_world::laws::rules_hold;
 
 /// The hypotheses of a rule that are relieved: the pairs that have come of it, and for each the equivalence that
 /// leads from its instance to `'T`.
@@ -331,6 +333,11 @@ pub fn by_rules<
     let Term::Call(f, _) = t else {
         unreachable!()
     };
+    search_by_head();
+    rules_are_parts();
+    rules_hold();
+    l.r.w.is_sound();
+    l.r.w.has_distinct_names();
     let gs = by_head(l.r.rules, f);
     each_rule(l, run, mode, at, t, gs)
 }
