@@ -29,3 +29,4 @@ pub mod Chained
 pub mod Reliefs
 pub mod Conged
 pub mod Indexing
+pub mod Called

@@ -1,16 +1,14 @@
 // A call: its arguments one level deeper, then what is tried on it.
-ghost use Rattle.std.specs.Prelude.{◌≡◌, IsTrue, IfOk, IfSome, List, length, unwrap_or};
+ghost use Rattle.std.specs.Prelude.{◌≡◌, IsTrue, IfOk, IfSome, length, unwrap_or};
 ghost use Rattle.ap_list.specs.Lists.{Each};
 ghost use Rattle.std.specs.Option.{ForSome};
-ghost use Rattle.ap_value.specs.declared.symbol.Symbol.{Symbol};
-ghost use Rattle.ap_term.specs.declared.term.Term.{Term, Call};
-ghost use Rattle.ap_term.specs.Metered.{mapped, first_that};
+ghost use Rattle.ap_term.specs.declared.term.Term.{Call};
 ghost use Rattle.ap_world.specs.Facts.{KnownFacts};
 ghost use Rattle.ap_world.specs.Primitives.{prim_of};
 ghost use Rattle.ap_world.specs.Sound.{known, is_head};
 ghost use Rattle.ap_kernel.specs.Answers.{said, lefts, rights};
 ghost use Rattle.ap_kernel.specs.declared.objects.Mode.TheVariants.{Equal};
-ghost use Rattle.ap_rewrite.specs.Rewriting.{rewrite_args, tried, rewrite_call};
+ghost use Rattle.ap_rewrite.specs.Rewriting.{rewrite_args, rewrite_call};
 ghost use Rattle.ap_rewrite.specs.Answering.{defs_in, Ready, setting_of, inner_of, seen_at, got, got_all, right_of, Leads, From, IsLevel};
 
 use crate::rewriter::{Level, Place, Rewriter, Run, deeper};
@@ -87,30 +85,6 @@ fn followed<O: TypeOracle>(
     }
 }
 
-/// A call whose arguments are rewritten: what is tried on it, and else it stays.
-fn on_call<
-    O: TypeOracle,
-    F: Fn(&mut Run, Mode, &Place<'_>, &Term) -> Result<Option<Equiv>, NoMemory>,
->(
-    l: &Level<'_, '_, O, F>,
-    run: &mut Run,
-    mode: Mode,
-    at: &Place<'_>,
-    first: Equiv,
-) -> Result<Option<Equiv>, NoMemory>
-    requires level { IsLevel (F.pre l.now.below.now) (F.post l.now.below.now) l.now.r.now l.now.levels }
-    requires facts { KnownFacts (defs_in l.now.r.now) at.now.ctx.now.0 }
-    requires first { From l.now.r.now.w.now mode at.now.ctx.now first.says.lhs first }
-    ensures is { IfOk result (λ o. (f : Symbol) (us : List Term) → first.says.rhs ≡ Call f us → got o run.new.left ≡ mapped (λ v. unwrap_or v (Call f us)) (first_that (tried (setting_of l.now.r.now) (inner_of l.now.r.now l.now.levels) mode (seen_at at.now) f us) run.old.left)) }
-    ensures from { IfOk result (λ o. IfSome o (From l.now.r.now.w.now mode at.now.ctx.now first.says.lhs)) }
-{
-    let Some(found) = tried(l, run, mode, at, first.rhs())? else {
-        return Ok(None);
-    };
-    let q = followed(l.r, at.ctx, mode, first, found)?;
-    Ok(Some(q))
-}
-
 /// A call that is no `if` and no negation.
 pub fn rewrite_call<
     O: TypeOracle,
@@ -133,5 +107,12 @@ pub fn rewrite_call<
         return Ok(None);
     };
     let first = on_arguments(l.r, at.ctx, mode, f, args)?;
-    on_call(l, run, mode, at, first)
+    let Term::Call(g, vs) = first.rhs() else {
+        unreachable!()
+    };
+    let Some(found) = tried(l, run, mode, at, first.rhs(), g, vs.as_slice())? else {
+        return Ok(None);
+    };
+    let q = followed(l.r, at.ctx, mode, first, found)?;
+    Ok(Some(q))
 }

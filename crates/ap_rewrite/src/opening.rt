@@ -1,18 +1,12 @@
 // The definition of a function that is called.
-ghost use Rattle.std.specs.Prelude.{◌≡◌, ◌∷◌, IsTrue, IfOk, IfSome, List, Some, None, cond, false, is_some};
-ghost use Rattle.ap_list.specs.Lists.{is_among};
-ghost use Rattle.ap_value.specs.declared.symbol.Symbol.{Symbol};
-ghost use Rattle.ap_term.specs.declared.term.Term.{Term, Call};
-ghost use Rattle.ap_term.specs.Equal.{term_eq};
-ghost use Rattle.ap_term.specs.Metered.{mapped};
+ghost use Rattle.std.specs.Prelude.{◌≡◌, ◌∷◌, IsTrue, IfOk, IfSome, Some, None};
+ghost use Rattle.ap_term.specs.declared.term.Term.{Call};
 ghost use Rattle.ap_world.specs.Facts.{KnownFacts};
 ghost use Rattle.ap_world.specs.Sound.{known};
 ghost use Rattle.ap_kernel.specs.Answers.{if_of};
-ghost use Rattle.ap_kernel.specs.Opening.{opened, body_at};
 ghost use Rattle.ap_kernel.specs.declared.objects.Mode.TheVariants.{Iff};
-ghost use Rattle.ap_rewrite.specs.Settings.{closing};
 ghost use Rattle.ap_rewrite.specs.Rewriting.{truth_of, walk, walk_on, answered, open_instance, opened as opening, by_definition};
-ghost use Rattle.ap_rewrite.specs.Answering.{defs_in, Ready, setting_of, inner_of, seen_at, got_any, leaf_on, open_closed, From, IsLevel};
+ghost use Rattle.ap_rewrite.specs.Answering.{defs_in, setting_of, inner_of, seen_at, got_any, leaf_on, open_closed, From, IsLevel};
 
 use crate::branching::{both, choose, go_on};
 use crate::rewriter::{Level, Place, Run, deeper};
@@ -239,14 +233,15 @@ fn open_call<
     at: &Place<'_>,
     t: &Term,
     f: &Symbol,
+    us: &[Term],
     g: &Function,
 ) -> Result<Option<Option<Equiv>>, NoMemory>
     requires level { IsLevel (F.pre l.now.below.now) (F.post l.now.below.now) l.now.r.now l.now.levels }
     requires facts { KnownFacts (defs_in l.now.r.now) at.now.ctx.now.0 }
     requires term { IsTrue (known (defs_in l.now.r.now) t.now) }
-    requires call { (us : List Term) × (t.now ≡ Call f.now us) }
+    requires call { t.now ≡ Call f.now us.now }
     requires function { defs_in l.now.r.now f.now ≡ Some g.now }
-    ensures is { IfOk result (λ o. (us : List Term) → t.now ≡ Call f.now us → got_any o run.new.left ≡ opening (setting_of l.now.r.now) (inner_of l.now.r.now l.now.levels) mode (seen_at at.now) t.now f.now us (Some g.now) run.old.left) }
+    ensures is { IfOk result (λ o. got_any o run.new.left ≡ opening (setting_of l.now.r.now) (inner_of l.now.r.now l.now.levels) mode (seen_at at.now) t.now f.now us.now (Some g.now) run.old.left) }
     ensures from { IfOk result (λ o. IfSome o (λ a. IfSome a (From l.now.r.now.w.now mode at.now.ctx.now t.now))) }
 {
     if !l.r.theory.is_enabled(RuneKind::Definition, f) || is_among(f, at.closed) {
@@ -269,19 +264,18 @@ pub fn by_definition<
     mode: Mode,
     at: &Place<'_>,
     t: &Term,
+    f: &Symbol,
+    us: &[Term],
 ) -> Result<Option<Option<Equiv>>, NoMemory>
     requires level { IsLevel (F.pre l.now.below.now) (F.post l.now.below.now) l.now.r.now l.now.levels }
     requires facts { KnownFacts (defs_in l.now.r.now) at.now.ctx.now.0 }
     requires term { IsTrue (known (defs_in l.now.r.now) t.now) }
-    requires call { (f : Symbol) × (us : List Term) × (t.now ≡ Call f us) }
-    ensures is { IfOk result (λ o. (f : Symbol) (us : List Term) → t.now ≡ Call f us → got_any o run.new.left ≡ by_definition (setting_of l.now.r.now) (inner_of l.now.r.now l.now.levels) mode (seen_at at.now) f us run.old.left) }
+    requires call { t.now ≡ Call f.now us.now }
+    ensures is { IfOk result (λ o. got_any o run.new.left ≡ by_definition (setting_of l.now.r.now) (inner_of l.now.r.now l.now.levels) mode (seen_at at.now) f.now us.now run.old.left) }
     ensures from { IfOk result (λ o. IfSome o (λ a. IfSome a (From l.now.r.now.w.now mode at.now.ctx.now t.now))) }
 {
-    let Term::Call(f, _) = t else {
-        unreachable!()
-    };
     match l.r.w.lookup_fun(f) {
         None => Ok(Some(None)),
-        Some(g) => open_call(l, run, mode, at, t, f, g),
+        Some(g) => open_call(l, run, mode, at, t, f, us, g),
     }
 }

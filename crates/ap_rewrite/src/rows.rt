@@ -1,6 +1,5 @@
 // The kernel's rows, by what is asked and answered here: from a term, under facts and a mode.
-ghost use Rattle.std.specs.Prelude.{◌≡◌, ◌∷◌, [], Bool, IsTrue, IfOk, IfSome, List, Some, None, true, false, cond, is_some};
-ghost use Rattle.ap_value.specs.declared.symbol.Symbol.{Symbol};
+ghost use Rattle.std.specs.Prelude.{◌≡◌, ◌∷◌, [], Bool, IsTrue, IfOk, IfSome, Some, None, true, false, cond, is_some};
 ghost use Rattle.ap_term.specs.declared.term.Term.{Term, Quote, Call};
 ghost use Rattle.ap_world.specs.Assume.{assume};
 ghost use Rattle.ap_world.specs.Clauses.{not_of};
@@ -19,7 +18,7 @@ use crate::running;
 use crate::settling::{constant_equiv, in_mode, settle, settled};
 use crate::shaping::{negated, shaped};
 use ap_kernel::{
-    Ctx, Equiv, Mode, NoMemory, Seq, Term, TypeOracle, Value, bare_test, branch, cong, if_shape,
+    Ctx, Equiv, Mode, NoMemory, Seq, Symbol, Term, TypeOracle, Value, bare_test, branch, cong, if_shape,
     not_symbol, open_def, refl, trans,
 };
 use std::alloc::Global;
@@ -185,12 +184,14 @@ pub fn ran<O: TypeOracle>(
     ctx: &Ctx,
     mode: Mode,
     t: &Term,
+    f: &Symbol,
+    us: &[Term],
 ) -> Result<Option<Equiv>, NoMemory>
     requires ready { Ready r.now }
     requires facts { KnownFacts (defs_in r.now) ctx.now.0 }
     requires term { IsTrue (known (defs_in r.now) t.now) }
-    requires call { (f : Symbol) × (us : List Term) × (t.now ≡ Call f us) }
-    ensures is { IfOk result (λ o. (f : Symbol) (us : List Term) → t.now ≡ Call f us → right_of o ≡ run (setting_of r.now) mode f us) }
+    requires call { t.now ≡ Call f.now us.now }
+    ensures is { IfOk result (λ o. right_of o ≡ run (setting_of r.now) mode f.now us.now) }
     ensures from { IfOk result (λ o. IfSome o (From r.now.w.now mode ctx.now t.now)) }
 {
     let found = running::run(r.alloc, r.w, r.theory, ctx, mode, t)?;

@@ -1,8 +1,7 @@
 // Rules, the newest first.
-ghost use Rattle.std.specs.Prelude.{◌≡◌, ◌<◌, IsTrue, IfOk, IfSome, List, Some, [], map};
+ghost use Rattle.std.specs.Prelude.{◌≡◌, ◌<◌, IsTrue, IfOk, IfSome, Some, [], map};
 ghost use Rattle.ap_list.specs.Lists.{Each};
-ghost use Rattle.ap_value.specs.declared.symbol.Symbol.{Symbol};
-ghost use Rattle.ap_term.specs.declared.term.Term.{Term, Call};
+ghost use Rattle.ap_term.specs.declared.term.Term.{Call};
 ghost use Rattle.ap_term.specs.Matching.{matched, Extends, is_bound};
 ghost use Rattle.ap_term.specs.Metered.{first_that};
 ghost use Rattle.ap_term.specs.Terms.{subst_of};
@@ -26,7 +25,7 @@ use crate::settling::{in_mode, to_true};
 use crate::testing::is_small;
 use crate::trying::answered;
 use ap_kernel::{
-    Ctx, Equiv, Mode, NoMemory, Seq, Subst, Term, TypeOracle, apply_theorem, is_constant, subst,
+    Ctx, Equiv, Mode, NoMemory, Seq, Subst, Symbol, Term, TypeOracle, apply_theorem, is_constant, subst,
 };
 use ap_rules::{RewriteRule, by_head, rules_are_parts};
 use ap_term::one_way_match;
@@ -322,17 +321,16 @@ pub fn by_rules<
     mode: Mode,
     at: &Place<'_>,
     t: &Term,
+    f: &Symbol,
+    us: &[Term],
 ) -> Result<Option<Option<Equiv>>, NoMemory>
     requires level { IsLevel (F.pre l.now.below.now) (F.post l.now.below.now) l.now.r.now l.now.levels }
     requires facts { KnownFacts (defs_in l.now.r.now) at.now.ctx.now.0 }
     requires term { IsTrue (known (defs_in l.now.r.now) t.now) }
-    requires call { (f : Symbol) × (us : List Term) × (t.now ≡ Call f us) }
+    requires call { t.now ≡ Call f.now us.now }
     ensures is { IfOk result (λ o. got_any o run.new.left ≡ by_rules (setting_of l.now.r.now) (inner_of l.now.r.now l.now.levels) mode (seen_at at.now) t.now run.old.left) }
     ensures from { IfOk result (λ o. IfSome o (λ a. IfSome a (From l.now.r.now.w.now mode at.now.ctx.now t.now))) }
 {
-    let Term::Call(f, _) = t else {
-        unreachable!()
-    };
     search_by_head();
     rules_are_parts();
     rules_hold();

@@ -1,8 +1,7 @@
 // What is tried on a call whose arguments are rewritten, in order.
-ghost use Rattle.std.specs.Prelude.{◌≡◌, IsTrue, IfOk, IfSome, List, Some};
+ghost use Rattle.std.specs.Prelude.{◌≡◌, IsTrue, IfOk, IfSome, Some};
 ghost use Rattle.std.specs.Option.{option_map};
-ghost use Rattle.ap_value.specs.declared.symbol.Symbol.{Symbol};
-ghost use Rattle.ap_term.specs.declared.term.Term.{Term, Call};
+ghost use Rattle.ap_term.specs.declared.term.Term.{Call};
 ghost use Rattle.ap_term.specs.Metered.{first_that};
 ghost use Rattle.ap_world.specs.Facts.{KnownFacts};
 ghost use Rattle.ap_world.specs.Sound.{known};
@@ -15,7 +14,7 @@ use crate::opening::by_definition;
 use crate::rewriter::{Level, Place, Run};
 use crate::rows::{equates, ran, settles};
 use crate::rules::by_rules;
-use ap_kernel::{Equiv, Mode, NoMemory, Term, TypeOracle};
+use ap_kernel::{Equiv, Mode, NoMemory, Symbol, Term, TypeOracle};
 
 /// Where an equation leads: that is the answer where it is a constant, and else it is rewritten in its turn.
 fn lead<
@@ -84,18 +83,20 @@ fn after_equating<
     mode: Mode,
     at: &Place<'_>,
     t: &Term,
+    f: &Symbol,
+    us: &[Term],
 ) -> Result<Option<Option<Equiv>>, NoMemory>
     requires level { IsLevel (F.pre l.now.below.now) (F.post l.now.below.now) l.now.r.now l.now.levels }
     requires facts { KnownFacts (defs_in l.now.r.now) at.now.ctx.now.0 }
     requires term { IsTrue (known (defs_in l.now.r.now) t.now) }
-    requires call { (f : Symbol) × (us : List Term) × (t.now ≡ Call f us) }
-    ensures is { IfOk result (λ o. (f : Symbol) (us : List Term) → t.now ≡ Call f us → got_any o run.new.left ≡ first_that (from_rules (setting_of l.now.r.now) (inner_of l.now.r.now l.now.levels) mode (seen_at at.now) f us) run.old.left) }
+    requires call { t.now ≡ Call f.now us.now }
+    ensures is { IfOk result (λ o. got_any o run.new.left ≡ first_that (from_rules (setting_of l.now.r.now) (inner_of l.now.r.now l.now.levels) mode (seen_at at.now) f.now us.now) run.old.left) }
     ensures from { IfOk result (λ o. IfSome o (λ a. IfSome a (From l.now.r.now.w.now mode at.now.ctx.now t.now))) }
 {
-    match by_rules(l, run, mode, at, t)? {
+    match by_rules(l, run, mode, at, t, f, us)? {
         None => Ok(None),
         Some(Some(q)) => Ok(Some(Some(q))),
-        Some(None) => by_definition(l, run, mode, at, t),
+        Some(None) => by_definition(l, run, mode, at, t, f, us),
     }
 }
 
@@ -109,18 +110,20 @@ fn after_settling<
     mode: Mode,
     at: &Place<'_>,
     t: &Term,
+    f: &Symbol,
+    us: &[Term],
 ) -> Result<Option<Option<Equiv>>, NoMemory>
     requires level { IsLevel (F.pre l.now.below.now) (F.post l.now.below.now) l.now.r.now l.now.levels }
     requires facts { KnownFacts (defs_in l.now.r.now) at.now.ctx.now.0 }
     requires term { IsTrue (known (defs_in l.now.r.now) t.now) }
-    requires call { (f : Symbol) × (us : List Term) × (t.now ≡ Call f us) }
-    ensures is { IfOk result (λ o. (f : Symbol) (us : List Term) → t.now ≡ Call f us → got_any o run.new.left ≡ first_that (from_equating (setting_of l.now.r.now) (inner_of l.now.r.now l.now.levels) mode (seen_at at.now) f us) run.old.left) }
+    requires call { t.now ≡ Call f.now us.now }
+    ensures is { IfOk result (λ o. got_any o run.new.left ≡ first_that (from_equating (setting_of l.now.r.now) (inner_of l.now.r.now l.now.levels) mode (seen_at at.now) f.now us.now) run.old.left) }
     ensures from { IfOk result (λ o. IfSome o (λ a. IfSome a (From l.now.r.now.w.now mode at.now.ctx.now t.now))) }
 {
     match equate(l, run, mode, at, t)? {
         None => Ok(None),
         Some(Some(q)) => Ok(Some(Some(q))),
-        Some(None) => after_equating(l, run, mode, at, t),
+        Some(None) => after_equating(l, run, mode, at, t, f, us),
     }
 }
 
@@ -134,17 +137,19 @@ fn after_running<
     mode: Mode,
     at: &Place<'_>,
     t: &Term,
+    f: &Symbol,
+    us: &[Term],
 ) -> Result<Option<Option<Equiv>>, NoMemory>
     requires level { IsLevel (F.pre l.now.below.now) (F.post l.now.below.now) l.now.r.now l.now.levels }
     requires facts { KnownFacts (defs_in l.now.r.now) at.now.ctx.now.0 }
     requires term { IsTrue (known (defs_in l.now.r.now) t.now) }
-    requires call { (f : Symbol) × (us : List Term) × (t.now ≡ Call f us) }
-    ensures is { IfOk result (λ o. (f : Symbol) (us : List Term) → t.now ≡ Call f us → got_any o run.new.left ≡ first_that (from_settling (setting_of l.now.r.now) (inner_of l.now.r.now l.now.levels) mode (seen_at at.now) f us) run.old.left) }
+    requires call { t.now ≡ Call f.now us.now }
+    ensures is { IfOk result (λ o. got_any o run.new.left ≡ first_that (from_settling (setting_of l.now.r.now) (inner_of l.now.r.now l.now.levels) mode (seen_at at.now) f.now us.now) run.old.left) }
     ensures from { IfOk result (λ o. IfSome o (λ a. IfSome a (From l.now.r.now.w.now mode at.now.ctx.now t.now))) }
 {
     match settles(l.r, at.ctx, mode, t)? {
         Some(q) => Ok(Some(Some(q))),
-        None => after_settling(l, run, mode, at, t),
+        None => after_settling(l, run, mode, at, t, f, us),
     }
 }
 
@@ -159,16 +164,18 @@ pub fn tried<
     mode: Mode,
     at: &Place<'_>,
     t: &Term,
+    f: &Symbol,
+    us: &[Term],
 ) -> Result<Option<Option<Equiv>>, NoMemory>
     requires level { IsLevel (F.pre l.now.below.now) (F.post l.now.below.now) l.now.r.now l.now.levels }
     requires facts { KnownFacts (defs_in l.now.r.now) at.now.ctx.now.0 }
     requires term { IsTrue (known (defs_in l.now.r.now) t.now) }
-    requires call { (f : Symbol) × (us : List Term) × (t.now ≡ Call f us) }
-    ensures is { IfOk result (λ o. (f : Symbol) (us : List Term) → t.now ≡ Call f us → got_any o run.new.left ≡ first_that (tried (setting_of l.now.r.now) (inner_of l.now.r.now l.now.levels) mode (seen_at at.now) f us) run.old.left) }
+    requires call { t.now ≡ Call f.now us.now }
+    ensures is { IfOk result (λ o. got_any o run.new.left ≡ first_that (tried (setting_of l.now.r.now) (inner_of l.now.r.now l.now.levels) mode (seen_at at.now) f.now us.now) run.old.left) }
     ensures from { IfOk result (λ o. IfSome o (λ a. IfSome a (From l.now.r.now.w.now mode at.now.ctx.now t.now))) }
 {
-    match ran(l.r, at.ctx, mode, t)? {
+    match ran(l.r, at.ctx, mode, t, f, us)? {
         Some(q) => Ok(Some(Some(q))),
-        None => after_running(l, run, mode, at, t),
+        None => after_running(l, run, mode, at, t, f, us),
     }
 }
