@@ -30,3 +30,4 @@ pub mod Reliefs
 pub mod Conged
 pub mod Indexing
 pub mod Called
+pub mod Applied
