@@ -5,7 +5,7 @@ ghost use Rattle.ap_world.specs.Facts.{KnownFacts};
 ghost use Rattle.ap_world.specs.Sound.{known};
 ghost use Rattle.ap_kernel.specs.Answers.{if_of};
 ghost use Rattle.ap_kernel.specs.declared.objects.Mode.TheVariants.{Iff};
-ghost use Rattle.ap_rewrite.specs.Rewriting.{truth_of, walk, walk_on, answered, open_instance, opened as opening, by_definition};
+ghost use Rattle.ap_rewrite.specs.Rewriting.{truth_of, both, walk, walk_on, answered, open_instance, opened as opening, by_definition};
 ghost use Rattle.ap_rewrite.specs.Answering.{defs_in, setting_of, inner_of, seen_at, got_any, leaf_on, open_closed, From, IsLevel};
 
 use crate::branching::{both, choose, go_on};
