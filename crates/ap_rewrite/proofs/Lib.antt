@@ -31,3 +31,4 @@ pub mod Conged
 pub mod Indexing
 pub mod Called
 pub mod Applied
+pub mod Opened
