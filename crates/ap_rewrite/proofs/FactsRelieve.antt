@@ -1,10 +1,11 @@
 -- Hypotheses that facts relieve: what is shown of their instances, under the pairs that come of it and under more.
-use Rattle.std.proofs.Common.{Bor, ◌≡◌, Bool, true, false, List, [], ◌∷◌, map, Option, None, Some, is_some, slice_get, ℕ, refl, sym, ap, ◌∙◌, subst}
+use Rattle.std.proofs.Common.{Bor, ◌≡◌, IfSome, length, Bool, true, false, List, [], ◌∷◌, map, Option, None, Some, is_some, slice_get, ℕ, refl, sym, ap, ◌∙◌, subst}
 use Rattle.ap_list.specs.Lists.{Each, all_true, lookup_by}
 use Rattle.ap_value.specs.declared.symbol.Symbol.{Symbol}
 use Rattle.ap_value.specs.declared.value.Value.{Value}
 use Rattle.ap_value.specs.Values.{symbol_eq}
-use Rattle.ap_value.proofs.Equals.{both, and_true}
+use Rattle.ap_value.proofs.Equals.{both, and_true, symbol_eq-same}
+use Rattle.ap_term.specs.declared.term.Subst.{Subst}
 use Rattle.ap_term.specs.declared.term.Term.{Term, Var, Quote, Call}
 use Rattle.ap_term.specs.Terms.{subst_of}
 use Rattle.ap_term.specs.Matching.{Pairs, matched, Extends, is_bound, bound_step}
@@ -13,24 +14,32 @@ use Rattle.ap_term.proofs.Matches.{bound_alike, match_gives}
 use Rattle.ap_world.specs.Clauses.{not_of}
 use Rattle.ap_world.specs.Names.{not_name}
 use Rattle.ap_world.specs.Meaning.{Defs}
-use Rattle.ap_world.specs.Sound.{known}
+use Rattle.ap_world.specs.Sound.{known, is_head}
+use Rattle.ap_world.specs.Primitives.{prim_of}
 use Rattle.ap_world.specs.World.{Shown, function_of}
-use Rattle.ap_world.specs.Recursion.{t_constant}
+use Rattle.ap_world.specs.Recursion.{nil_constant, t_constant}
 use Rattle.ap_world.specs.Holding.{KnownPairs}
 use Rattle.ap_world.specs.Facts.{Facts, KnownFacts}
 use Rattle.ap_world.specs.Shapes.{shape_of}
+use Rattle.ap_world.proofs.Knowing.{known_quote, known_head}
 use Rattle.ap_world.proofs.Written.{subst_call}
 use Rattle.ap_world.proofs.Instances.{match_fits}
 use Rattle.ap_kernel.specs.declared.objects.Ctx.{Ctx}
 use Rattle.ap_kernel.specs.declared.objects.Equiv.{Equiv}
+use Rattle.ap_kernel.specs.declared.objects.Sequent.{Sequent}
+use Rattle.ap_kernel.specs.declared.objects.Mode.TheVariants.{Equal}
+use Rattle.ap_kernel.specs.Answers.{fact_made, ModeFits, IsArgument, said, cong_made}
 use Rattle.ap_kernel.specs.declared.shapes.ShapeRef.{ShapeRef}
 use Rattle.ap_kernel.specs.declared.shapes.ShapeRef.TheVariants as lent
 use Rattle.ap_kernel.specs.Shapes.{seen}
-use Rattle.ap_kernel.specs.Standing.{Stands}
+use Rattle.ap_kernel.specs.Standing.{HasGround, Stands}
 use Rattle.ap_kernel.specs.Applying.{LeadsToTrue}
+use Rattle.ap_kernel.proofs.ChoicesStand.{known_not}
 use Rattle.ap_kernel.proofs.Typed.{each_at}
+use Rattle.ap_rewrite.specs.declared.facts.Matched.{Matched}
 use Rattle.ap_rewrite.specs.declared.facts.Relieved.{Relieved}
-use Rattle.ap_rewrite.specs.Relieved.{Relieves, RelievedFrom}
+use Rattle.ap_rewrite.specs.Leading.{leads_made}
+use Rattle.ap_rewrite.specs.Relieved.{MatchedAt, Relieves, RelievedFrom}
 use Rattle.ap_rewrite.specs.Relieving.{by_facts, by_sign}
 
 -- where every variable of a term has a pair, it has one among more pairs
@@ -124,3 +133,40 @@ by_sign_other h (lent.If x y z) q n s fs = ap (λ y. by_sign h y s fs) (sym q)
 by_sign_other h (lent.Equal x y) q n s fs = ap (λ y. by_sign h y s fs) (sym q)
 by_sign_other h (lent.Cons x y) q n s fs = ap (λ y. by_sign h y s fs) (sym q)
 by_sign_other h lent.Other q n s fs = ap (λ y. by_sign h y s fs) (sym q)
+
+-- what is said of the fact at a place
+pub fact_said : (c : Ctx) (o : Option (Term × Bool)) (u : Term) (b : Bool) (q : Sequent) → o ≡ Some (u, b) → IfSome o (λ f. q ≡ fact_made c f.0 f.1) → q ≡ fact_made c u b
+fact_said c None u b q h k = cc
+fact_said c (Some f) u b q h k = let same : f ≡ (u, b) = cc in k ∙ ap (λ (f : Term × Bool). fact_made c f.0 f.1) same
+
+pub true_shown : (w : Shown) (c : Ctx) (h : Term) (s : Pairs) (m : Matched) (r : Relieved) → KnownFacts (function_of w.entries) c.0 → KnownPairs (function_of w.entries) s → MatchedAt c.0 h true s m
+    → r.pairs ≡ m.pairs → Stands w r.shown → IfSome (slice_get c.0 m.place) (λ f. r.shown.says ≡ fact_made c f.0 f.1) → RelievedFrom w c h s r
+true_shown w c h s m r fk ks found same stands said =
+    let found_here : Found w h s m.pairs.0 found.fact = fact_found w c.0 m.place found.fact true h s m.pairs.0 fk ks found.at found.found in
+    let says : r.shown.says ≡ fact_made c found.fact true = fact_said c (slice_get c.0 m.place) found.fact true r.shown.says found.at said in
+    by_true_relieves w c h s found.fact r (subst (λ (z : Subst). Found w h s z.0 found.fact) (sym same) found_here) stands
+    (ap (λ (q : Sequent). q.ctx) says) (ap (λ (q : Sequent). q.lhs) says) (ap (λ (q : Sequent). q.rhs) says)
+
+pub false_shown : (w : Shown) (c : Ctx) (a : Term) (s : Pairs) (m : Matched) (q : Sequent) (r : Relieved) → KnownFacts (function_of w.entries) c.0 → KnownPairs (function_of w.entries) s → MatchedAt c.0 a false s m
+    → r.pairs ≡ m.pairs → Stands w r.shown → IfSome (slice_get c.0 m.place) (λ f. q ≡ fact_made c f.0 f.1) → r.shown.says ≡ leads_made c Equal (not_of q.lhs) t_constant → RelievedFrom w c (not_of a) s r
+false_shown w c a s m q r fk ks found same stands said says =
+    let found_here : Found w a s m.pairs.0 found.fact = fact_found w c.0 m.place found.fact false a s m.pairs.0 fk ks found.at found.found in
+    let fact : q ≡ fact_made c found.fact false = fact_said c (slice_get c.0 m.place) found.fact false q found.at said in
+    by_false_relieves w c a s found.fact r (subst (λ (z : Subst). Found w a s z.0 found.fact) (sym same) found_here) stands
+    (ap (λ (q : Sequent). q.ctx) says) (ap (λ (q : Sequent). q.lhs) says ∙ ap (λ (q : Sequent). not_of q.lhs) fact) (ap (λ (q : Sequent). q.rhs) says)
+
+-- the argument of a negation, as the row on calls is handed it
+pub not_args : (w : Shown) (c : Ctx) (q : Equiv) (f : Symbol) (args : List Equiv) → f ≡ not_name → args ≡ q ∷ [] → Stands w q → q.says.ctx ≡ c → Each (IsArgument w c f) args
+not_args w c q f args p h stands facts = subst (Each (IsArgument w c f)) (sym h) (record { stands = stands; fits = record { facts = facts; mode = fits } }, tt)
+  where
+    fits : ModeFits (symbol_eq f not_name) q.says.mode
+    fits = subst (λ b. ModeFits b q.says.mode) (sym (ap (λ g. symbol_eq g not_name) p ∙ symbol_eq-same not_name)) tt
+
+pub not_head : (D : Defs) → HasGround D → (f : Symbol) (q : Equiv) (args : List Equiv) → f ≡ not_name → args ≡ q ∷ [] → is_head D f (prim_of f) (length args) ≡ true
+not_head D ground f q args p h =
+    let one : is_head D not_name (prim_of not_name) 1 ≡ true = known_head D not_name (nil_constant ∷ []) (known_not D ground nil_constant (known_quote D _)) in
+    subst (λ qs. is_head D f (prim_of f) (length qs) ≡ true) (sym h) (subst (λ g. is_head D g (prim_of g) 1 ≡ true) (sym p) one)
+
+pub not_said : (c : Ctx) (q : Equiv) (f : Symbol) (args : List Equiv) (s : Sequent) → f ≡ not_name → args ≡ q ∷ [] → s ≡ cong_made c f (said args) → s ≡ leads_made c Equal (not_of q.says.lhs) (not_of q.says.rhs)
+not_said c q f args s p h k =
+    k ∙ ap (λ qs. cong_made c f (said qs)) h ∙ ap (λ g. cong_made c g (said (q ∷ []))) p

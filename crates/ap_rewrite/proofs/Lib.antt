@@ -32,3 +32,4 @@ pub mod Indexing
 pub mod Called
 pub mod Applied
 pub mod Opened
+pub mod Ran

@@ -1,5 +1,5 @@
 -- Negations, and an `if` by its simplest shape: what the rows on them ask for and give.
-use Rattle.std.proofs.Common.{Bor, ◌≡◌, Bool, true, false, cond, not, ◌||◌, [], ◌∷◌, Option, None, Some, refl, sym, ap, ◌∙◌, subst}
+use Rattle.std.proofs.Common.{Bor, ◌≡◌, Bool, true, false, cond, not, [], ◌∷◌, Option, None, Some, refl, sym, ap, ◌∙◌, subst}
 use Rattle.ap_value.specs.declared.value.Value.{Value, Sym}
 use Rattle.ap_value.specs.Values.{val_of, value_eq}
 use Rattle.ap_value.proofs.Equals.{value_eq-same}
@@ -13,13 +13,12 @@ use Rattle.ap_world.specs.Clauses.{not_of}
 use Rattle.ap_world.specs.Sound.{known}
 use Rattle.ap_world.specs.Recursion.{nil_constant, t_constant}
 use Rattle.ap_world.specs.Facts.{Facts}
-use Rattle.ap_world.specs.Shapes.{Shape, constant, negation, head_of, call_shape, shape_of}
+use Rattle.ap_world.specs.Shapes.{Shape, constant, choice, negation, head_of, call_shape, shape_of}
 use Rattle.ap_world.proofs.Knowing.{known_quote, known_args, each_true}
 use Rattle.ap_world.proofs.TotalMeaning.{models, val_is, val_quote}
 use Rattle.ap_world.proofs.Equations.{val_of_nil, val_of_t, names_open}
 use Rattle.ap_world.proofs.Shaped.{Says, shape_says, shape_call}
 use Rattle.ap_world.proofs.Starting.{val_not}
-use Rattle.ap_poly.specs.Bounds.{lacks}
 use Rattle.ap_kernel.specs.declared.objects.Mode.{Mode}
 use Rattle.ap_kernel.specs.declared.objects.Mode.TheVariants.{Equal, Iff}
 use Rattle.ap_kernel.specs.declared.shapes.ShapeRef.{ShapeRef}
@@ -32,7 +31,7 @@ use Rattle.ap_kernel.specs.Equations.{truth_constant}
 use Rattle.ap_kernel.specs.Opening.{is_constant_call}
 use Rattle.ap_kernel.proofs.ChoicesStand.{known_not}
 use Rattle.ap_rewrite.specs.Settings.{Setting}
-use Rattle.ap_rewrite.specs.Rewriting.{truth_in, truth_of, is_iff, shaped, unwrapped, negated}
+use Rattle.ap_rewrite.specs.Rewriting.{truth_in, truth_of, shaped, unwrapped, negated}
 use Rattle.ap_rewrite.proofs.Truths.{shape_if, no_constant}
 
 -- the shape of a negation, and its argument
@@ -70,11 +69,6 @@ t_is v h = val_of_t ∙ sym (ap truth h)
 pub nil_is : (v : Value) → value_eq (val_of v) nil ≡ false → val_of (Sym nil_name) ≡ truth (value_eq (val_of v) nil)
 nil_is v h = val_of_nil ∙ sym (ap truth h)
 
--- whether only nil or not counts
-pub truth_by : (o : Mode) (k : Mask) → is_truth o k ≡ (is_iff o || lacks k.0 999)
-truth_by Equal k = refl
-truth_by Iff k = refl
-
 -- what a negation is by its argument
 pub turned : (b : Bool) → truth_constant (not (not b)) ≡ truth_constant b
 turned true = refl
@@ -99,10 +93,6 @@ negated_other S o fs a (lent.Equal x y) h c n = ap (λ y. negated S o fs a (trut
 negated_other S o fs a (lent.Cons x y) h c n = ap (λ y. negated S o fs a (truth_in y)) (sym h) ∙ ap (unwrapped S o fs a) (sym h)
 negated_other S o fs a lent.Other h c n = ap (λ y. negated S o fs a (truth_in y)) (sym h) ∙ ap (unwrapped S o fs a) (sym h)
 
-pub unwrapped_by : (S : Setting) (o : Mode) (fs : Facts) (k : Mask) (z : Term) → k ≡ record { 0 = S.types fs z }
-    → unwrapped S o fs (not_of z) (negation z) ≡ cond (is_iff o || lacks k.0 999) z (not_of (not_of z))
-unwrapped_by S o fs k z q = ap (λ (k : Mask). cond (is_truth o k) z (not_of (not_of z))) (sym q) ∙ ap (λ b. cond b z (not_of (not_of z))) (truth_by o k)
-
 -- an `if` whose test is no constant
 pub choice_here : (a b c : Term) → is_choice (shape_of (if_of a b c)) ≡ true
 choice_here a b c = rw (shape_if a b c) refl
@@ -116,3 +106,45 @@ shape_leads S o fs k a b c q none =
     ap (choice_leads (is_truth o k) (if_of a b c)) (shape_if a b c)
     ∙ no_constant (is_truth o k) (shape_of a) a b c none
     ∙ ap (λ (k : Mask). if_shape (is_truth o k) a b c) (q ∙ ap (λ u. record { 0 = S.types fs u }) (bare_here a b c))
+
+-- an `if` and its shape, whatever parts it is taken to have
+same_test : (a b c x y z : Term) → if_of a b c ≡ if_of x y z → a ≡ x
+same_test a b c x y z h =
+    let same : choice a b c ≡ choice x y z = sym (shape_if a b c) ∙ ap shape_of h ∙ shape_if x y z in
+    cc
+
+pub shaped_by : (S : Setting) (o : Mode) (fs : Facts) (k : Mask) (u a b c x y z : Term) → k ≡ record { 0 = S.types fs (bare_test u) } → u ≡ if_of a b c → truth_of a ≡ None → u ≡ if_of x y z
+    → choice_leads (is_truth o k) u (shape_of u) ≡ shaped S o fs x y z
+shaped_by S o fs k u a b c x y z q p none r =
+    let open_test : truth_of x ≡ None = ap truth_of (sym (same_test a b c x y z (sym p ∙ r))) ∙ none in
+    ap (λ u. choice_leads (is_truth o k) u (shape_of u)) r ∙ shape_leads S o fs k x y z (q ∙ ap (λ u. record { 0 = S.types fs (bare_test u) }) r) open_test
+
+-- a negation that isn't one
+pub is_negation : (t a : Term) (r : ShapeRef) → seen r ≡ shape_of t → t ≡ not_of a → ((x : Bor Term) → r ≡ lent.Not x → ⊥) → ⊥
+is_negation t a r h p n =
+    let is : seen r ≡ negation a = h ∙ ap shape_of p ∙ shape_not a in
+    go r is n
+  where
+    go : (r : ShapeRef) → seen r ≡ negation a → ((x : Bor Term) → r ≡ lent.Not x → ⊥) → ⊥
+    go (lent.Not x) q n = n x refl
+    go (lent.Constant v) q n = cc
+    go (lent.If x y z) q n = cc
+    go (lent.Equal x y) q n = cc
+    go (lent.Cons x y) q n = cc
+    go lent.Other q n = cc
+
+-- of a negation of a negation
+pub unwrapped_says : (S : Setting) (o : Mode) (fs : Facts) (k : Mask) (z : Term) (b : Bool) → k ≡ record { 0 = S.types fs z } → is_truth o k ≡ b
+    → cond b z (not_of (not_of z)) ≡ unwrapped S o fs (not_of z) (negation z)
+unwrapped_says S o fs k z b q h = ap (λ b. cond b z (not_of (not_of z))) (sym h) ∙ ap (λ (k : Mask). cond (is_truth o k) z (not_of (not_of z))) q
+
+-- a term of such a shape
+pub quote_here : (a : Term) (v : Value) → constant v ≡ shape_of a → a ≡ Quote v
+quote_here a v h = subst (Says a) (sym h) (shape_says a)
+
+pub not_here : (a z : Term) → negation z ≡ shape_of a → a ≡ not_of z
+not_here a z h = subst (Says a) (sym h) (shape_says a)
+
+-- nil turned round
+pub nil_turns : (v : Value) → v ≡ Sym nil_name → truth_constant (value_eq (val_of v) nil) ≡ t_constant
+nil_turns v h = ap (λ v. truth_constant (value_eq (val_of v) nil)) h ∙ ap (λ x. truth_constant (value_eq x nil)) val_of_nil ∙ ap truth_constant (value_eq-same nil)

@@ -1,10 +1,13 @@
 -- What constants are under a mode, and what masks settle: what the rows on them ask for.
-use Rattle.std.proofs.Common.{◌≡◌, ◌≢◌, ℕ, Bool, true, false, cond, not, ◌&&◌, ◌||◌, Option, None, Some, unwrap_or, pos, nat_eq, bit_and, refl, sym, ap, ◌∙◌, subst}
+use Rattle.std.proofs.Common.{◌≡◌, ◌≢◌, ℕ, Bool, true, false, cond, not, ◌&&◌, ◌||◌, IfSome, List, Option, None, Some, is_some, unwrap_or, pos, nat_eq, bit_and, refl, sym, ap, ◌∙◌, subst}
 use Rattle.std.specs.Option.{option_map}
 use Rattle.ap_value.specs.declared.value.Value.{Value, Int, Sym}
+use Rattle.ap_value.specs.declared.symbol.Symbol.{Symbol}
 use Rattle.ap_value.specs.Values.{V, int, val_of, value_eq}
-use Rattle.ap_term.specs.declared.term.Term.{Term, Quote}
-use Rattle.ap_term.specs.declared.term.Term.TheVariants.{outs-Quote}
+use Rattle.ap_value.proofs.Equals.{both}
+use Rattle.ap_term.specs.declared.term.Term.{Term, Quote, Call, out-Term}
+use Rattle.ap_term.specs.declared.term.Term.TheOpen.{Term-F}
+use Rattle.ap_term.specs.declared.term.Term.TheVariants.{outs-Quote, outs-Call}
 use Rattle.ap_term.specs.Equal.{term_eq}
 use Rattle.ap_term.proofs.Equals.{term_eq-same}
 use Rattle.ap_world.specs.declared.entry.Mask.{Mask}
@@ -14,6 +17,8 @@ use Rattle.ap_world.specs.Meaning.{Defs, Total}
 use Rattle.ap_world.specs.Types.{nil_bit}
 use Rattle.ap_world.specs.Sound.{known}
 use Rattle.ap_world.specs.Recursion.{nil_constant, t_constant}
+use Rattle.ap_world.specs.declared.theory.Theory.{Theory}
+use Rattle.ap_world.specs.World.{Shown}
 use Rattle.ap_world.specs.Facts.{Facts}
 use Rattle.ap_world.specs.Shapes.{Shape, constant, shape_of, constant_says, is_constant}
 use Rattle.ap_world.proofs.Knowing.{known_quote}
@@ -28,8 +33,12 @@ use Rattle.ap_kernel.specs.declared.objects.Sequent.{Sequent}
 use Rattle.ap_kernel.specs.declared.objects.Ctx.{Ctx}
 use Rattle.ap_kernel.specs.Masks.{MaskHolds, others, has_only, leads_to, typed_mode, typed_made}
 use Rattle.ap_rewrite.specs.Settings.{Setting}
-use Rattle.ap_rewrite.specs.Leading.{leads_made, Serves}
-use Rattle.ap_rewrite.specs.Rewriting.{is_iff, constant_in, by_mask, changed, settled}
+use Rattle.ap_kernel.specs.declared.objects.Equiv.{Equiv}
+use Rattle.ap_kernel.specs.Answers.{trans_made}
+use Rattle.ap_kernel.specs.Standing.{Stands}
+use Rattle.ap_kernel.specs.Equations.{equation_made}
+use Rattle.ap_rewrite.specs.Leading.{leads_made, Serves, plain_in, run_by}
+use Rattle.ap_rewrite.specs.Rewriting.{is_iff, constant_in, by_mask, changed, settled, run}
 use Rattle.ap_rewrite.proofs.Truths.{others_nil, others_t, others_zero, truth_says, constant_truth}
 
 -- what is said under a mode that it has already
@@ -119,3 +128,72 @@ settled_to S o fs u k x q h = ap (λ (k : Mask). unwrap_or (by_mask o k.0) u) (s
 
 pub changed_not : (u v : Term) → u ≡ v → changed u v ≡ None
 changed_not u v h = ap (changed u) (sym h) ∙ ap (λ b. cond b None (Some u)) (term_eq-same u)
+
+-- an equivalence that stays in its mode, and one that is weakened
+pub weaker_is : (has wanted : Mode) → (is_iff wanted && not (is_iff has)) ≡ true → (has ≡ Equal) × (wanted ≡ Iff)
+weaker_is Equal Equal h = cc
+weaker_is Equal Iff h = (refl, refl)
+weaker_is Iff Equal h = cc
+weaker_is Iff Iff h = cc
+
+pub serves_same : (has wanted : Mode) → Serves has wanted → (is_iff wanted && not (is_iff has)) ≡ false → has ≡ wanted
+serves_same Equal Equal k h = refl
+serves_same Equal Iff k h = cc
+serves_same Iff wanted k h = sym k
+
+-- a constant that becomes 'T, and one that stays
+pub becomes_says : (c : Ctx) (o : Mode) (u : Term) (v : Value) → (is_iff o && not (value_eq (val_of v) nil)) ≡ true → leads_made c Iff u t_constant ≡ leads_made c o u (constant_in o v)
+becomes_says c o u v h =
+    let p = both (is_iff o) (not (value_eq (val_of v) nil)) h in
+    ap (λ (m : Mode). leads_made c m u t_constant) (sym (iff_is o p.0)) ∙ ap (leads_made c o u) (sym (constant_turns o v p.0 (turned_off (value_eq (val_of v) nil) p.1)))
+  where
+    turned_off : (b : Bool) → not b ≡ true → b ≡ false
+    turned_off true q = cc
+    turned_off false q = refl
+
+pub becomes_there : (o : Mode) (v : Value) (u : Term) → u ≡ Quote v → (is_iff o && not (value_eq (val_of v) nil)) ≡ true → is_constant true u ≡ true
+becomes_there o v u q h = ap (is_constant true) q ∙ quote_says v ∙ (both (is_iff o) (not (value_eq (val_of v) nil)) h).1
+
+pub becomes_iff : (o : Mode) (v : Value) → (is_iff o && not (value_eq (val_of v) nil)) ≡ true → o ≡ Iff
+becomes_iff o v h = iff_is o (both (is_iff o) (not (value_eq (val_of v) nil)) h).0
+
+-- what is settled, where it is another term
+pub changed_said : (c : Ctx) (o : Mode) (u v : Term) (s : Sequent) (x : Option Sequent) → s ≡ leads_made c o u v → x ≡ cond (term_eq u s.rhs) None (Some s) → x ≡ option_map (leads_made c o u) (changed u v)
+changed_said c o u v s x h k = k ∙ ap (λ (s : Sequent). cond (term_eq u s.rhs) None (Some s)) h ∙ go (term_eq u v)
+  where
+    go : (b : Bool) → cond b None (Some (leads_made c o u v)) ≡ option_map (leads_made c o u) (cond b None (Some v))
+    go true = refl
+    go false = refl
+
+-- what running a call as a whole gives is what running its head on its arguments does
+pub run_says : (w : Shown) (h : Theory) (o : Mode) (f g : Symbol) (u : Term) (ts us : List Term) → u ≡ Call f ts → u ≡ Call g us → run_by w h o f u ≡ run (plain_in w h) o g us
+run_says w h o f g u ts us p q =
+    let same : f ≡ g = heads_same (sym p ∙ q) in
+    ap (λ f. run_by w h o f u) same ∙ ap (run_by w h o g) q
+  where
+    heads_same : Call f ts ≡ Call g us → f ≡ g
+    heads_same e =
+        let same : Term-F.Call f ts ≡ Term-F.Call g us = sym (outs-Call f ts) ∙ ap out-Term e ∙ outs-Call g us in
+        cc
+
+-- where an equation leads
+pub equated_said : (c : Ctx) (o : Mode) (u : Term) (x : Option Term) (s : Sequent) → is_some x ≡ true → IfSome x (λ v. s ≡ equation_made c u v)
+    → (s.mode ≡ Equal) × (Some (leads_made s.ctx o s.lhs s.rhs) ≡ option_map (leads_made c o u) x)
+equated_said c o u None s h k = cc
+equated_said c o u (Some v) s h k = (ap (λ (s : Sequent). s.mode) k, ap (λ (s : Sequent). Some (leads_made s.ctx o s.lhs s.rhs)) k)
+
+pub none_said : (c : Ctx) (o : Mode) (u : Term) (x : Option Term) → is_some x ≡ false → None ≡ option_map (leads_made c o u) x
+none_said c o u None h = refl
+none_said c o u (Some v) h = cc
+
+pub serves_equal : (m o : Mode) → m ≡ Equal → Serves m o
+serves_equal m o h = subst (λ m. Serves m o) (sym h) tt
+
+-- what is the same equivalence stands
+pub same_stands : (w : Shown) (o : Option Equiv) (q : Equiv) → IfSome o (λ r. r ≡ q) → Stands w q → IfSome o (λ r. Stands w r)
+same_stands w None q h s = tt
+same_stands w (Some r) q h s = subst (Stands w) (sym h) s
+
+-- what two say, one after another
+pub trans_said : (c : Ctx) (o : Mode) (u v x : Term) (a b : Sequent) → a ≡ leads_made c o u v → b ≡ leads_made c o v x → trans_made a b ≡ leads_made c o u x
+trans_said c o u v x a b p q = ap (λ (a : Sequent). trans_made a b) p ∙ ap (λ (b : Sequent). trans_made (leads_made c o u v) b) q

@@ -1,8 +1,11 @@
 -- What the rewriter's parts answer: equivalences from a term, under facts and a mode, to what the definition gives.
-use Rattle.std.specs.Prelude.{◌≡◌, [], Option}
+use Rattle.std.specs.Prelude.{◌≡◌, ◌&&◌, cond, [], Option, None}
 use Rattle.std.specs.Option.{option_map}
+use Rattle.ap_value.specs.declared.symbol.Symbol.{Symbol}
 use Rattle.ap_term.specs.declared.term.Term.{Term}
+use Rattle.ap_world.specs.declared.theory.Rune.TheVariants as rune
 use Rattle.ap_world.specs.declared.theory.Theory.{Theory}
+use Rattle.ap_world.specs.Theories.{is_enabled}
 use Rattle.ap_world.specs.World.{Shown}
 use Rattle.ap_kernel.specs.declared.objects.Ctx.{Ctx}
 use Rattle.ap_kernel.specs.declared.objects.Mode.{Mode}
@@ -11,7 +14,9 @@ use Rattle.ap_kernel.specs.declared.objects.Sequent.{Sequent}
 use Rattle.ap_kernel.specs.declared.objects.Equiv.{Equiv}
 use Rattle.ap_rewrite.specs.Arithmetic.{no_arithmetic, linear_arithmetic}
 use Rattle.ap_rewrite.specs.Settings.{Setting}
+use Rattle.ap_kernel.specs.Opening.{is_constant_call}
 use Rattle.ap_rewrite.specs.InWorld.{setting_in}
+use Rattle.ap_rewrite.specs.Rewriting.{constant_in}
 
 -- from a term to another, under these facts and this mode
 abbrev pub leads_made : Ctx → Mode → Term → Term → Sequent
@@ -34,3 +39,7 @@ plain_in w h = setting_in w h [] no_arithmetic
 -- the same with linear arithmetic, without rules
 abbrev pub linear_in : Shown → Setting
 linear_in w = setting_in w w.theory [] (linear_arithmetic [])
+
+-- what running a call of this head gives: the words of `run`, of a call as a whole
+abbrev pub run_by : Shown → Theory → Mode → Symbol → Term → Option Term
+run_by w h o f u = cond (is_constant_call u && is_enabled h (rune.Executable f)) (option_map (constant_in o) ((plain_in w h).value u)) None

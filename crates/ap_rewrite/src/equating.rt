@@ -38,9 +38,11 @@ pub fn equated(
     ensures stands { IfOk result (λ o. IfSome o (λ q. Stands w.now q)) }
     ensures made { IfOk result (λ o. said_of o ≡ option_map (leads_made ctx.now mode t.now) (equation_leads ctx.now.0 t.now)) }
 {
-    if !equation_leads(ctx, t) {
-        return Ok(None);
+    let leads = equation_leads(ctx, t);
+    if leads {
+        let first = cons_equal(alloc, w, ctx, t)?;
+        let q = in_mode(alloc, w, first, mode)?;
+        return Ok(Some(q));
     }
-    let q = cons_equal(alloc, w, ctx, t)?;
-    Ok(Some(in_mode(alloc, w, q, mode)?))
+    Ok(None)
 }

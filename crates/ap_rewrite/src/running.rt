@@ -14,14 +14,12 @@ ghost use Rattle.ap_world.specs.Facts.{KnownFacts};
 ghost use Rattle.ap_kernel.specs.Opening.{is_constant_call};
 ghost use Rattle.ap_kernel.specs.Standing.{Stands};
 ghost use Rattle.ap_rewrite.specs.InWorld.{value_in, most_units};
-ghost use Rattle.ap_rewrite.specs.Leading.{leads_made, said_of, plain_in};
+ghost use Rattle.ap_rewrite.specs.Leading.{leads_made, said_of, plain_in, run_by};
 ghost use Rattle.ap_rewrite.specs.Rewriting.{constant_in, run};
 
-use crate::settling::{in_mode, is_iff, to_true};
+use crate::settling::{becomes_true, to_true, value_equiv};
 use ap_eval::{Env, EvalStop, eval};
-use ap_kernel::{
-    Ctx, Equiv, Mode, NoMemory, Seq, Term, Value, World, fold, is_constant_call, is_nil,
-};
+use ap_kernel::{Ctx, Equiv, Mode, NoMemory, Seq, Symbol, Term, Value, World, is_constant_call};
 use ap_world::{RuneKind, Theory};
 use std::alloc::{AllocError, Global};
 
@@ -34,8 +32,10 @@ fn value_of(alloc: Global, w: &World, t: &Term) -> Result<Option<Value>, NoMemor
     let env = Env(Seq::new(alloc));
     match eval(alloc, w, t, &env, 2000) {
         Ok(value) => Ok(Some(value)),
+        Err(EvalStop::Wide { call: _, values: _ }) => Ok(None),
+        Err(EvalStop::Spent) => Ok(None),
+        Err(EvalStop::Large) => Ok(None),
         Err(EvalStop::NoMemory) => Err(AllocError),
-        Err(_) => Ok(None),
     }
 }
 
@@ -55,25 +55,66 @@ fn folded(
     ensures stands { IfOk result (λ q. Stands w.now q) }
     ensures made { IfOk result (λ q. q.says ≡ leads_made ctx.now mode t.now (constant_in mode value)) }
 {
-    let is_truth = is_iff(mode) && !is_nil(&value);
-    let first = fold(alloc, w, ctx, t, value)?;
-    let q = in_mode(alloc, w, first, mode)?;
-    if is_truth {
-        return to_true(alloc, w, q);
+    let becomes = becomes_true(mode, &value);
+    let q = value_equiv(alloc, w, ctx, mode, t, value)?;
+    if becomes {
+        let truth = to_true(alloc, w, q)?;
+        return Ok(truth);
     }
     Ok(q)
 }
 
-/// Whether a term is a call of constants whose executable counterpart the theory enables. Takes no memory.
-fn can_run(theory: &Theory, t: &Term) -> bool
-    ensures is { (f : Symbol) (us : List Term) → t.now ≡ Call f us → result ≡ (is_constant_call t.now && is_enabled theory.now (rune.Executable f)) }
-    ensures constants { IsTrue result → IsTrue (is_constant_call t.now) }
+/// From a call of constants to the value that running gives, where it gives one.
+fn run_constants(
+    alloc: Global,
+    w: &World,
+    ctx: &Ctx,
+    mode: Mode,
+    t: &Term,
+) -> Result<Option<Equiv>, NoMemory>
+    requires facts { KnownFacts (function_of w.now.entries) ctx.now.0 }
+    requires term { IsTrue (known (function_of w.now.entries) t.now) }
+    requires constants { IsTrue (is_constant_call t.now) }
+    ensures stands { IfOk result (λ o. IfSome o (λ q. Stands w.now q)) }
+    ensures made { IfOk result (λ o. said_of o ≡ option_map (leads_made ctx.now mode t.now) (option_map (constant_in mode) (value_in (metered (function_of w.now.entries) t.now [] most_units)))) }
 {
-    match t {
-        Term::Call(f, _) => is_constant_call(t) && theory.is_enabled(RuneKind::Executable, f),
-        Term::Var(_) => false,
-        Term::Quote(_) => false,
+    match value_of(alloc, w, t)? {
+        Some(value) => {
+            let q = folded(alloc, w, ctx, mode, t, value)?;
+            Ok(Some(q))
+        }
+        None => Ok(None),
     }
+}
+
+/// Whether a call is one of constants whose executable counterpart the theory enables.
+fn can_run(theory: &Theory, f: &Symbol, t: &Term) -> bool
+    ensures { result ≡ (is_constant_call t.now && is_enabled theory.now (rune.Executable f.now)) }
+{
+    is_constant_call(t) && theory.is_enabled(RuneKind::Executable, f)
+}
+
+/// From a call of this head, where it is one of constants whose executable counterpart the theory enables.
+fn run_call(
+    alloc: Global,
+    w: &World,
+    theory: &Theory,
+    ctx: &Ctx,
+    mode: Mode,
+    t: &Term,
+    f: &Symbol,
+) -> Result<Option<Equiv>, NoMemory>
+    requires facts { KnownFacts (function_of w.now.entries) ctx.now.0 }
+    requires term { IsTrue (known (function_of w.now.entries) t.now) }
+    ensures stands { IfOk result (λ o. IfSome o (λ q. Stands w.now q)) }
+    ensures made { IfOk result (λ o. said_of o ≡ option_map (leads_made ctx.now mode t.now) (run_by w.now theory.now mode f.now t.now)) }
+{
+    let may = can_run(theory, f, t);
+    if may {
+        let o = run_constants(alloc, w, ctx, mode, t)?;
+        return Ok(o);
+    }
+    Ok(None)
 }
 
 /// From a call of constants whose executable counterpart the theory enables to the value that running gives with
@@ -92,11 +133,12 @@ pub fn run(
     ensures stands { IfOk result (λ o. IfSome o (λ q. Stands w.now q)) }
     ensures made { IfOk result (λ o. (f : Symbol) (us : List Term) → t.now ≡ Call f us → said_of o ≡ option_map (leads_made ctx.now mode t.now) (run (plain_in w.now theory.now) mode f us)) }
 {
-    if !can_run(theory, t) {
-        return Ok(None);
-    }
-    match value_of(alloc, w, t)? {
-        Some(value) => Ok(Some(folded(alloc, w, ctx, mode, t, value)?)),
-        None => Ok(None),
+    match t {
+        Term::Call(f, _) => {
+            let o = run_call(alloc, w, theory, ctx, mode, t, f)?;
+            Ok(o)
+        }
+        Term::Var(_) => Ok(None),
+        Term::Quote(_) => Ok(None),
     }
 }

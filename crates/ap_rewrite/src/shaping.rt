@@ -2,22 +2,23 @@
 ghost use Rattle.std.specs.Prelude.{◌≡◌, IsTrue, IfOk, None};
 ghost use Rattle.ap_value.specs.Values.{val_of, value_eq};
 ghost use Rattle.ap_term.specs.declared.term.Term.{Term, Quote};
-ghost use Rattle.ap_world.specs.Primitives.{nil};
+ghost use Rattle.ap_world.specs.Primitives.{nil, truth};
 ghost use Rattle.ap_world.specs.Clauses.{not_of};
 ghost use Rattle.ap_world.specs.Sound.{known};
 ghost use Rattle.ap_world.specs.World.{function_of};
 ghost use Rattle.ap_world.specs.Facts.{KnownFacts};
 ghost use Rattle.ap_world.specs.Shapes.{negation};
 ghost use Rattle.ap_kernel.specs.Answers.{if_of};
+ghost use Rattle.ap_kernel.specs.Choices.{is_truth};
 ghost use Rattle.ap_kernel.specs.Equations.{truth_constant};
 ghost use Rattle.ap_kernel.specs.Standing.{HasGround, Stands};
 ghost use Rattle.ap_rewrite.specs.Leading.{leads_made, plain_in};
 ghost use Rattle.ap_rewrite.specs.Rewriting.{truth_of, shaped, unwrapped, negated};
 
-use crate::settling::{in_mode, is_iff, lacks, nil_value, t_value};
+use crate::settling::{lacks, nil_value, t_value, value_equiv};
 use ap_kernel::{
-    Ctx, Equiv, Mode, NoMemory, ShapeRef, Term, TypeOracle, Value, World, bare_test, double_not,
-    fold, if_shape, is_nil, refl, shape_of,
+    Ctx, Equiv, Mask, Mode, NoMemory, ShapeRef, Term, TypeOracle, Value, World, bare_test,
+    double_not, if_shape, is_nil, refl, shape_of,
 };
 use std::alloc::Global;
 
@@ -39,7 +40,20 @@ pub fn shaped<O: TypeOracle>(
     ensures made { IfOk result (λ q. (a b c : Term) → t.now ≡ if_of a b c → q.says ≡ leads_made ctx.now mode t.now (shaped (plain_in w.now w.now.theory) mode ctx.now.0 a b c)) }
 {
     let mask = oracle.mask(alloc, w, ctx, bare_test(t))?;
-    if_shape(alloc, w, ctx, mode, t, mask)
+    let q = if_shape(alloc, w, ctx, mode, t, mask)?;
+    Ok(q)
+}
+
+/// What the negation of a value is.
+fn negation_of(v: &Value) -> Value
+    ensures value { val_of result ≡ truth (value_eq (val_of v.now) nil) }
+    ensures constant { Quote result ≡ truth_constant (value_eq (val_of v.now) nil) }
+{
+    let empty = is_nil(v);
+    if empty {
+        return t_value();
+    }
+    nil_value()
 }
 
 /// From the negation of a constant to `'T` or `'NIL`.
@@ -58,9 +72,19 @@ pub(crate) fn not_constant(
     ensures made { IfOk result (λ q. q.says ≡ leads_made ctx.now mode t.now (truth_constant (value_eq (val_of v.now) nil))) }
 {
     w.is_sound();
-    let value = if is_nil(v) { t_value() } else { nil_value() };
-    let q = fold(alloc, w, ctx, t, value)?;
-    in_mode(alloc, w, q, mode)
+    let value = negation_of(v);
+    let q = value_equiv(alloc, w, ctx, mode, t, value)?;
+    Ok(q)
+}
+
+/// Whether only `nil` or not counts, or the mask has no value but `t` and `nil`.
+fn is_truth(mode: Mode, mask: Mask) -> bool
+    ensures { result ≡ is_truth mode mask }
+{
+    match mode {
+        Mode::Equal => lacks(mask, 999),
+        Mode::Iff => true,
+    }
 }
 
 /// From the negation of a negation to what it is.
@@ -81,10 +105,57 @@ fn not_not<O: TypeOracle>(
     ensures made { IfOk result (λ q. q.says ≡ leads_made ctx.now mode t.now (unwrapped (plain_in w.now w.now.theory) mode ctx.now.0 (not_of z.now) (negation z.now))) }
 {
     let mask = oracle.mask(alloc, w, ctx, z)?;
-    if is_iff(mode) || lacks(mask, 999) {
-        return double_not(alloc, w, ctx, mode, z, mask);
+    let counts = is_truth(mode, mask);
+    if counts {
+        let q = double_not(alloc, w, ctx, mode, z, mask)?;
+        return Ok(q);
     }
-    refl(alloc, w, ctx, mode, t)
+    let same = refl(alloc, w, ctx, mode, t)?;
+    Ok(same)
+}
+
+/// From a negation to what it is by its argument.
+fn negated_by<O: TypeOracle>(
+    alloc: Global,
+    w: &World,
+    oracle: &O,
+    ctx: &Ctx,
+    mode: Mode,
+    t: &Term,
+    a: &Term,
+) -> Result<Equiv, NoMemory>
+    requires ground { HasGround (function_of w.now.entries) }
+    requires facts { KnownFacts (function_of w.now.entries) ctx.now.0 }
+    requires term { IsTrue (known (function_of w.now.entries) t.now) }
+    requires negation { t.now ≡ not_of a.now }
+    ensures stands { IfOk result (λ q. Stands w.now q) }
+    ensures made { IfOk result (λ q. q.says ≡ leads_made ctx.now mode t.now (negated (plain_in w.now w.now.theory) mode ctx.now.0 a.now (truth_of a.now))) }
+{
+    match shape_of(a) {
+        ShapeRef::Constant(v) => {
+            let constant = not_constant(alloc, w, ctx, mode, t, v)?;
+            Ok(constant)
+        }
+        ShapeRef::Not(z) => {
+            let twice = not_not(alloc, w, oracle, ctx, mode, t, z)?;
+            Ok(twice)
+        }
+        _ => {
+            let same = refl(alloc, w, ctx, mode, t)?;
+            Ok(same)
+        }
+    }
+}
+
+/// The argument of a negation.
+pub(crate) fn argument_of(t: &Term) -> &Term
+    requires { (a : Term) × (t.now ≡ not_of a) }
+    ensures { t.now ≡ not_of result.now }
+{
+    match shape_of(t) {
+        ShapeRef::Not(a) => a,
+        _ => unreachable!(),
+    }
 }
 
 /// From a negation to what it is by what its argument is: a constant turned round; of `(not z)` it is `z` where
@@ -104,12 +175,7 @@ pub fn negated<O: TypeOracle>(
     ensures stands { IfOk result (λ q. Stands w.now q) }
     ensures made { IfOk result (λ q. (a : Term) → t.now ≡ not_of a → q.says ≡ leads_made ctx.now mode t.now (negated (plain_in w.now w.now.theory) mode ctx.now.0 a (truth_of a))) }
 {
-    let ShapeRef::Not(a) = shape_of(t) else {
-        unreachable!()
-    };
-    match shape_of(a) {
-        ShapeRef::Constant(v) => not_constant(alloc, w, ctx, mode, t, v),
-        ShapeRef::Not(z) => not_not(alloc, w, oracle, ctx, mode, t, z),
-        _ => refl(alloc, w, ctx, mode, t),
-    }
+    let argument = argument_of(t);
+    let q = negated_by(alloc, w, oracle, ctx, mode, t, argument)?;
+    Ok(q)
 }

@@ -1,0 +1,14 @@
+-- What running gives without an assignment.
+use Rattle.std.proofs.Common.{◌≡◌, [], Option, None, Some, Bool, true, false, cond, ◌&&◌, sym, ap, ◌∙◌, subst}
+use Rattle.ap_value.specs.declared.value.Value.{Value}
+use Rattle.ap_value.specs.Values.{val_of}
+use Rattle.ap_term.specs.declared.term.Term.{Term}
+use Rattle.ap_world.specs.Meaning.{Defs, HasValue}
+use Rattle.ap_world.specs.Units.{Outcome, Assigned, meant_by, metered}
+use Rattle.ap_rewrite.specs.InWorld.{value_in, most_units}
+
+pub ran : (D : Defs) (u : Term) (e : Assigned) (o : Outcome Value) → e ≡ [] → metered D u e 2000 ≡ o → value_in (metered D u [] most_units) ≡ value_in o
+ran D u e o p q = ap value_in (ap (λ e. metered D u e 2000) (sym p) ∙ q)
+
+pub ran_means : (D : Defs) (u : Term) (e : Assigned) (v : Value) → e ≡ [] → HasValue D u (meant_by e) (val_of v) → HasValue D u [] (val_of v)
+ran_means D u e v p h = subst (λ e. HasValue D u (meant_by e) (val_of v)) p h

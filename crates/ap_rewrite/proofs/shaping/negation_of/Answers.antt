@@ -1,0 +1,18 @@
+use Rattle.std.proofs.Common.{◌≡◌, sym, ap, ◌∙◌}
+use Rattle.ap_value.specs.Values.{val_of}
+use Rattle.ap_term.specs.declared.term.Term.{Quote}
+use Rattle.ap_kernel.specs.Equations.{truth_constant}
+use Rattle.ap_rewrite.proofs.Negated.{t_is, nil_is}
+use Rattle.ap_rewrite.proofs.shaping.negation_of.Goals as goal
+
+pub returns-then-empty-clause-value : goal.returns-then-empty-clause-value
+returns-then-empty-clause-value c = ap val_of c.t_value.ensures ∙ t_is c.args.v.now (sym c.is_nil-empty.ensures ∙ c.if-empty.true)
+
+pub returns-then-empty-clause-constant : goal.returns-then-empty-clause-constant
+returns-then-empty-clause-constant c = ap Quote c.t_value.ensures ∙ ap truth_constant (sym (sym c.is_nil-empty.ensures ∙ c.if-empty.true))
+
+pub returns-else-empty-clause-value : goal.returns-else-empty-clause-value
+returns-else-empty-clause-value c = ap val_of c.nil_value.ensures ∙ nil_is c.args.v.now (sym c.is_nil-empty.ensures ∙ c.if-empty.false)
+
+pub returns-else-empty-clause-constant : goal.returns-else-empty-clause-constant
+returns-else-empty-clause-constant c = ap Quote c.nil_value.ensures ∙ ap truth_constant (sym (sym c.is_nil-empty.ensures ∙ c.if-empty.false))
