@@ -18,7 +18,6 @@ module _ (w : Shown) (h : Theory) (us : List Term) (r : Inner) (p : Place) where
   abbrev Plain : Setting
   Plain = setting_in w h us no_arithmetic
 
-
   pair_decides : (u : Term) (x : Option Prim) (a b : Term) (n : ℕ) → by_pair Plain r p u x a b n ≡ answer None n
   pair_decides u None a b n = refl
   pair_decides u (Some prim.Less) a b n = refl

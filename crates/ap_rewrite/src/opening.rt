@@ -13,9 +13,7 @@ use crate::rewriter::{Level, Place, Run, deeper};
 use crate::rows::{follow, opened};
 use crate::testing::{is_among, is_small, truth_of};
 use crate::trying::answered;
-use ap_kernel::{
-    Equiv, Mode, NoMemory, Seq, ShapeRef, Symbol, Term, TypeOracle, shape_of,
-};
+use ap_kernel::{Equiv, Mode, NoMemory, Seq, ShapeRef, Symbol, Term, TypeOracle, shape_of};
 use ap_term::copy_term;
 use ap_value::copy_symbol;
 use ap_world::{Function, RuneKind};
@@ -109,10 +107,7 @@ fn walk_ends<
 /// Down the body of a function that recurs, while it is an `if` whose test becomes a constant. There is an answer
 /// where one was, at least once.
 #[cycle(walking)]
-fn walk<
-    O: TypeOracle,
-    F: Fn(&mut Run, Mode, &Place<'_>, &Term) -> Result<Option<Equiv>, NoMemory>,
->(
+fn walk<O: TypeOracle, F: Fn(&mut Run, Mode, &Place<'_>, &Term) -> Result<Option<Equiv>, NoMemory>>(
     l: &Level<'_, '_, O, F>,
     run: &mut Run,
     mode: Mode,

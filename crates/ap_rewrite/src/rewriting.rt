@@ -92,14 +92,15 @@ pub fn rewrite<O: TypeOracle>(
         return Ok(Some(q));
     }
     let less = levels - 1;
-    let below = |run: &mut Run, mode: Mode, at: &Place<'_>, t: &Term| -> Result<Option<Equiv>, NoMemory>
+    let below = |run: &mut Run, mode: Mode, at: &Place<'_>, t: &Term| -> Result<
+        Option<Equiv>,
+        NoMemory,
+    >
         requires facts { KnownFacts (defs_in r.now) at.now.ctx.now.0 }
         requires term { IsTrue (known (defs_in r.now) t.now) }
         ensures is { IfOk result (λ o. got o run.new.left ≡ inner_of r.entry.now less mode (seen_at at.now) t.now run.old.left) }
         ensures from { IfOk result (λ o. IfSome o (From r.entry.now.w.now mode at.now.ctx.now t.now)) }
-    {
-        rewrite(&*r, run, less, mode, &*at, &*t)
-    };
+    { rewrite(&*r, run, less, mode, &*at, &*t) };
     let l = Level {
         r: &*r,
         levels: less,

@@ -18,8 +18,8 @@ use crate::running;
 use crate::settling::{constant_equiv, in_mode, settle, settled};
 use crate::shaping::{negated, shaped};
 use ap_kernel::{
-    Ctx, Equiv, Mode, NoMemory, Seq, Symbol, Term, TypeOracle, Value, bare_test, branch, cong, if_shape,
-    not_symbol, open_def, refl, trans,
+    Ctx, Equiv, Mode, NoMemory, Seq, Symbol, Term, TypeOracle, Value, bare_test, branch, cong,
+    if_shape, not_symbol, open_def, refl, trans,
 };
 use std::alloc::Global;
 

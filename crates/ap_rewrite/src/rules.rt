@@ -25,7 +25,8 @@ use crate::settling::{in_mode, to_true};
 use crate::testing::is_small;
 use crate::trying::answered;
 use ap_kernel::{
-    Ctx, Equiv, Mode, NoMemory, Seq, Subst, Symbol, Term, TypeOracle, apply_theorem, is_constant, subst,
+    Ctx, Equiv, Mode, NoMemory, Seq, Subst, Symbol, Term, TypeOracle, apply_theorem, is_constant,
+    subst,
 };
 use ap_rules::{RewriteRule, by_head, rules_are_parts};
 use ap_term::one_way_match;
@@ -132,7 +133,10 @@ fn relieve<
             None => return Ok(None),
             Some(None) => return Ok(Some(None)),
             Some(Some(found)) => {
-                let Relieved { pairs: more, shown: q } = found;
+                let Relieved {
+                    pairs: more,
+                    shown: q,
+                } = found;
                 pairs = more;
                 shown.push(q)?;
             }

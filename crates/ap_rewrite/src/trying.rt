@@ -17,10 +17,7 @@ use crate::rules::by_rules;
 use ap_kernel::{Equiv, Mode, NoMemory, Symbol, Term, TypeOracle};
 
 /// Where an equation leads: that is the answer where it is a constant, and else it is rewritten in its turn.
-fn lead<
-    O: TypeOracle,
-    F: Fn(&mut Run, Mode, &Place<'_>, &Term) -> Result<Option<Equiv>, NoMemory>,
->(
+fn lead<O: TypeOracle, F: Fn(&mut Run, Mode, &Place<'_>, &Term) -> Result<Option<Equiv>, NoMemory>>(
     l: &Level<'_, '_, O, F>,
     run: &mut Run,
     mode: Mode,
