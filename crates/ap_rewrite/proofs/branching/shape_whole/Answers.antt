@@ -2,14 +2,14 @@ use Rattle.std.proofs.Common.{◌∙◌}
 use Rattle.ap_rewrite.proofs.Froms.{from_own, followed_from, right_known}
 use Rattle.ap_rewrite.proofs.branching.shape_whole.Goals as goal
 
-pub simplest-more-requires-clause-term : goal.simplest-more-requires-clause-term
-simplest-more-requires-clause-term g c = right_known _ _ _ _ _ c.in_ok-whole.ensures.from
+pub simplest-requires-clause-term : goal.simplest-requires-clause-term
+simplest-requires-clause-term g c = right_known _ _ _ _ _ c.in_ok-whole.ensures.from
 
-pub simplest-more-requires-clause-choice : goal.simplest-more-requires-clause-choice
-simplest-more-requires-clause-choice g c = (c.args.test.says.rhs, c.args.yes.says.rhs, c.args.no.says.rhs, c.in_ok-whole.ensures.is, c.requires.open)
+pub simplest-requires-clause-choice : goal.simplest-requires-clause-choice
+simplest-requires-clause-choice g c = (c.args.test.says.rhs, c.args.yes.says.rhs, c.args.no.says.rhs, c.in_ok-whole.ensures.is, c.requires.open)
 
-pub follow-q-requires-clause-first : goal.follow-q-requires-clause-first
-follow-q-requires-clause-first g c = from_own _ _ _ _ _ c.in_ok-whole.ensures.from
+pub follow-requires-clause-first : goal.follow-requires-clause-first
+follow-requires-clause-first g c = from_own _ _ _ _ _ c.in_ok-whole.ensures.from
 
 pub returns-clause-is : goal.returns-clause-is
 returns-clause-is g c = c.in_ok-q.ensures.is ∙ c.in_ok-more.ensures.is _ _ _ c.in_ok-whole.ensures.is

@@ -2,14 +2,14 @@ use Rattle.std.proofs.Common.{◌∙◌}
 use Rattle.ap_rewrite.proofs.Froms.{from_own, followed_from, right_known}
 use Rattle.ap_rewrite.proofs.branching.take_branch.Goals as goal
 
-pub picked-more-requires-clause-term : goal.picked-more-requires-clause-term
-picked-more-requires-clause-term g c = right_known _ _ _ _ _ c.in_ok-whole.ensures.from
+pub picked-requires-clause-term : goal.picked-requires-clause-term
+picked-requires-clause-term g c = right_known _ _ _ _ _ c.in_ok-whole.ensures.from
 
-pub picked-more-requires-clause-choice : goal.picked-more-requires-clause-choice
-picked-more-requires-clause-choice g c = (c.args.test.says.rhs, c.args.yes.says.rhs, c.args.no.says.rhs, c.in_ok-whole.ensures.is)
+pub picked-requires-clause-choice : goal.picked-requires-clause-choice
+picked-requires-clause-choice g c = (c.args.test.says.rhs, c.args.yes.says.rhs, c.args.no.says.rhs, c.in_ok-whole.ensures.is)
 
-pub follow-q-requires-clause-first : goal.follow-q-requires-clause-first
-follow-q-requires-clause-first g c = from_own _ _ _ _ _ c.in_ok-whole.ensures.from
+pub follow-requires-clause-first : goal.follow-requires-clause-first
+follow-requires-clause-first g c = from_own _ _ _ _ _ c.in_ok-whole.ensures.from
 
 pub returns-clause-is : goal.returns-clause-is
 returns-clause-is g c = c.in_ok-q.ensures.is ∙ c.in_ok-more.ensures.is _ _ _ _ c.in_ok-whole.ensures.is c.requires.sign

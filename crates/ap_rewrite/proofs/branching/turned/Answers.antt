@@ -2,14 +2,14 @@ use Rattle.std.proofs.Common.{◌∙◌}
 use Rattle.ap_rewrite.proofs.Froms.{from_own, followed_from, right_known}
 use Rattle.ap_rewrite.proofs.branching.turned.Goals as goal
 
-pub plainest-more-requires-clause-term : goal.plainest-more-requires-clause-term
-plainest-more-requires-clause-term g c = right_known _ _ _ _ _ c.in_ok-first.ensures.from
+pub plainest-requires-clause-term : goal.plainest-requires-clause-term
+plainest-requires-clause-term g c = right_known _ _ _ _ _ c.in_ok-first.ensures.from
 
-pub plainest-more-requires-clause-negation : goal.plainest-more-requires-clause-negation
-plainest-more-requires-clause-negation g c = (c.args.q.says.rhs, c.in_ok-first.ensures.is)
+pub plainest-requires-clause-negation : goal.plainest-requires-clause-negation
+plainest-requires-clause-negation g c = (c.args.q.says.rhs, c.in_ok-first.ensures.is)
 
-pub follow-answer-requires-clause-first : goal.follow-answer-requires-clause-first
-follow-answer-requires-clause-first g c = from_own _ _ _ _ _ c.in_ok-first.ensures.from
+pub follow-requires-clause-first : goal.follow-requires-clause-first
+follow-requires-clause-first g c = from_own _ _ _ _ _ c.in_ok-first.ensures.from
 
 pub returns-clause-is : goal.returns-clause-is
 returns-clause-is g c = c.in_ok-answer.ensures.is ∙ c.in_ok-more.ensures.is _ c.in_ok-first.ensures.is

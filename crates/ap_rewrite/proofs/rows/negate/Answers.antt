@@ -5,15 +5,15 @@ use Rattle.ap_rewrite.proofs.Conged.{argument_fits, not_head_takes, not_made}
 use Rattle.ap_rewrite.proofs.Froms.{from_made, right_made, mode_made, equal_serves}
 use Rattle.ap_rewrite.proofs.rows.negate.Goals as goal
 
-pub cong-equal-requires-clause-head : goal.cong-equal-requires-clause-head
-cong-equal-requires-clause-head g c =
+pub cong-requires-clause-head : goal.cong-requires-clause-head
+cong-requires-clause-head g c =
     not_head_takes (defs_in c.args.r.now) _ _ c.args.q c.requires.ready.ground c.not_symbol-head.ensures c.in_ok-args.ensures c.requires.argument.stands.says.left
 
-pub cong-equal-requires-clause-args : goal.cong-equal-requires-clause-args
-cong-equal-requires-clause-args g c = argument_fits _ _ _ _ _ _ c.not_symbol-head.ensures c.in_ok-args.ensures c.requires.argument
+pub cong-requires-clause-args : goal.cong-requires-clause-args
+cong-requires-clause-args g c = argument_fits _ _ _ _ _ _ c.not_symbol-head.ensures c.in_ok-args.ensures c.requires.argument
 
-pub in_mode-answer-requires-clause-serves : goal.in_mode-answer-requires-clause-serves
-in_mode-answer-requires-clause-serves g c = equal_serves _ _ (ap (λ (x : Sequent). x.mode) c.in_ok-equal.ensures.made)
+pub in_mode-requires-clause-serves : goal.in_mode-requires-clause-serves
+in_mode-requires-clause-serves g c = equal_serves _ _ (ap (λ (x : Sequent). x.mode) c.in_ok-equal.ensures.made)
 
 pub returns-clause-is : goal.returns-clause-is
 returns-clause-is g c =

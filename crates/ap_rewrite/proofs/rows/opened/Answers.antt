@@ -3,8 +3,8 @@ use Rattle.ap_kernel.specs.declared.objects.Sequent.{Sequent}
 use Rattle.ap_rewrite.proofs.Froms.{from_made, right_made, mode_made, equal_serves, if_some}
 use Rattle.ap_rewrite.proofs.rows.opened.Goals as goal
 
-pub in_mode-q-requires-clause-serves : goal.in_mode-q-requires-clause-serves
-in_mode-q-requires-clause-serves g c =
+pub in_mode-requires-clause-serves : goal.in_mode-requires-clause-serves
+in_mode-requires-clause-serves g c =
     let h = if_some _ _ c.requires.defined c.in_ok-equal.ensures.made in
     equal_serves _ _ (ap (λ (x : Sequent). x.mode) h.2)
 

@@ -7,11 +7,11 @@ use Rattle.ap_rewrite.proofs.Applied.{rule_serves, part_relieved, of_part, any_m
 use Rattle.ap_rewrite.proofs.Froms.{from_made, right_made}
 use Rattle.ap_rewrite.proofs.rules.applied.Goals as goal
 
-pub apply_theorem-q-requires-clause-relieved : goal.apply_theorem-q-requires-clause-relieved
-apply_theorem-q-requires-clause-relieved g c = part_relieved _ _ _ (rule_in c.args.g.now) _ c.requires.rule.part c.requires.lead
+pub apply_theorem-requires-clause-relieved : goal.apply_theorem-requires-clause-relieved
+apply_theorem-requires-clause-relieved g c = part_relieved _ _ _ (rule_in c.args.g.now) _ c.requires.rule.part c.requires.lead
 
-pub in_mode-answer-requires-clause-serves : goal.in_mode-answer-requires-clause-serves
-in_mode-answer-requires-clause-serves g c =
+pub in_mode-requires-clause-serves : goal.in_mode-requires-clause-serves
+in_mode-requires-clause-serves g c =
     subst (λ (m : Mode). Serves m c.args.mode) (sym (ap (λ (x : Sequent). x.mode) (of_part _ (rule_in c.args.g.now) _ c.requires.rule.part c.in_ok-q.ensures.made)))
     (rule_serves c.args.mode (rule_in c.args.g.now) c.requires.fits)
 
