@@ -1,8 +1,8 @@
 -- The polynomials that linear arithmetic begins with hold, and speak of the world's terms.
-use Rattle.std.proofs.Common.{◌≡◌, Bool, true, List, [], ◌∷◌, ◌++◌, take, ap}
+use Rattle.std.proofs.Common.{◌≡◌, Bool, true, List, [], ◌∷◌, ◌++◌, take}
 use Rattle.ap_list.specs.Lists.{Each}
 use Rattle.ap_term.specs.declared.term.Term.{Term}
-use Rattle.ap_world.specs.Meaning.{Env, Defs, Total, FactHolds}
+use Rattle.ap_world.specs.Meaning.{Env, Defs}
 use Rattle.ap_world.specs.Sound.{known, Sound}
 use Rattle.ap_world.specs.World.{Shown, function_of}
 use Rattle.ap_world.specs.Facts.{Facts, KnownFacts, FactsHold}

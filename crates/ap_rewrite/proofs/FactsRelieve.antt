@@ -33,7 +33,6 @@ use Rattle.ap_kernel.specs.declared.shapes.ShapeRef.{ShapeRef}
 use Rattle.ap_kernel.specs.declared.shapes.ShapeRef.TheVariants as lent
 use Rattle.ap_kernel.specs.Shapes.{seen}
 use Rattle.ap_kernel.specs.Standing.{HasGround, Stands}
-use Rattle.ap_kernel.specs.Applying.{LeadsToTrue}
 use Rattle.ap_kernel.proofs.ChoicesStand.{known_not}
 use Rattle.ap_kernel.proofs.Typed.{each_at}
 use Rattle.ap_rewrite.specs.declared.facts.Matched.{Matched}

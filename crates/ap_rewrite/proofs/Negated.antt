@@ -1,9 +1,9 @@
 -- Negations, and an `if` by its simplest shape: what the rows on them ask for and give.
-use Rattle.std.proofs.Common.{Bor, ◌≡◌, Bool, true, false, cond, not, [], ◌∷◌, Option, None, Some, refl, sym, ap, ◌∙◌, subst}
+use Rattle.std.proofs.Common.{Bor, ◌≡◌, Bool, true, false, cond, not, [], ◌∷◌, None, Some, refl, sym, ap, ◌∙◌, subst}
 use Rattle.ap_value.specs.declared.value.Value.{Value, Sym}
 use Rattle.ap_value.specs.Values.{val_of, value_eq}
 use Rattle.ap_value.proofs.Equals.{value_eq-same}
-use Rattle.ap_term.specs.declared.term.Term.{Term, Quote, Call}
+use Rattle.ap_term.specs.declared.term.Term.{Term, Quote}
 use Rattle.ap_term.specs.declared.term.Term.TheVariants.{outs-Quote, outs-Call}
 use Rattle.ap_world.specs.declared.entry.Mask.{Mask}
 use Rattle.ap_world.specs.Names.{nil_name, t_name, not_name}
@@ -11,16 +11,15 @@ use Rattle.ap_world.specs.Primitives.{nil, t, truth}
 use Rattle.ap_world.specs.Meaning.{Defs, Total, HasValue}
 use Rattle.ap_world.specs.Clauses.{not_of}
 use Rattle.ap_world.specs.Sound.{known}
-use Rattle.ap_world.specs.Recursion.{nil_constant, t_constant}
+use Rattle.ap_world.specs.Recursion.{t_constant}
 use Rattle.ap_world.specs.Facts.{Facts}
-use Rattle.ap_world.specs.Shapes.{Shape, constant, choice, negation, head_of, call_shape, shape_of}
+use Rattle.ap_world.specs.Shapes.{constant, choice, negation, head_of, call_shape, shape_of}
 use Rattle.ap_world.proofs.Knowing.{known_quote, known_args, each_true}
 use Rattle.ap_world.proofs.TotalMeaning.{models, val_is, val_quote}
 use Rattle.ap_world.proofs.Equations.{val_of_nil, val_of_t, names_open}
 use Rattle.ap_world.proofs.Shaped.{Says, shape_says, shape_call}
 use Rattle.ap_world.proofs.Starting.{val_not}
 use Rattle.ap_kernel.specs.declared.objects.Mode.{Mode}
-use Rattle.ap_kernel.specs.declared.objects.Mode.TheVariants.{Equal, Iff}
 use Rattle.ap_kernel.specs.declared.shapes.ShapeRef.{ShapeRef}
 use Rattle.ap_kernel.specs.declared.shapes.ShapeRef.TheVariants as lent
 use Rattle.ap_kernel.specs.Shapes.{seen}

@@ -1,5 +1,5 @@
 -- What running gives without an assignment.
-use Rattle.std.proofs.Common.{◌≡◌, [], Option, None, Some, Bool, true, false, cond, ◌&&◌, sym, ap, ◌∙◌, subst}
+use Rattle.std.proofs.Common.{◌≡◌, [], sym, ap, ◌∙◌, subst}
 use Rattle.ap_value.specs.declared.value.Value.{Value}
 use Rattle.ap_value.specs.Values.{val_of}
 use Rattle.ap_term.specs.declared.term.Term.{Term}

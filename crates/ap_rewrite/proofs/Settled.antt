@@ -1,9 +1,9 @@
 -- What constants are under a mode, and what masks settle: what the rows on them ask for.
-use Rattle.std.proofs.Common.{◌≡◌, ◌≢◌, ℕ, Bool, true, false, cond, not, ◌&&◌, ◌||◌, IfSome, List, Option, None, Some, is_some, unwrap_or, pos, nat_eq, bit_and, refl, sym, ap, ◌∙◌, subst}
+use Rattle.std.proofs.Common.{◌≡◌, ◌≢◌, Bool, true, false, cond, not, ◌&&◌, ◌||◌, IfSome, List, Option, None, Some, is_some, unwrap_or, pos, refl, sym, ap, ◌∙◌, subst}
 use Rattle.std.specs.Option.{option_map}
 use Rattle.ap_value.specs.declared.value.Value.{Value, Int, Sym}
 use Rattle.ap_value.specs.declared.symbol.Symbol.{Symbol}
-use Rattle.ap_value.specs.Values.{V, int, val_of, value_eq}
+use Rattle.ap_value.specs.Values.{V, val_of, value_eq}
 use Rattle.ap_value.proofs.Equals.{both}
 use Rattle.ap_term.specs.declared.term.Term.{Term, Quote, Call, out-Term}
 use Rattle.ap_term.specs.declared.term.Term.TheOpen.{Term-F}
@@ -12,11 +12,11 @@ use Rattle.ap_term.specs.Equal.{term_eq}
 use Rattle.ap_term.proofs.Equals.{term_eq-same}
 use Rattle.ap_world.specs.declared.entry.Mask.{Mask}
 use Rattle.ap_world.specs.Names.{nil_name, t_name}
-use Rattle.ap_world.specs.Primitives.{nil, t}
+use Rattle.ap_world.specs.Primitives.{nil}
 use Rattle.ap_world.specs.Meaning.{Defs, Total}
 use Rattle.ap_world.specs.Types.{nil_bit}
 use Rattle.ap_world.specs.Sound.{known}
-use Rattle.ap_world.specs.Recursion.{nil_constant, t_constant}
+use Rattle.ap_world.specs.Recursion.{t_constant}
 use Rattle.ap_world.specs.declared.theory.Theory.{Theory}
 use Rattle.ap_world.specs.World.{Shown}
 use Rattle.ap_world.specs.Facts.{Facts}
@@ -25,13 +25,13 @@ use Rattle.ap_world.proofs.Knowing.{known_quote}
 use Rattle.ap_world.proofs.TotalMeaning.{models, value_is}
 use Rattle.ap_world.proofs.Equations.{not_nil-eq, val_of_nil, val_of_t, val_of_int, t-not_nil}
 use Rattle.ap_world.proofs.Shaped.{Says, shape_says}
-use Rattle.ap_world.proofs.Sets.{In, signed_in, nil_recognised}
+use Rattle.ap_world.proofs.Sets.{signed_in, nil_recognised}
 use Rattle.ap_poly.specs.Bounds.{lacks}
 use Rattle.ap_kernel.specs.declared.objects.Mode.{Mode}
 use Rattle.ap_kernel.specs.declared.objects.Mode.TheVariants.{Equal, Iff}
 use Rattle.ap_kernel.specs.declared.objects.Sequent.{Sequent}
 use Rattle.ap_kernel.specs.declared.objects.Ctx.{Ctx}
-use Rattle.ap_kernel.specs.Masks.{MaskHolds, others, has_only, leads_to, typed_mode, typed_made}
+use Rattle.ap_kernel.specs.Masks.{MaskHolds, has_only, leads_to, typed_mode, typed_made}
 use Rattle.ap_rewrite.specs.Settings.{Setting}
 use Rattle.ap_kernel.specs.declared.objects.Equiv.{Equiv}
 use Rattle.ap_kernel.specs.Answers.{trans_made}

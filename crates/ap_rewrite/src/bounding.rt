@@ -122,7 +122,7 @@ pub struct Begun {
 /// The polynomials of a term with a sign and of the facts, behind them what the masks of their atoms say; and these
 /// atoms, in order of first occurrence. The polynomials hold wherever the facts hold and the term has the sign. See
 /// the manual's topic `linear-arithmetic`.
-pub fn begun<O: TypeOracle>(
+pub fn begin<O: TypeOracle>(
     alloc: Global,
     w: &World,
     oracle: &O,

@@ -1,5 +1,5 @@
 -- An index with the heads of its rules, as rules are added at the end and taken away there.
-use Rattle.std.proofs.Common.{◌≡◌, ℕ, zero, suc, ◌+◌, ◌-◌, ◌<◌, ◌≤◌, Bool, true, false, cond, List, [], ◌∷◌, ◌++◌, map, length, take, drop, Option, Some, None, slice_get, refl, sym, ap, ◌∙◌, subst, append_assoc, arith}
+use Rattle.std.proofs.Common.{◌≡◌, ℕ, zero, suc, ◌+◌, ◌-◌, ◌<◌, ◌≤◌, Bool, true, false, cond, List, [], ◌∷◌, ◌++◌, map, length, take, drop, Option, Some, None, Result, Ok, Err, OnErr, slice_get, refl, sym, ap, ◌∙◌, subst, append_assoc, arith}
 use Rattle.std.proofs.lemmas.List.{map-append, length-append, length-map, append-nil, length_push, same_from_push}
 use Rattle.std.specs.Prelude.{MatchOption}
 use Rattle.ap_value.specs.declared.symbol.Symbol.{Symbol}
@@ -8,13 +8,20 @@ use Rattle.ap_term.specs.declared.term.Term.{Term, out-Term}
 use Rattle.ap_term.specs.declared.term.Term.TheOpen.{Term-F}
 use Rattle.ap_world.specs.declared.entry.Entry.{Entry}
 use Rattle.ap_world.specs.Prescribing.{called}
-use Rattle.ap_world.specs.Rules.{Rule, is_left, newest_first, rules_in_entry, rules_in}
+use Rattle.ap_world.specs.Rules.{Rule, newest_first, rules_in_entry, rules_in}
 use Rattle.ap_world.proofs.Prescribed.{all_but_last}
 use Rattle.ap_rules.specs.declared.rule.RewriteRule.{RewriteRule}
 use Rattle.ap_rules.specs.Made.{rule_in}
-use Rattle.ap_rules.specs.Grouped.{Table, group_at, grouped_at, with_first, without_first}
-use Rattle.ap_rules.specs.Indexed.{kept, may_begin, begins, rules_for}
+use Rattle.ap_rules.specs.Grouped.{Table, group_at, with_first, without_first}
+use Rattle.ap_rules.specs.Indexed.{kept, may_begin, rules_for}
+use Rattle.ap_rules.specs.declared.table.RuleIndex.{RuleIndex}
+use Rattle.ap_rules.specs.Index.{IsIndex}
 use Rattle.ap_rules.specs.Carried.{Has, head_in, Keeps, all_rules, starts_from, Carried}
+
+-- what holds anyhow holds on an error
+pub on_err_by : {T E : Type 0} {Q : Type 0} (r : Result T E) → Q → OnErr r Q
+on_err_by (Ok x) q = tt
+on_err_by (Err e) q = q
 
 no_push : {A : Type 0} (xs : List A) (x : A) → [] ≡ xs ++ x ∷ [] → ⊥
 no_push xs x h = let n : 0 ≡ length xs + 1 = ap length h ∙ length_push xs x in omega (arith, n)
@@ -92,6 +99,15 @@ pub record LastOf (hs : List Symbol) (h : Symbol) (qs : List Rule) : Type 0 wher
   pub fronts : map Some hs ≡ map head_in front
   pub head : head_in last ≡ Some h
 
+longer : (x : Symbol) (hs : List Symbol) (h : Symbol) (q : Rule) (qs : List Rule) → Some x ≡ head_in q → LastOf hs h qs → LastOf (x ∷ hs) h (q ∷ qs)
+longer x hs h q qs first l = record {
+  front = q ∷ l.front;
+  last = l.last;
+  whole = ap (λ rs. q ∷ rs) l.whole;
+  fronts = ap (λ os. Some x ∷ os) l.fronts ∙ ap (λ o. o ∷ map head_in l.front) first;
+  head = l.head;
+}
+
 last_of : (hs : List Symbol) (h : Symbol) (qs : List Rule) → map Some (hs ++ h ∷ []) ≡ map head_in qs → LastOf hs h qs
 last_of [] h [] e = absurd (cc e)
 last_of [] h (q ∷ []) e = record { front = []; last = q; whole = refl; fronts = refl; head = cc }
@@ -100,14 +116,7 @@ last_of (x ∷ hs) h [] e = absurd (cc e)
 last_of (x ∷ hs) h (q ∷ qs) e =
     let rest : map Some (hs ++ h ∷ []) ≡ map head_in qs = cc in
     let first : Some x ≡ head_in q = cc in
-    let l = last_of hs h qs rest in
-    record {
-      front = q ∷ l.front;
-      last = l.last;
-      whole = ap (λ rs. q ∷ rs) l.whole;
-      fronts = ap (λ os. Some x ∷ os) l.fronts ∙ ap (λ o. o ∷ map head_in l.front) first;
-      head = l.head;
-    }
+    longer x hs h q qs first (last_of hs h qs rest)
 
 -- one rule less
 pub record Lessened (table : Table) (hs : List Symbol) (qs : List Rule) : Type 0 where
@@ -260,3 +269,7 @@ carried_all W k table hs ks none c = subst (λ X. Carried X table hs ks) (sym (n
 
 pub carried_none : Carried [] [] [] []
 carried_none = record { keeps = record { has = λ f. refl; headed = refl }; started = refl }
+
+-- the table of a world's rules is its index
+pub is_index : (W : List Entry) (ix : RuleIndex) (hs : List Symbol) (ks : List ℕ) → Carried W ix.groups hs ks → IsIndex ix W
+is_index W ix hs ks c = λ f. c.keeps.has f ∙ ap (rules_for f) (sym (world_rules W))

@@ -1,6 +1,6 @@
 -- The rules of conjuncts, one after another, and the variables of a list of terms.
-use Rattle.std.proofs.Common.{◌≡◌, ℕ, ◌+◌, List, [], ◌∷◌, ◌++◌, map, refl, sym, ap, ◌∙◌, append_assoc}
-use Rattle.std.proofs.lemmas.List.{map-append}
+use Rattle.std.proofs.Common.{◌≡◌, ℕ, ◌+◌, ◌≤◌, List, [], ◌∷◌, ◌++◌, map, length, take, refl, sym, ap, ◌∙◌, append_assoc}
+use Rattle.std.proofs.lemmas.List.{map-append, take_all}
 use Rattle.ap_list.specs.Lists.{in_turn}
 use Rattle.ap_value.specs.declared.symbol.Symbol.{Symbol}
 use Rattle.ap_term.specs.declared.term.Term.{Term, Call}
@@ -29,3 +29,7 @@ in_turn_is (u ∷ us) seen = in_turn_is us (vars_after u seen)
 -- the variables of a call are those of its arguments
 pub call_variables : (f : Symbol) (l : Term) (us : List Term) → vars_after (Call f (l ∷ us)) [] ≡ vars_in us (vars_after l [])
 call_variables f l us = ap (λ k. k []) (fold_call vars_step f (l ∷ us)) ∙ in_turn_is us (vars_after l [])
+
+-- and so are those of a call of a left side and all hypotheses
+pub bound_is : (f : Symbol) (l all : Term) (us terms : List Term) (i : ℕ) → length us ≤ i → terms ≡ l ∷ take i us → all ≡ Call f terms → vars_after all [] ≡ vars_in us (vars_after l [])
+bound_is f l all us terms i end is made = ap (λ t. vars_after t []) (made ∙ ap (Call f) (is ∙ ap (λ vs. l ∷ vs) (take_all i us end))) ∙ call_variables f l us

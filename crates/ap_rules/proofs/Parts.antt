@@ -1,5 +1,5 @@
 -- Each rule of a world is a part of the theorem that it names.
-use Rattle.std.proofs.Common.{◌≡◌, ℕ, zero, suc, ◌+◌, Bool, true, false, cond, List, [], ◌∷◌, ◌++◌, map, Option, Some, None, slice_get, is_some, refl, sym, ap, ◌∙◌, arith}
+use Rattle.std.proofs.Common.{◌≡◌, ℕ, suc, ◌+◌, Bool, true, false, cond, List, [], ◌∷◌, map, Option, Some, None, slice_get, is_some, refl, ap, ◌∙◌, arith}
 use Rattle.ap_list.specs.Lists.{Each, all_true}
 use Rattle.ap_list.proofs.Eachs.{each_append}
 use Rattle.ap_value.specs.declared.symbol.Symbol.{Symbol}
@@ -9,7 +9,8 @@ use Rattle.ap_term.specs.declared.term.Term.{Term}
 use Rattle.ap_world.specs.declared.entry.Entry.{Entry}
 use Rattle.ap_world.specs.declared.entry.Entry.TheVariants as entry
 use Rattle.ap_world.specs.declared.entry.Theorem.{Theorem}
-use Rattle.ap_world.specs.Rules.{Rule, sides, rules_from, rules_of_term, is_rule, rewrites, sound_rules, rules_in_entry, newest_first, rules_in}
+use Rattle.ap_world.specs.Clauses.{conjuncts}
+use Rattle.ap_world.specs.Rules.{Rule, stated, sides, rules_from, rules_of_term, is_rule, rewrites, sound_rules, rules_in_entry, newest_first, rules_in}
 use Rattle.ap_world.specs.World.{name_in, as_theorem, entry_of, has_name, are_distinct}
 use Rattle.ap_world.specs.Holding.{part_at, part_of}
 use Rattle.ap_world.proofs.Places.{free_entry}
@@ -37,9 +38,10 @@ numbered_from : (x : Symbol) (hs : List Term) (n : ℕ) (us : List Term) → Eac
 numbered_from x hs n [] = tt
 numbered_from x hs n (u ∷ us) =
     let r : Rule = record { theorem = x; part = n; iff = (sides u).0; lhs = (sides u).1; rhs = (sides u).2; hyps = hs } in
-    let rs = rules_from x hs (n + 1) us in
-    (record { named = refl; place = 0; numbered = omega arith; there = refl },
-    each_by (IsAt x rs (n + 1)) (IsAt x (r ∷ rs) n) (later x rs n r) rs (numbered_from x hs (n + 1) us))
+    let rs = rules_from x hs (n + 1) us in (
+      record { named = refl; place = 0; numbered = omega arith; there = refl },
+      each_by (IsAt x rs (n + 1)) (IsAt x (r ∷ rs) n) (later x rs n r) rs (numbered_from x hs (n + 1) us),
+    )
 
 module _ (P : Rule → Type 0) where
   sounded : (rs : List Rule) → Each P rs → Each P (sound_rules rs)
@@ -66,7 +68,7 @@ in_first (entry.Theorem u) ys = go (rewrites u.classes)
   where
     all : Each (IsPart (entry.Theorem u ∷ ys)) (rules_of_term u.name u.term)
     all = each_by (IsAt u.name (rules_of_term u.name u.term) 0) (IsPart (entry.Theorem u ∷ ys)) (of_first u ys) (rules_of_term u.name u.term)
-        (numbered_from u.name _ 0 _)
+        (numbered_from u.name (stated u.term).0 0 (conjuncts (stated u.term).1))
 
     go : (b : Bool) → Each (IsPart (entry.Theorem u ∷ ys)) (cond b (sound_rules (rules_of_term u.name u.term)) [])
     go true = sounded (IsPart (entry.Theorem u ∷ ys)) (rules_of_term u.name u.term) all

@@ -1,5 +1,5 @@
 -- A theorem's rules are refused exactly where one of them isn't a rule.
-use Rattle.std.proofs.Common.{◌≡◌, ℕ, Bool, true, false, cond, not, ◌&&◌, List, [], ◌∷◌, map, Option, Some, None, ◌⊎◌, inl, inr, refl, sym, ap, ◌∙◌}
+use Rattle.std.proofs.Common.{◌≡◌, Bool, true, false, cond, not, ◌&&◌, List, [], ◌∷◌, map, Option, Some, None, ◌⊎◌, inl, inr, refl, sym, ap, ◌∙◌}
 use Rattle.ap_list.specs.Lists.{Each, all_true, is_within}
 use Rattle.ap_value.specs.declared.symbol.Symbol.{Symbol}
 use Rattle.ap_value.specs.Values.{symbol_eq}
@@ -7,12 +7,14 @@ use Rattle.ap_term.specs.declared.term.Term.{Term, out-Term}
 use Rattle.ap_term.specs.declared.term.Term.TheOpen.{Term-F}
 use Rattle.ap_term.specs.Terms.{vars_after}
 use Rattle.ap_world.specs.Names.{if_name}
-use Rattle.ap_world.specs.Rules.{Rule, is_left, vars_in, is_rule, sound_rules}
+use Rattle.ap_world.specs.declared.entry.RuleClass.{RuleClass}
+use Rattle.ap_world.specs.declared.entry.Entry.TheVariants as entry
+use Rattle.ap_world.specs.Rules.{Rule, is_left, vars_in, is_rule, sound_rules, rewrites, rules_of_term, rules_in_entry}
 use Rattle.ap_rules.specs.declared.rule.RewriteRule.{RewriteRule}
 use Rattle.ap_rules.specs.declared.refusing.RuleError.{RuleError}
 use Rattle.ap_rules.specs.declared.refusing.RuleError.TheVariants.{LhsConstant, FreeInRhs}
 use Rattle.ap_rules.specs.Made.{rule_in}
-use Rattle.ap_rules.specs.Refused.{or_else, first_refusal, left_refusal, right_refusal, rule_refusal}
+use Rattle.ap_rules.specs.Refused.{or_else, first_refusal, left_refusal, right_refusal, rule_refusal, asked_rules}
 
 or_none : (o p : Option RuleError) → or_else o p ≡ None → (o ≡ None) × (p ≡ None)
 or_none None p h = (refl, h)
@@ -74,11 +76,12 @@ all_pass (r ∷ rs) h =
 
 one_fails : (rs : List Rule) (e : RuleError) → first_refusal rule_refusal rs ≡ Some e → all_true (map is_rule rs) ≡ false
 one_fails [] e h = absurd (cc h)
-one_fails (r ∷ rs) e h = go (or_some (rule_refusal r) (first_refusal rule_refusal rs) e h)
+one_fails (r ∷ rs) e h = go (one_fails rs e) (or_some (rule_refusal r) (first_refusal rule_refusal rs) e h)
   where
-    go : (rule_refusal r ≡ Some e) ⊎ ((rule_refusal r ≡ None) × (first_refusal rule_refusal rs ≡ Some e)) → all_true (map is_rule (r ∷ rs)) ≡ false
-    go (inl l) = ap (λ x. x && all_true (map is_rule rs)) (fails r e l)
-    go (inr p) = ap (λ x. x && all_true (map is_rule rs)) (passes r p.0) ∙ one_fails rs e p.1
+    go : (first_refusal rule_refusal rs ≡ Some e → all_true (map is_rule rs) ≡ false)
+        → (rule_refusal r ≡ Some e) ⊎ ((rule_refusal r ≡ None) × (first_refusal rule_refusal rs ≡ Some e)) → all_true (map is_rule (r ∷ rs)) ≡ false
+    go rest (inl l) = ap (λ x. x && all_true (map is_rule rs)) (fails r e l)
+    go rest (inr p) = ap (λ x. x && all_true (map is_rule rs)) (passes r p.0) ∙ rest p.1
 
 -- where none is refused all are rules
 pub none_refused : (rs : List Rule) (o : Option RuleError) → o ≡ first_refusal rule_refusal rs → o ≡ None → sound_rules rs ≡ rs
@@ -99,3 +102,17 @@ left_alone (g ∷ gs) h =
 
 pub all_left : (gs : List RewriteRule) (o : Option RuleError) → o ≡ first_refusal rule_refusal (map rule_in gs) → o ≡ None → AreLeft gs
 all_left gs o is none = left_alone gs (sym is ∙ none)
+
+-- a theorem's rules are those that it asks for, where none of them is refused
+pub asked_sound : (name : Symbol) (u : Term) (cs : List RuleClass) → rules_in_entry (entry.Theorem (record { name = name; term = u; classes = cs })) ≡ sound_rules (asked_rules name u cs)
+asked_sound name u cs = go (rewrites cs)
+  where
+    go : (b : Bool) → cond b (sound_rules (rules_of_term name u)) [] ≡ sound_rules (cond b (rules_of_term name u) [])
+    go true = refl
+    go false = refl
+
+pub asked_made : (gs : List Rule) (name : Symbol) (u : Term) (cs : List RuleClass) (o p : Option RuleError) → gs ≡ asked_rules name u cs → o ≡ or_else (first_refusal rule_refusal gs) p → o ≡ None
+    → gs ≡ rules_in_entry (entry.Theorem (record { name = name; term = u; classes = cs }))
+asked_made gs name u cs o p asked is none =
+    sym (none_refused gs (first_refusal rule_refusal gs) refl (or_none (first_refusal rule_refusal gs) p (sym is ∙ none)).0)
+    ∙ ap sound_rules asked ∙ sym (asked_sound name u cs)

@@ -1,5 +1,5 @@
 -- Why a theorem gives no rules of its classes.
-use Rattle.std.specs.Prelude.{Bool, true, false, cond, ◌&&◌, List, [], ◌∷◌, Option, Some, None}
+use Rattle.std.specs.Prelude.{cond, List, [], ◌∷◌, Option, Some, None}
 use Rattle.ap_list.specs.Lists.{is_within}
 use Rattle.ap_value.specs.declared.symbol.Symbol.{Symbol}
 use Rattle.ap_value.specs.Values.{symbol_eq}

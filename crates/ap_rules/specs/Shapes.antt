@@ -1,6 +1,6 @@
 -- The shapes that the other classes ask for: a linear theorem's conjuncts are inequalities with a trigger, and a
 -- type prescription is a recogniser on a call of distinct variables.
-use Rattle.std.specs.Prelude.{Bool, true, false, cond, ◌&&◌, ◌||◌, List, [], ◌∷◌, Option, Some, None, is_some}
+use Rattle.std.specs.Prelude.{Bool, true, false, ◌&&◌, ◌||◌, List, [], ◌∷◌, is_some}
 use Rattle.ap_list.specs.Lists.{is_within}
 use Rattle.ap_value.specs.Values.{symbol_eq}
 use Rattle.ap_term.specs.declared.term.Term.{Term, out-Term}

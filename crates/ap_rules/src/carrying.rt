@@ -7,9 +7,9 @@ ghost use Rattle.ap_world.specs.Rules.{Rule, is_left, rules_in_entry};
 ghost use Rattle.ap_rules.specs.Made.{rule_in};
 ghost use Rattle.ap_rules.specs.Carried.{Keeps, Carried};
 
-use crate::table::{Groups, RuleIndex};
 use crate::making::entry_rules;
 use crate::rule::RewriteRule;
+use crate::table::{Groups, RuleIndex};
 use ap_list::{NoMemory, Seq};
 use ap_term::Term;
 use ap_value::{Symbol, copy_symbol};

@@ -71,11 +71,7 @@ fn make_room(alloc: Global, slots: &mut Vec<RewriteRule>) -> Result<usize, NoMem
 
 /// Sees that there is room before the rules, and answers where they start then. Where memory is refused they
 /// stay as they were.
-fn with_room(
-    alloc: Global,
-    slots: &mut Vec<RewriteRule>,
-    start: usize,
-) -> Result<usize, NoMemory>
+fn with_room(alloc: Global, slots: &mut Vec<RewriteRule>, start: usize) -> Result<usize, NoMemory>
     requires { start ≤ vec_len slots.old }
     ensures some { IfOk result (λ n. 0 < n) }
     ensures within { IfOk result (λ n. n ≤ vec_len slots.new) }

@@ -8,22 +8,22 @@
 
 mod carrying;
 mod group;
-mod table;
 mod laws;
 mod making;
 mod refusing;
 mod rule;
 mod shapes;
-mod worlds;
 mod statement;
+mod table;
+mod worlds;
 
 pub use ap_list::{NoMemory, Seq};
 pub use ap_term::Term;
 pub use ap_value::Symbol;
 pub use ap_world::{RuleClass, World};
-pub use table::{Groups, RuleIndex, by_head};
 pub use laws::rules_are_parts;
 pub use making::rules_of;
 pub use refusing::RuleError;
 pub use rule::RewriteRule;
+pub use table::{Groups, RuleIndex, by_head};
 pub use worlds::{Ruled, index};

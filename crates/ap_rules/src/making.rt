@@ -68,11 +68,7 @@ fn rules_from(
 }
 
 /// The rules that a theorem's term has, in the order of its conjuncts, whether or not they are refused.
-pub(crate) fn parts_of(
-    alloc: Global,
-    name: &Symbol,
-    t: &Term,
-) -> Result<Seq<RewriteRule>, NoMemory>
+pub(crate) fn parts_of(alloc: Global, name: &Symbol, t: &Term) -> Result<Seq<RewriteRule>, NoMemory>
     ensures { IfOk result (λ gs. map rule_in gs ≡ rules_of_term name.now t.now) }
 {
     let statement = state(alloc, t)?;
@@ -99,6 +95,7 @@ pub(crate) fn rewrites(classes: &[RuleClass]) -> bool
 }
 
 /// The rules, or none where one of them is refused.
+#[tactic(auto, using(crate::proofs::Refusals::none_refused, crate::proofs::Refusals::one_refused, crate::proofs::Refusals::all_left))]
 fn sound_rules(alloc: Global, rules: Seq<RewriteRule>) -> Result<Seq<RewriteRule>, NoMemory>
     ensures made { IfOk result (λ gs. map rule_in gs ≡ sound_rules (map rule_in rules)) }
     ensures left { IfOk result (λ gs. Each (λ g. is_left (out-Term g.lhs) ≡ true) gs) }
@@ -126,6 +123,7 @@ fn asked_rules(
 }
 
 /// The rules that a theorem gives.
+#[tactic(auto, using(crate::proofs::Refusals::asked_sound))]
 pub(crate) fn theorem_rules(
     alloc: Global,
     name: &Symbol,
@@ -222,6 +220,7 @@ fn refusal(
 /// with a trigger: `(< a b)`, its negation or `(equal a b)`, with an atom that is a call with all variables of
 /// the conjunct. Then, where they have that of type prescriptions, the theorem must be a recogniser on a call
 /// of distinct variables, without hypotheses.
+#[tactic(auto, using(crate::proofs::Refusals::asked_made))]
 pub fn rules_of(
     alloc: Global,
     name: &Symbol,

@@ -6,8 +6,8 @@ ghost use Rattle.ap_world.specs.declared.entry.Entry.TheVariants as entry;
 ghost use Rattle.ap_rules.specs.Index.{IsIndex};
 
 use crate::carrying::Carrier;
-use crate::table::RuleIndex;
 use crate::making::theorem_rules;
+use crate::table::RuleIndex;
 use ap_list::{NoMemory, Seq};
 use ap_term::Term;
 use ap_value::{Symbol, Value};

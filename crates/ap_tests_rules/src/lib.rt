@@ -1,8 +1,6 @@
-//! The tests of rules: those of a theorem, why it has none, and a world's index as it grows and shrinks.
+//! The tests of rules: those of a theorem, and why it has none.
 #![tactic(auto)]
 
-#[cfg(test)]
-mod indexing;
 #[cfg(test)]
 mod making;
 #[cfg(test)]

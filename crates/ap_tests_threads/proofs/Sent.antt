@@ -91,10 +91,10 @@ entry_send t v =
     search (variants_send, symbol_send) depth 40
 
 names_send : IsSend names.the_row
-names_send = search (sendable, crosses) depth 40
+names_send = search (sendable, crosses, symbol_send) depth 40 fits 100000
 
 places_send : IsSend places.the_row
-places_send = search (sendable, crosses) depth 40
+places_send = search (sendable, crosses, symbol_send, seq_send) depth 40 fits 100000
 
 pub world_send : IsSend term.the_row → IsSend value.the_row → IsSend world.the_row
 world_send t v = let e = entry_send t v in search (sendable, crosses, names_send, places_send, theory_send) depth 60 fits 100000
@@ -125,10 +125,10 @@ entry_sync t v =
     search (variants_sync, symbol_sync) depth 40
 
 names_sync : IsSync names.the_row
-names_sync = search (sendable, crosses) depth 40
+names_sync = search (sendable, crosses, symbol_sync) depth 40 fits 100000
 
 places_sync : IsSync places.the_row
-places_sync = search (sendable, crosses) depth 40
+places_sync = search (sendable, crosses, symbol_sync, seq_sync) depth 40 fits 100000
 
 pub world_sync : IsSync term.the_row → IsSync value.the_row → IsSync world.the_row
 world_sync t v = let e = entry_sync t v in search (sendable, crosses, names_sync, places_sync, theory_sync) depth 60 fits 100000

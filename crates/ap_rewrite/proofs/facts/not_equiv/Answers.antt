@@ -1,4 +1,4 @@
-use Rattle.std.proofs.Common.{◌≡◌, List, [], ◌∷◌, ◌++◌, sym, ap, ◌∙◌}
+use Rattle.std.proofs.Common.{List, [], ◌∷◌, ◌++◌, ap, ◌∙◌}
 use Rattle.ap_kernel.specs.declared.objects.Equiv.{Equiv}
 use Rattle.ap_world.specs.World.{function_of}
 use Rattle.ap_rewrite.proofs.FactsRelieve.{not_args, not_head, not_said}

@@ -1,4 +1,4 @@
-use Rattle.std.proofs.Common.{◌≡◌, sym, ap, ◌∙◌}
+use Rattle.std.proofs.Common.{sym, ap, ◌∙◌}
 use Rattle.ap_kernel.specs.declared.objects.Sequent.{Sequent}
 use Rattle.ap_kernel.specs.declared.objects.Mode.TheVariants.{Iff}
 use Rattle.ap_world.specs.Recursion.{t_constant}
@@ -19,6 +19,6 @@ returns-then-becomes-clause-made c =
     c.in_ok-truth.ensures.made ∙ ap (λ (s : Sequent). leads_made s.ctx Iff s.lhs t_constant) c.in_ok-q.ensures.made
     ∙ becomes_says c.args.ctx.now c.args.mode c.args.t.now c.args.value (sym c.becomes_true-becomes.ensures ∙ c.if-becomes.true)
 
-pub returns-else-becomes-clause-made : goal.returns-else-becomes-clause-made
-returns-else-becomes-clause-made c =
+pub returns-clause-made : goal.returns-clause-made
+returns-clause-made c =
     c.in_ok-q.ensures.made ∙ ap (leads_made c.args.ctx.now c.args.mode c.args.t.now) (sym (constant_stays c.args.mode c.args.value (sym c.becomes_true-becomes.ensures ∙ c.if-becomes.false)))

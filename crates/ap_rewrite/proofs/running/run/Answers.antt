@@ -1,10 +1,10 @@
-use Rattle.std.proofs.Common.{◌≡◌, sym, ap, ◌∙◌}
+use Rattle.std.proofs.Common.{ap, ◌∙◌}
 use Rattle.std.specs.Option.{option_map}
 use Rattle.ap_rewrite.specs.Leading.{leads_made}
 use Rattle.ap_rewrite.proofs.Settled.{run_says}
 use Rattle.ap_rewrite.proofs.running.run.Goals as goal
 
-pub returns-in-Call-clause-made : goal.returns-in-Call-clause-made
-returns-in-Call-clause-made c = λ g us q.
-    c.in_ok-o.ensures.made ∙ ap (option_map (leads_made c.args.ctx.now c.args.mode c.args.t.now))
-    (run_says c.args.w.now c.args.theory.now c.args.mode c.in-Call.f.now g c.args.t.now _ us c.in-Call.is q)
+pub returns-in_ok-o-in-Call-clause-made : goal.returns-in_ok-o-in-Call-clause-made
+returns-in_ok-o-in-Call-clause-made c = λ g us q.
+    c.in_ok-o-in-Call.ensures.made ∙ ap (option_map (leads_made c.args.ctx.now c.args.mode c.args.t.now))
+    (run_says c.args.w.now c.args.theory.now c.args.mode c.in-Call.f g c.args.t.now _ us c.in-Call.is q)

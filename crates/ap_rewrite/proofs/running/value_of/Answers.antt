@@ -1,6 +1,6 @@
-use Rattle.std.proofs.Common.{◌≡◌, sym}
+use Rattle.std.proofs.Common.{sym}
 use Rattle.ap_world.specs.World.{function_of}
-use Rattle.ap_world.specs.Units.{gives, wide, spent, large}
+use Rattle.ap_world.specs.Units.{gives}
 use Rattle.ap_rewrite.proofs.Ran.{ran, ran_means}
 use Rattle.ap_rewrite.proofs.running.value_of.Goals as goal
 

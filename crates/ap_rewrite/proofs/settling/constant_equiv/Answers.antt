@@ -16,7 +16,7 @@ pub returns-then-becomes-clause-made : goal.returns-then-becomes-clause-made
 returns-then-becomes-clause-made c =
     c.in_ok-truth.ensures.made ∙ becomes_says c.args.ctx.now c.args.mode c.args.t.now c.args.v.now (sym c.becomes_true-becomes.ensures ∙ c.if-becomes.true)
 
-pub returns-else-becomes-clause-made : goal.returns-else-becomes-clause-made
-returns-else-becomes-clause-made c =
+pub returns-clause-made : goal.returns-clause-made
+returns-clause-made c =
     c.in_ok-same.ensures.made ∙ ap (leads_made c.args.ctx.now c.args.mode c.args.t.now)
     (c.requires.constant ∙ sym (constant_stays c.args.mode c.args.v.now (sym c.becomes_true-becomes.ensures ∙ c.if-becomes.false)))

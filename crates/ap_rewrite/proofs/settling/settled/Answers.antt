@@ -1,4 +1,4 @@
-use Rattle.std.proofs.Common.{◌≡◌, sym, ap, ◌∙◌}
+use Rattle.std.proofs.Common.{sym, ap, ◌∙◌}
 use Rattle.ap_rewrite.specs.Leading.{leads_made, plain_in}
 use Rattle.ap_rewrite.proofs.Settled.{settled_to}
 use Rattle.ap_rewrite.proofs.settling.settled.Goals as goal

@@ -4,5 +4,5 @@ use Rattle.ap_rewrite.proofs.shaping.argument_of.Goals as goal
 pub unreachable-requires : goal.unreachable-requires
 unreachable-requires c = is_negation c.args.t.now c.requires.0 c.shape_of.result c.shape_of.ensures c.requires.1 c.in_default.not-Not
 
-pub returns-in-Not : goal.returns-in-Not
-returns-in-Not c = not_here c.args.t.now c.in-Not.a.now c.in-Not.ensures
+pub returns : goal.returns
+returns c = not_here c.args.t.now c.in-Not.a.now c.in-Not.ensures

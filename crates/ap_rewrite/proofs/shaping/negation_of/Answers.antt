@@ -1,4 +1,4 @@
-use Rattle.std.proofs.Common.{◌≡◌, sym, ap, ◌∙◌}
+use Rattle.std.proofs.Common.{sym, ap, ◌∙◌}
 use Rattle.ap_value.specs.Values.{val_of}
 use Rattle.ap_term.specs.declared.term.Term.{Quote}
 use Rattle.ap_kernel.specs.Equations.{truth_constant}
@@ -11,8 +11,8 @@ returns-then-empty-clause-value c = ap val_of c.t_value.ensures ∙ t_is c.args.
 pub returns-then-empty-clause-constant : goal.returns-then-empty-clause-constant
 returns-then-empty-clause-constant c = ap Quote c.t_value.ensures ∙ ap truth_constant (sym (sym c.is_nil-empty.ensures ∙ c.if-empty.true))
 
-pub returns-else-empty-clause-value : goal.returns-else-empty-clause-value
-returns-else-empty-clause-value c = ap val_of c.nil_value.ensures ∙ nil_is c.args.v.now (sym c.is_nil-empty.ensures ∙ c.if-empty.false)
+pub returns-clause-value : goal.returns-clause-value
+returns-clause-value c = ap val_of c.nil_value.ensures ∙ nil_is c.args.v.now (sym c.is_nil-empty.ensures ∙ c.if-empty.false)
 
-pub returns-else-empty-clause-constant : goal.returns-else-empty-clause-constant
-returns-else-empty-clause-constant c = ap Quote c.nil_value.ensures ∙ ap truth_constant (sym (sym c.is_nil-empty.ensures ∙ c.if-empty.false))
+pub returns-clause-constant : goal.returns-clause-constant
+returns-clause-constant c = ap Quote c.nil_value.ensures ∙ ap truth_constant (sym (sym c.is_nil-empty.ensures ∙ c.if-empty.false))

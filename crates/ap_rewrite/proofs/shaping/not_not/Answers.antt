@@ -1,4 +1,4 @@
-use Rattle.std.proofs.Common.{◌≡◌, true, false, cond, sym, ap, ◌∙◌, subst}
+use Rattle.std.proofs.Common.{◌≡◌, true, false, sym, ap, ◌∙◌, subst}
 use Rattle.ap_world.specs.World.{function_of}
 use Rattle.ap_world.specs.Clauses.{not_of}
 use Rattle.ap_world.specs.Sound.{known}
@@ -25,7 +25,7 @@ returns-then-counts-clause-made g c =
     ∙ ap (leads_made c.args.ctx.now c.args.mode c.args.t.now)
     (unwrapped_says (plain_in c.args.w.now c.args.w.now.theory) c.args.mode c.args.ctx.now.0 c.in_ok-mask.mask c.args.z.now true c.in_ok-mask.ensures.made (sym c.is_truth-counts.ensures ∙ c.if-counts.true))
 
-pub returns-else-counts-clause-made : goal.returns-else-counts-clause-made
-returns-else-counts-clause-made g c =
+pub returns-clause-made : goal.returns-clause-made
+returns-clause-made g c =
     c.in_ok-same.ensures.made ∙ ap (leads_made c.args.ctx.now c.args.mode c.args.t.now)
     (c.requires.negation ∙ unwrapped_says (plain_in c.args.w.now c.args.w.now.theory) c.args.mode c.args.ctx.now.0 c.in_ok-mask.mask c.args.z.now false c.in_ok-mask.ensures.made (sym c.is_truth-counts.ensures ∙ c.if-counts.false))

@@ -1,12 +1,10 @@
-use Rattle.std.proofs.Common.{◌≡◌, [], ◌∷◌, ◌++◌, Some, refl, sym, ap, ◌∙◌}
-use Rattle.std.proofs.lemmas.List.{same_from_push}
-use Rattle.ap_rules.specs.Made.{rule_in}
-use Rattle.ap_rules.specs.Carried.{head_in}
-use Rattle.ap_rules.proofs.Keeping.{keeps_more, keeps_same, popped}
+use Rattle.std.proofs.Common.{refl}
+use Rattle.ap_rules.proofs.Keeping.{on_err_by, keeps_more, keeps_same, popped}
 use Rattle.ap_rules.proofs.carrying.add_rule.Goals as goal
 
 pub returns-in_err-push_head-clause-err : goal.returns-in_err-push_head-clause-err
-returns-in_err-push_head-clause-err c = λ rs k. keeps_same c.args.groups.now c.args.groups.now c.args.heads.now c.push_head.new.heads rs c.in_err-push_head.ensures.err (λ f. refl) k
+returns-in_err-push_head-clause-err c =
+    on_err_by c.from_residual-in_err-push_head.result (λ rs k. keeps_same c.args.groups.now c.args.groups.now c.args.heads.now c.push_head.new.heads rs c.in_err-push_head.ensures.err (λ f. refl) k)
 
 pub returns-in-Err-clause-err : goal.returns-in-Err-clause-err
 returns-in-Err-clause-err c = λ rs k.

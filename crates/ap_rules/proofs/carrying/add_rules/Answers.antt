@@ -1,9 +1,9 @@
-use Rattle.std.proofs.Common.{◌≡◌, [], ◌∷◌, ◌++◌, List, map, take, true, refl, sym, ap, ◌∙◌, subst, rules}
+use Rattle.std.proofs.Common.{◌≡◌, [], ◌∷◌, ◌++◌, List, map, true, refl, sym, ap, ◌∙◌, subst, rules}
 use Rattle.std.specs.Vec.Iter.{into_iter_items}
 use Rattle.std.proofs.lemmas.List.{append-nil, append_assoc, nil_from_length}
 use Rattle.ap_list.specs.Lists.{Each}
 use Rattle.ap_term.specs.declared.term.Term.{out-Term}
-use Rattle.ap_world.specs.Rules.{Rule, is_left}
+use Rattle.ap_world.specs.Rules.{is_left}
 use Rattle.ap_rules.specs.declared.rule.RewriteRule.{RewriteRule}
 use Rattle.ap_rules.specs.Made.{rule_in}
 use Rattle.ap_rules.specs.Carried.{Keeps}
@@ -40,10 +40,11 @@ loop-rule-preserved c =
       is_finite = tt;
       left = (subst AreLeft c.in-Some.ensures.steps.0 c.loop-rule.invariant.left).1;
       came = λ rs k.
-          let i = c.loop-rule.invariant.came rs k in
-          (i.0 ++ rule_in c.in-Some.rule ∷ [],
-          subst (Keeps c.add_rule.new.groups c.add_rule.new.heads) (append_assoc rs i.0 (rule_in c.in-Some.rule ∷ [])) (c.in_default.ensures.ok (rs ++ i.0) i.1),
-          came i.0 c.in-Some.rule (into_iter_items c.loop-rule.rule-iterator) rest (map rule_in (into_iter_items c.into_iter-rule-iterator.result)) c.in-Some.ensures.steps.0 i.2);
+          let i = c.loop-rule.invariant.came rs k in (
+            i.0 ++ rule_in c.in-Some.rule ∷ [],
+            subst (Keeps c.add_rule.new.groups c.add_rule.new.heads) (append_assoc rs i.0 (rule_in c.in-Some.rule ∷ [])) (c.in_default.ensures.ok (rs ++ i.0) i.1),
+            came i.0 c.in-Some.rule (into_iter_items c.loop-rule.rule-iterator) rest (map rule_in (into_iter_items c.into_iter-rule-iterator.result)) c.in-Some.ensures.steps.0 i.2,
+          );
     }
 
 pub returns-clause-ok : goal.returns-clause-ok

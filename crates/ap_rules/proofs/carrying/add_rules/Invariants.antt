@@ -1,4 +1,4 @@
-use Rattle.std.proofs.Common.{◌≡◌, ◌++◌, List, map, length, true}
+use Rattle.std.proofs.Common.{◌≡◌, ◌++◌, List, map, true}
 use Rattle.std.specs.Vec.Iter.{into_iter_items}
 use Rattle.ap_list.specs.Lists.{Each}
 use Rattle.ap_term.specs.declared.term.Term.{out-Term}

@@ -1,10 +1,11 @@
-use Rattle.std.proofs.Common.{◌≡◌, ◌++◌, [], ◌∷◌, true, ap, ◌∙◌, rules}
+use Rattle.std.proofs.Common.{◌≡◌, ◌++◌, [], ◌∷◌, true, ap, sym, ◌∙◌, rules}
+use Rattle.std.proofs.lemmas.List.{append-nil}
 use Rattle.ap_value.specs.Values.{symbol_eq}
 use Rattle.ap_term.specs.declared.term.Term.{Call}
 use Rattle.ap_world.specs.Names.{implies_name}
 use Rattle.ap_world.specs.Clauses.{conjuncts}
 use Rattle.ap_world.specs.Rules.{stated}
-use Rattle.ap_rules.proofs.Stated.{pair_is, stated_pair, by_steps}
+use Rattle.ap_rules.proofs.Stated.{pair_is, stated_pair, by_steps, stating}
 use Rattle.ap_rules.proofs.statement.+push_hyps.Goals as goal
 
 pub returns-in_ok-push_conjuncts-in-true-len2-clause-hyps : goal.returns-in_ok-push_conjuncts-in-true-len2-clause-hyps
@@ -25,3 +26,18 @@ returns-in_ok-push_conjuncts-in-true-len2-clause-rest t c =
     let q : symbol_eq c.in-Call.f implies_name ≡ true = search rules in
     let e : (stated c.args.t.now).1 ≡ (stated c.c-item.result).1 = ap (λ p. p.1) (stated_pair c.args.t.now c.in-Call.f c.h-item.result c.c-item.result u q) in
     rw e c.push_hyps.ensures.rest
+
+pub returns-in_default-clause-hyps : goal.returns-in_default-clause-hyps
+returns-in_default-clause-hyps t c =
+    let none : (stated c.args.t.now).0 ≡ [] = search (rules, stating) in
+    rw none (sym (append-nil c.args.hyps.now))
+
+pub returns-in-Var-clause-hyps : goal.returns-in-Var-clause-hyps
+returns-in-Var-clause-hyps t c =
+    let none : (stated c.args.t.now).0 ≡ [] = search (rules, stating) in
+    rw none (sym (append-nil c.args.hyps.now))
+
+pub returns-in-Quote-clause-hyps : goal.returns-in-Quote-clause-hyps
+returns-in-Quote-clause-hyps t c =
+    let none : (stated c.args.t.now).0 ≡ [] = search (rules, stating) in
+    rw none (sym (append-nil c.args.hyps.now))

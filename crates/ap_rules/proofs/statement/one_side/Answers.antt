@@ -1,4 +1,4 @@
-use Rattle.std.proofs.Common.{◌≡◌, true, sym, ◌∙◌, rules}
+use Rattle.std.proofs.Common.{◌≡◌, true, rules}
 use Rattle.ap_value.specs.Values.{symbol_eq}
 use Rattle.ap_world.specs.Names.{not_name}
 use Rattle.ap_rules.proofs.Stated.{negated_sides}

@@ -6,14 +6,14 @@ use Rattle.ap_reader.specs.declared.form.Body.TheOpen.{Body-F}
 use Rattle.ap_term.specs.declared.term.Term.{Term}
 use Rattle.ap_value.specs.declared.symbol.Symbol.{Symbol}
 use Rattle.ap_reader.specs.declared.form.Body.TheVariants.{outs-List, outs-Quoted, outs-Quasi, outs-Comma, outs-CommaAt}
-use Rattle.ap_translate.specs.Answers.{Answer, ◌>>=◌, each}
+use Rattle.ap_translate.specs.Answers.{Answer, ◌>>=◌, each, Fails}
 use Rattle.ap_translate.specs.Rows.{pieced}
 use Rattle.ap_translate.specs.Shapes.{arm_seen, bind_seen, scope_seen}
 use Rattle.ap_translate.specs.Sizes.{small, few, capped, row_terms}
 use Rattle.ap_translate.specs.Kept.{piece_size, small_piece, few_pieces, list_pieces, list_arms, kept_bindings, each_small, quote_pieced, Admitted}
 use Rattle.ap_translate.specs.Plans.{planned}
 use Rattle.ap_translate.specs.Table.{with_bound, scope_of, variable, bindings, arms_term, plan_term, level, term_in, part_in, piece_in}
-use Rattle.ap_translate.proofs.Bindings.{small_next, bound_next, wider_scope, named_length, small_length, lambda_made, let_made}
+use Rattle.ap_translate.proofs.Bindings.{small_next, bound_next, term_fails, wider_scope, named_length, small_length, lambda_made, let_made}
 use Rattle.ap_translate.proofs.Clauses.{arm_next, arm_fails, last_next, last_is}
 use Rattle.ap_translate.proofs.Constants.{at_form}
 use Rattle.ap_translate.proofs.Fails.{gives_err, bad_fails, same_fails, then_fails, capped_fails, fails_capped}
@@ -179,6 +179,22 @@ bindings-loop-form-preserved t c =
       scope = c.in_ok-scope-2.ensures ∙ ap (λ s. scope_of c.args.in_turn s (v ∷ [])) c.loop-form.invariant.scope ∙ wider_scope c.args.in_turn c.args.bound.now.names xs v
           ∙ ap (scope_of c.args.in_turn c.args.bound.now.names) (sym c.in_ok-push.ensures.ok);
     }
+
+pub bindings-returns-in_err-next : goal.bindings-returns-in_err-next
+bindings-returns-in_err-next t c =
+    let forms = c.args.forms.now in
+    let i = c.loop-form.form-index in
+    let f = c.form-item.result in
+    let xs = c.loop-form.names in
+    let r : List Symbol → Form → Answer Term = λ before. term_in c.args.world.now.entries c.args.left (scope_of c.args.in_turn c.args.bound.now.names before) in
+    let x = bind_seen c.in-Some.found in
+    let v = c.in_ok-name-2.name in
+    let e = c.in_err-next.field-0.0 in
+    gives_err c.from_residual-in_err-next.result e _ c.from_residual-in_err-next.ensures.1
+    (term_fails r c.args.place forms i f xs c.loop-form.terms (kept_bindings (bindings r c.args.place [] forms)) (at_form forms i f c.loop-form-test.true c.form-item.is) c.loop-form.invariant.told
+    x v e (sym c.in-Some.ensures)
+    (ap (variable x.place xs) (sym c.in_ok-name.ensures) ∙ ap (λ ys. variable x.place ys c.in_ok-name.name) (sym c.as_slice.ensures) ∙ c.in_ok-name-2.ensures)
+    (subst (λ s. Fails e (capped small (term_in c.args.world.now.entries c.args.left s x.value))) c.loop-form.invariant.scope c.in_err-next.ensures))
 
 pub lambda-body_replaced-requires : goal.lambda-body_replaced-requires
 lambda-body_replaced-requires t c =

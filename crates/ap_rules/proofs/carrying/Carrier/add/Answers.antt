@@ -1,10 +1,10 @@
-use Rattle.std.proofs.Common.{◌≡◌, [], ◌∷◌, ◌++◌, length, sym, ap, ◌∙◌}
+use Rattle.std.proofs.Common.{[], ◌∷◌, ◌++◌, ap, ◌∙◌}
 use Rattle.ap_rules.specs.Carried.{all_rules}
-use Rattle.ap_rules.proofs.Keeping.{carried_more, popped}
+use Rattle.ap_rules.proofs.Keeping.{on_err_by, carried_more, popped}
 use Rattle.ap_rules.proofs.carrying.Carrier.add.Goals as goal
 
 pub returns-in_err-push-clause-err : goal.returns-in_err-push-clause-err
-returns-in_err-push-clause-err c = λ W k. record { keeps = k.keeps; started = c.in_err-push.ensures.err ∙ k.started }
+returns-in_err-push-clause-err c = on_err_by c.from_residual.result (λ W k. record { keeps = k.keeps; started = c.in_err-push.ensures.err ∙ k.started })
 
 pub returns-in-Err-clause-err : goal.returns-in-Err-clause-err
 returns-in-Err-clause-err c = λ W k. record {
