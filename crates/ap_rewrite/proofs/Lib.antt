@@ -20,4 +20,16 @@ pub mod Negated
 pub mod FactsRelieve
 pub mod Bounded
 pub mod Leading
+pub mod Levels
+pub mod Froms
+pub mod Chosen
+pub mod Arguments
+pub mod Walked
+pub mod Chained
+pub mod Reliefs
+pub mod Conged
+pub mod Indexing
+pub mod Called
+pub mod Applied
+pub mod Opened
 pub mod Ran

@@ -10,3 +10,4 @@ pub mod Leading
 pub mod Relieved
 pub mod SoundSettings
 pub mod Laws
+pub mod Answering

@@ -4,12 +4,25 @@
 #![tactic(auto)]
 
 mod bounding;
+mod branching;
+mod calls;
 mod equating;
 mod facts;
 pub mod laws;
+mod literals;
+mod opening;
 mod ordering;
 mod refuting;
+mod rewriter;
+mod rewriting;
+mod rows;
+mod rules;
 mod running;
 mod settling;
 mod shaping;
 mod testing;
+mod trying;
+
+pub use literals::literal;
+pub use rewriter::{Place, Rewriter, Run};
+pub use rewriting::rewrite;

@@ -1,0 +1,82 @@
+-- A rule whose hypotheses are relieved, and a hypothesis that is relieved by rewriting.
+use Rattle.std.proofs.Common.{◌≡◌, ℕ, Bool, true, false, not, cond, List, Option, Some, None, IfSome, refl, sym, ap, ◌∙◌, subst}
+use Rattle.ap_list.specs.Lists.{lookup_by}
+use Rattle.ap_value.specs.Values.{symbol_eq}
+use Rattle.ap_term.specs.declared.term.Term.{Term}
+use Rattle.ap_term.specs.Metered.{Got, after, known as answer}
+use Rattle.ap_term.specs.Matching.{Pairs, is_bound}
+use Rattle.ap_term.specs.Terms.{subst_of}
+use Rattle.ap_world.specs.World.{Shown, function_of}
+use Rattle.ap_world.specs.Holding.{KnownPairs}
+use Rattle.ap_world.specs.Recursion.{t_constant}
+use Rattle.ap_world.specs.Rules.{Rule}
+use Rattle.ap_world.specs.Shapes.{shape_of, is_constant}
+use Rattle.ap_kernel.specs.declared.objects.Ctx.{Ctx}
+use Rattle.ap_kernel.specs.declared.objects.Mode.{Mode}
+use Rattle.ap_kernel.specs.declared.objects.Mode.TheVariants.{Equal, Iff}
+use Rattle.ap_kernel.specs.declared.objects.Sequent.{Sequent}
+use Rattle.ap_kernel.specs.declared.objects.Equiv.{Equiv}
+use Rattle.ap_kernel.specs.Standing.{Stands}
+use Rattle.ap_kernel.specs.Applying.{mode_in, AllLead, PartRelieved, LeadsToTrue}
+use Rattle.ap_rewrite.specs.declared.facts.Relieved.{Relieved}
+use Rattle.ap_rewrite.specs.Settings.{Place, Inner, relieving}
+use Rattle.ap_rewrite.specs.Relieving.{if_so, by_sign, relieve_one}
+use Rattle.ap_rewrite.specs.Relieved.{Relieves, RelievedFrom}
+use Rattle.ap_rewrite.specs.Rewriting.{fits_mode}
+use Rattle.ap_rewrite.specs.Leading.{leads_made, Serves}
+use Rattle.ap_rewrite.specs.Answering.{From}
+
+-- a rule that fits a mode serves under it
+pub rule_serves : (o : Mode) (g : Rule) → fits_mode o g ≡ true → Serves (mode_in g.iff) o
+rule_serves Equal g h = go g.iff h
+  where
+    go : (b : Bool) → not b ≡ true → Serves (mode_in b) Equal
+    go true k = cc
+    go false k = tt
+rule_serves Iff g h = go g.iff
+  where
+    go : (b : Bool) → Serves (mode_in b) Iff
+    go true = refl
+    go false = tt
+
+pub part_relieved : (c : Ctx) (s : Pairs) (o : Option Rule) (g : Rule) (qs : List Equiv) → o ≡ Some g → AllLead c s g.hyps qs → PartRelieved c s o qs
+part_relieved c s o g qs e h = subst (λ (x : Option Rule). PartRelieved c s x qs) (sym e) h
+
+pub of_part : (o : Option Rule) (g : Rule) (P : Rule → Type 0) → o ≡ Some g → IfSome o P → P g
+of_part o g P e h = subst (λ (x : Option Rule). IfSome x P) e h
+
+pub any_mode_made : (o m : Mode) (c : Ctx) (u v : Term) (p q : Equiv) → p.says ≡ leads_made c m u v → q.says ≡ leads_made p.says.ctx o p.says.lhs p.says.rhs → q.says ≡ leads_made c o u v
+any_mode_made o m c u v p q e k = k ∙ ap (λ (x : Sequent). leads_made x.ctx o x.lhs x.rhs) e
+
+-- a hypothesis whose variables have terms
+bound_first : (b : Bool) (g h : Got (Option Pairs)) → b ≡ true → g ≡ cond b g h
+bound_first true g h e = refl
+bound_first false g h e = cc
+
+pub relieved_by : (r : Inner) (p : Place) (h t v : Term) (s : Pairs) (n m : ℕ) (b : Bool) → is_bound s h ≡ true → t ≡ subst_of s h → Some (v, m) ≡ r Iff (relieving p) t n → is_constant true v ≡ b
+    → Some (if_so b s, m) ≡ relieve_one r p h s n
+relieved_by r p h t v s n m b bound is e k =
+    ap (λ (x : Bool). Some (if_so x s, m)) (sym k)
+    ∙ ap (λ (g : Got Term). after g (λ h'. answer (if_so (is_constant true h') s))) (e ∙ ap (λ (u : Term). r Iff (relieving p) u n) is)
+    ∙ bound_first (is_bound s h) (after (r Iff (relieving p) (subst_of s h) n) (λ h'. answer (if_so (is_constant true h') s))) (answer (by_sign h (shape_of h) s p.facts) n) bound
+
+pub relieving_out : (r : Inner) (p : Place) (h t : Term) (s : Pairs) (n : ℕ) → is_bound s h ≡ true → t ≡ subst_of s h → None ≡ r Iff (relieving p) t n → None ≡ relieve_one r p h s n
+relieving_out r p h t s n bound is e =
+    ap (λ (g : Got Term). after g (λ h'. answer (if_so (is_constant true h') s))) (e ∙ ap (λ (u : Term). r Iff (relieving p) u n) is)
+    ∙ bound_first (is_bound s h) (after (r Iff (relieving p) (subst_of s h) n) (λ h'. answer (if_so (is_constant true h') s))) (answer (by_sign h (shape_of h) s p.facts) n) bound
+
+pub relieved_here : (w : Shown) (c : Ctx) (h t : Term) (s : Pairs) (q : Equiv) (a : Relieved) → a.pairs.0 ≡ s → t ≡ subst_of s h → From w Iff c t q → Stands w a.shown
+    → a.shown.says ≡ leads_made q.says.ctx Iff q.says.lhs t_constant → is_bound s h ≡ true → KnownPairs (function_of w.entries) s → RelievedFrom w c h s a
+relieved_here w c h t s q a same is f stands made bound ks = record {
+  relieves = record {
+    stands = stands;
+    leads = record {
+      facts = ap (λ (x : Sequent). x.ctx) made ∙ f.ctx;
+      left = ap (λ (x : Sequent). x.lhs) made ∙ f.lhs ∙ is ∙ ap (λ (x : Pairs). subst_of x h) (sym same);
+      right = ap (λ (x : Sequent). x.rhs) made;
+    };
+    bound = subst (λ (x : Pairs). is_bound x h ≡ true) (sym same) bound;
+  };
+  known = subst (KnownPairs (function_of w.entries)) (sym same) ks;
+  extends = λ x t e. subst (λ (y : Pairs). lookup_by symbol_eq y x ≡ Some t) (sym same) e;
+}

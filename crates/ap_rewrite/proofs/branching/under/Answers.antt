@@ -1,0 +1,16 @@
+use Rattle.std.proofs.Common.{IfSome, subst}
+use Rattle.ap_kernel.specs.declared.objects.Ctx.{Ctx}
+use Rattle.ap_rewrite.specs.Answering.{From, defs_in}
+use Rattle.ap_rewrite.proofs.Froms.{ctx_is, assumed_known}
+use Rattle.ap_rewrite.proofs.branching.under.Goals as goal
+
+pub deeper-requires-clause-facts : goal.deeper-requires-clause-facts
+deeper-requires-clause-facts g c =
+    assumed_known (defs_in c.args.l.now.r.now) c.args.at.now.ctx.now.0 c.args.a.now c.args.sign _ c.in_ok-ctx.ensures c.requires.facts c.requires.test
+
+pub returns-clause-is : goal.returns-clause-is
+returns-clause-is g c = rw (← c.in_ok-ctx.ensures) c.in_ok-found.ensures.is
+
+pub returns-clause-from : goal.returns-clause-from
+returns-clause-from g c =
+    subst (λ (x : Ctx). IfSome c.in_ok-found.found (From c.args.l.now.r.now.w.now c.args.mode x c.args.t.now)) (ctx_is c.in_ok-ctx.ctx _ c.in_ok-ctx.ensures) c.in_ok-found.ensures.from

@@ -1,0 +1,9 @@
+use Rattle.std.proofs.Common.{ℕ, ◌+◌, ◌*◌}
+use Rattle.ap_term.specs.Terms.{term_size}
+use Rattle.ap_rewrite.proofs.opening.+walking.Given as goal
+
+abbrev pub decreases-walk : goal.decreases-walk
+decreases-walk g l = 2 * term_size l.sofar.says.rhs
+
+abbrev pub decreases-walk_on : goal.decreases-walk_on
+decreases-walk_on g l = 2 * (term_size l.b.now + term_size l.c.now) + 1

@@ -1,0 +1,153 @@
+-- What the rewriter's code is handed, and what it answers: the definition's term with the definition's steps left, by
+-- an equivalence that stands.
+use Rattle.std.specs.Prelude.{◌≡◌, ℕ, Bool, true, false, IsTrue, IfOk, IfSome, cond, List, [], ◌∷◌, Option, Some, None, Result}
+use Rattle.std.specs.Option.{option_map}
+use Rattle.std.specs.declared.alloc.AllocError.{AllocError}
+use denote.Ref.{Bor, MutBor}
+use Rattle.ap_list.specs.Lists.{Each, is_among}
+use Rattle.ap_value.specs.declared.symbol.Symbol.{Symbol}
+use Rattle.ap_term.specs.declared.term.Term.{Term, Call}
+use Rattle.ap_term.specs.Equal.{term_eq}
+use Rattle.ap_term.specs.Matching.{Pairs, Extends}
+use Rattle.ap_term.specs.Metered.{Got, By, known as answer}
+use Rattle.ap_world.specs.Meaning.{Defs}
+use Rattle.ap_world.specs.Sound.{known}
+use Rattle.ap_world.specs.World.{Shown, function_of}
+use Rattle.ap_world.specs.Facts.{KnownFacts}
+use Rattle.ap_world.specs.Holding.{KnownPairs, part_of}
+use Rattle.ap_world.specs.Rules.{Rule}
+use Rattle.ap_rules.specs.Index.{IsIndex}
+use Rattle.ap_kernel.specs.declared.objects.Ctx.{Ctx}
+use Rattle.ap_kernel.specs.declared.objects.Mode.{Mode}
+use Rattle.ap_kernel.specs.declared.objects.Mode.TheVariants.{Equal}
+use Rattle.ap_kernel.specs.declared.objects.Equiv.{Equiv}
+use Rattle.ap_kernel.specs.Answers.{said, rights}
+use Rattle.ap_kernel.specs.Applying.{AllLead}
+use Rattle.ap_kernel.specs.Standing.{HasGround, Stands}
+use Rattle.ap_rewrite.specs.declared.rewriter.Rewriter.{Rewriter}
+use Rattle.ap_rewrite.specs.declared.rewriter.Place.{Place}
+use Rattle.ap_rewrite.specs.declared.rewriter.Run.{Run}
+use Rattle.ap_rewrite.specs.declared.facts.Relieved.{Relieved}
+use Rattle.ap_rewrite.specs.declared.rules.Reliefs.{Reliefs}
+use Rattle.ap_rewrite.specs.Arithmetic.{no_arithmetic}
+use Rattle.ap_rewrite.specs.Settings.{Setting, Inner, closing, Place as Stood}
+use Rattle.ap_rewrite.specs.InWorld.{setting_in}
+use Rattle.ap_rewrite.specs.Linear.{by_arithmetic}
+use Rattle.ap_rewrite.specs.Rewriting.{answered, none, settle, equate, walk, by_rules, by_definition, rewrite_to}
+
+-- the world, and its definitions
+abbrev pub world_of : {O : Type 0} → Rewriter O → Shown
+world_of r = r.w.now
+
+abbrev pub defs_in : {O : Type 0} → Rewriter O → Defs
+defs_in r = function_of r.w.now.entries
+
+-- the world has the ground functions, and the index its rules
+pub record Ready {O : Type 0} (r : Rewriter O) : Type 0 where
+  pub ground : HasGround (defs_in r)
+  pub index : IsIndex r.rules.now r.w.now.entries
+
+-- what the definition goes by
+abbrev pub setting_of : {O : Type 0} → Rewriter O → Setting
+setting_of r = setting_in r.w.now r.theory.now r.expand.now no_arithmetic
+
+-- terms with so many levels left
+abbrev pub inner_of : {O : Type 0} → Rewriter O → ℕ → Inner
+inner_of r d = rewrite_to (setting_of r) d
+
+-- where a term stands
+abbrev pub seen_at : Place → Stood
+seen_at p = record { facts = p.ctx.now.0; closed = p.closed.now; chain = p.chain }
+
+-- an equivalence's term with the steps that are left; nothing where they ran out
+abbrev pub got : Option Equiv → ℕ → Got Term
+got None n = None
+got (Some q) n = Some (q.says.rhs, n)
+
+-- one that may not be there
+abbrev pub right_of : Option Equiv → Option Term
+right_of o = option_map (λ (q : Equiv). q.says.rhs) o
+
+abbrev pub got_any : Option (Option Equiv) → ℕ → Got (Option Term)
+got_any None n = None
+got_any (Some o) n = Some (right_of o, n)
+
+-- those of a list
+abbrev pub got_all : Option (List Equiv) → ℕ → Got (List Term)
+got_all None n = None
+got_all (Some qs) n = Some (rights (said qs), n)
+
+-- what is tried on a call after each thing that comes before
+module _ (S : Setting) (r : Inner) (o : Mode) (p : Stood) (f : Symbol) (us : List Term) where
+  abbrev pub by_opening : List (By (Option Term))
+  by_opening = by_definition S r o p f us ∷ []
+
+  abbrev pub from_rules : List (By (Option Term))
+  from_rules = by_rules S r o p (Call f us) ∷ by_opening
+
+  abbrev pub from_equating : List (By (Option Term))
+  from_equating = equate S r o p (Call f us) ∷ by_arithmetic S r p f us ∷ from_rules
+
+  abbrev pub from_settling : List (By (Option Term))
+  from_settling = answer (settle S o p (Call f us)) ∷ from_equating
+
+-- an answer at the end of a walk, where a branch was taken
+abbrev pub leaf_on : Inner → Mode → Stood → Term → Bool → By (Option Term)
+leaf_on r o p u true n = answered (r o p u n)
+leaf_on r o p u false n = none n
+
+-- the instance of the body of a function that recurs, to which a call leads
+abbrev pub open_closed : Setting → Inner → Mode → Stood → Symbol → Term → Term → By (Option Term)
+open_closed S r o p f u v n = cond (is_among term_eq u S.expand) (answered (r o (closing f p) v n)) (walk S r o p (closing f p) v false n)
+
+-- the pairs that come of a hypothesis, and of all of a rule's
+abbrev pub pairs_of : Option Relieved → Option Pairs
+pairs_of o = option_map (λ (q : Relieved). q.pairs.0) o
+
+abbrev pub got_pairs : Option (Option Relieved) → ℕ → Got (Option Pairs)
+got_pairs None n = None
+got_pairs (Some o) n = Some (pairs_of o, n)
+
+abbrev pub all_pairs : Option Reliefs → Option Pairs
+all_pairs o = option_map (λ (q : Reliefs). q.pairs.0) o
+
+abbrev pub got_reliefs : Option (Option Reliefs) → ℕ → Got (Option Pairs)
+got_reliefs None n = None
+got_reliefs (Some o) n = Some (all_pairs o, n)
+
+-- a rule of the world, by the part of a theorem that it is
+pub record IsRuleOf (w : Shown) (g : Rule) : Type 0 where
+  pub part : part_of w.entries g.theorem g.part ≡ Some g
+  pub hyps : Each (λ h. IsTrue (known (function_of w.entries) h)) g.hyps
+
+-- the hypotheses are relieved: from each one's instance under the pairs an equivalence leads to 'T, and the pairs are
+-- of terms of the world, those that there were and more
+pub record Shows (w : Shown) (c : Ctx) (hs : List Term) (s : Pairs) (q : Reliefs) : Type 0 where
+  pub stand : Each (Stands w) q.shown
+  pub lead : AllLead c q.pairs.0 hs q.shown
+  pub known : KnownPairs (function_of w.entries) q.pairs.0
+  pub extends : Extends s q.pairs.0
+
+-- from a term, under these facts and this mode, to one that means the same
+pub record From (w : Shown) (o : Mode) (c : Ctx) (u : Term) (q : Equiv) : Type 0 where
+  pub stands : Stands w q
+  pub ctx : q.says.ctx ≡ c
+  pub mode : q.says.mode ≡ o
+  pub lhs : q.says.lhs ≡ u
+
+-- from some term
+abbrev pub Leads : Shown → Mode → Ctx → Equiv → Type 0
+Leads w o c q = From w o c q.says.lhs q
+
+-- how a term is rewritten one level deeper: wherever facts and term are those of the world, it answers as the
+-- definition does with so many levels left
+pub record IsLevel {O : Type 0} (may : MutBor Run → Mode → Bor Place → Bor Term → Type 0)
+    (gives : MutBor Run → Mode → Bor Place → Bor Term → Result (Option Equiv) AllocError → MutBor Run → Type 0)
+    (r : Rewriter O) (d : ℕ) : Type 0 where
+  pub ready : Ready r
+  pub callable : (run : MutBor Run) (o : Mode) (p : Bor Place) (u : Bor Term)
+      → KnownFacts (defs_in r) p.now.ctx.now.0 → IsTrue (known (defs_in r) u.now) → may run o p u
+  pub is : (run : MutBor Run) (o : Mode) (p : Bor Place) (u : Bor Term) (a : Result (Option Equiv) AllocError) (left : MutBor Run)
+      → gives run o p u a left → IfOk a (λ b. got b left.now.left ≡ inner_of r d o (seen_at p.now) u.now run.now.left)
+  pub from : (run : MutBor Run) (o : Mode) (p : Bor Place) (u : Bor Term) (a : Result (Option Equiv) AllocError) (left : MutBor Run)
+      → gives run o p u a left → IfOk a (λ b. IfSome b (From r.w.now o p.now.ctx.now u.now))

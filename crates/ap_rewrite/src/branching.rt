@@ -1,0 +1,300 @@
+// An `if` and a negation, whose parts are rewritten one level deeper.
+ghost use Rattle.std.specs.Prelude.{◌≡◌, IsTrue, IfOk, IfSome, Some, None, true, false, cond};
+ghost use Rattle.ap_world.specs.Assume.{assume};
+ghost use Rattle.ap_world.specs.Clauses.{not_of};
+ghost use Rattle.ap_world.specs.Facts.{KnownFacts};
+ghost use Rattle.ap_world.specs.Sound.{known};
+ghost use Rattle.ap_kernel.specs.Answers.{if_of};
+ghost use Rattle.ap_kernel.specs.declared.objects.Mode.TheVariants.{Iff};
+ghost use Rattle.ap_rewrite.specs.Settings.{under};
+ghost use Rattle.ap_rewrite.specs.Rewriting.{truth_of, shaped, negated, both, branches, rewrite_if, rewrite_not};
+ghost use Rattle.ap_rewrite.specs.Answering.{defs_in, Ready, setting_of, inner_of, seen_at, got, From, IsLevel};
+
+use crate::rewriter::{Level, Place, Rewriter, Run, deeper};
+use crate::rows::{follow, join, negate, picked, plainest, simplest, stay};
+use crate::testing::truth_of;
+use ap_kernel::{Ctx, Equiv, Mode, NoMemory, Term, TypeOracle, assume, assumed_facts_hold};
+
+/// A term under what another's sign adds to the facts.
+fn under<
+    O: TypeOracle,
+    F: Fn(&mut Run, Mode, &Place<'_>, &Term) -> Result<Option<Equiv>, NoMemory>,
+>(
+    l: &Level<'_, '_, O, F>,
+    run: &mut Run,
+    mode: Mode,
+    at: &Place<'_>,
+    a: &Term,
+    sign: bool,
+    t: &Term,
+) -> Result<Option<Equiv>, NoMemory>
+    requires level { IsLevel (F.pre l.now.below.now) (F.post l.now.below.now) l.now.r.now l.now.levels }
+    requires facts { KnownFacts (defs_in l.now.r.now) at.now.ctx.now.0 }
+    requires test { IsTrue (known (defs_in l.now.r.now) a.now) }
+    requires term { IsTrue (known (defs_in l.now.r.now) t.now) }
+    ensures is { IfOk result (λ o. got o run.new.left ≡ inner_of l.now.r.now l.now.levels mode (under (seen_at at.now) a.now sign) t.now run.old.left) }
+    ensures from { IfOk result (λ o. IfSome o (From l.now.r.now.w.now mode (record { 0 = assume at.now.ctx.now.0 a.now sign }) t.now)) }
+{
+    assumed_facts_hold();
+    let ctx = assume(l.r.alloc, at.ctx, a, sign)?;
+    let place = Place {
+        ctx: &ctx,
+        closed: at.closed,
+        chain: at.chain,
+    };
+    let found = deeper(l, run, mode, &place, t)?;
+    Ok(found)
+}
+
+/// From an `if` to the `if` of what its parts lead to, and on to its simplest shape.
+fn shape_whole<O: TypeOracle>(
+    r: &Rewriter<'_, O>,
+    ctx: &Ctx,
+    mode: Mode,
+    test: Equiv,
+    yes: Equiv,
+    no: Equiv,
+) -> Result<Equiv, NoMemory>
+    requires ready { Ready r.now }
+    requires facts { KnownFacts (defs_in r.now) ctx.now.0 }
+    requires test { From r.now.w.now Iff ctx.now test.says.lhs test }
+    requires open { truth_of test.says.rhs ≡ None }
+    requires yes { From r.now.w.now mode (record { 0 = assume ctx.now.0 test.says.rhs true }) yes.says.lhs yes }
+    requires no { From r.now.w.now mode (record { 0 = assume ctx.now.0 test.says.rhs false }) no.says.lhs no }
+    ensures is { IfOk result (λ q. q.says.rhs ≡ shaped (setting_of r.now) mode ctx.now.0 test.says.rhs yes.says.rhs no.says.rhs) }
+    ensures from { IfOk result (From r.now.w.now mode ctx.now (if_of test.says.lhs yes.says.lhs no.says.lhs)) }
+{
+    let whole = join(r, ctx, mode, test, yes, no)?;
+    let more = simplest(r, ctx, mode, whole.rhs())?;
+    let q = follow(r, ctx, mode, whole, more)?;
+    Ok(q)
+}
+
+/// An `if` whose test has become no constant: both branches under its test.
+pub fn both<
+    O: TypeOracle,
+    F: Fn(&mut Run, Mode, &Place<'_>, &Term) -> Result<Option<Equiv>, NoMemory>,
+>(
+    l: &Level<'_, '_, O, F>,
+    run: &mut Run,
+    mode: Mode,
+    at: &Place<'_>,
+    test: Equiv,
+    b: &Term,
+    c: &Term,
+) -> Result<Option<Equiv>, NoMemory>
+    requires level { IsLevel (F.pre l.now.below.now) (F.post l.now.below.now) l.now.r.now l.now.levels }
+    requires facts { KnownFacts (defs_in l.now.r.now) at.now.ctx.now.0 }
+    requires test { From l.now.r.now.w.now Iff at.now.ctx.now test.says.lhs test }
+    requires open { truth_of test.says.rhs ≡ None }
+    requires yes { IsTrue (known (defs_in l.now.r.now) b.now) }
+    requires no { IsTrue (known (defs_in l.now.r.now) c.now) }
+    ensures is { IfOk result (λ o. got o run.new.left ≡ both (setting_of l.now.r.now) (inner_of l.now.r.now l.now.levels) mode (seen_at at.now) test.says.rhs b.now c.now run.old.left) }
+    ensures from { IfOk result (λ o. IfSome o (From l.now.r.now.w.now mode at.now.ctx.now (if_of test.says.lhs b.now c.now))) }
+{
+    let Some(yes) = under(l, run, mode, at, test.rhs(), true, b)? else {
+        return Ok(None);
+    };
+    let Some(no) = under(l, run, mode, at, test.rhs(), false, c)? else {
+        return Ok(None);
+    };
+    let whole = shape_whole(l.r, at.ctx, mode, test, yes, no)?;
+    Ok(Some(whole))
+}
+
+/// From a term to itself, under what another's sign adds to the facts.
+fn stay_under<O: TypeOracle>(
+    r: &Rewriter<'_, O>,
+    ctx: &Ctx,
+    mode: Mode,
+    a: &Term,
+    sign: bool,
+    t: &Term,
+) -> Result<Equiv, NoMemory>
+    requires ready { Ready r.now }
+    requires facts { KnownFacts (defs_in r.now) ctx.now.0 }
+    requires test { IsTrue (known (defs_in r.now) a.now) }
+    requires term { IsTrue (known (defs_in r.now) t.now) }
+    ensures is { IfOk result (λ q. q.says.rhs ≡ t.now) }
+    ensures from { IfOk result (From r.now.w.now mode (record { 0 = assume ctx.now.0 a.now sign }) t.now) }
+{
+    assumed_facts_hold();
+    let more = assume(r.alloc, ctx, a, sign)?;
+    let q = stay(r, &more, mode, t)?;
+    Ok(q)
+}
+
+/// From an `if` to the branch that the constant chooses to which its test leads, where the branches stay.
+fn take_branch<O: TypeOracle>(
+    r: &Rewriter<'_, O>,
+    ctx: &Ctx,
+    mode: Mode,
+    test: Equiv,
+    sign: bool,
+    yes: Equiv,
+    no: Equiv,
+) -> Result<Equiv, NoMemory>
+    requires ready { Ready r.now }
+    requires facts { KnownFacts (defs_in r.now) ctx.now.0 }
+    requires test { From r.now.w.now Iff ctx.now test.says.lhs test }
+    requires sign { truth_of test.says.rhs ≡ Some sign }
+    requires yes { From r.now.w.now mode (record { 0 = assume ctx.now.0 test.says.rhs true }) yes.says.lhs yes }
+    requires no { From r.now.w.now mode (record { 0 = assume ctx.now.0 test.says.rhs false }) no.says.lhs no }
+    ensures is { IfOk result (λ q. q.says.rhs ≡ cond sign yes.says.rhs no.says.rhs) }
+    ensures from { IfOk result (From r.now.w.now mode ctx.now (if_of test.says.lhs yes.says.lhs no.says.lhs)) }
+{
+    let whole = join(r, ctx, mode, test, yes, no)?;
+    let more = picked(r, ctx, mode, whole.rhs())?;
+    let q = follow(r, ctx, mode, whole, more)?;
+    Ok(q)
+}
+
+/// From an `if` to the branch that the constant chooses to which its test leads.
+pub fn choose<O: TypeOracle>(
+    r: &Rewriter<'_, O>,
+    ctx: &Ctx,
+    mode: Mode,
+    test: Equiv,
+    sign: bool,
+    b: &Term,
+    c: &Term,
+) -> Result<Equiv, NoMemory>
+    requires ready { Ready r.now }
+    requires facts { KnownFacts (defs_in r.now) ctx.now.0 }
+    requires test { From r.now.w.now Iff ctx.now test.says.lhs test }
+    requires sign { truth_of test.says.rhs ≡ Some sign }
+    requires yes { IsTrue (known (defs_in r.now) b.now) }
+    requires no { IsTrue (known (defs_in r.now) c.now) }
+    ensures is { IfOk result (λ q. q.says.rhs ≡ cond sign b.now c.now) }
+    ensures from { IfOk result (From r.now.w.now mode ctx.now (if_of test.says.lhs b.now c.now)) }
+{
+    let yes = stay_under(r, ctx, mode, test.rhs(), true, b)?;
+    let no = stay_under(r, ctx, mode, test.rhs(), false, c)?;
+    let q = take_branch(r, ctx, mode, test, sign, yes, no)?;
+    Ok(q)
+}
+
+/// On from where an equivalence leads: that term is rewritten in its turn.
+pub fn go_on<
+    O: TypeOracle,
+    F: Fn(&mut Run, Mode, &Place<'_>, &Term) -> Result<Option<Equiv>, NoMemory>,
+>(
+    l: &Level<'_, '_, O, F>,
+    run: &mut Run,
+    mode: Mode,
+    at: &Place<'_>,
+    first: Equiv,
+) -> Result<Option<Equiv>, NoMemory>
+    requires level { IsLevel (F.pre l.now.below.now) (F.post l.now.below.now) l.now.r.now l.now.levels }
+    requires facts { KnownFacts (defs_in l.now.r.now) at.now.ctx.now.0 }
+    requires first { From l.now.r.now.w.now mode at.now.ctx.now first.says.lhs first }
+    ensures is { IfOk result (λ o. got o run.new.left ≡ inner_of l.now.r.now l.now.levels mode (seen_at at.now) first.says.rhs run.old.left) }
+    ensures from { IfOk result (λ o. IfSome o (From l.now.r.now.w.now mode at.now.ctx.now first.says.lhs)) }
+{
+    let Some(more) = deeper(l, run, mode, at, first.rhs())? else {
+        return Ok(None);
+    };
+    let q = follow(l.r, at.ctx, mode, first, more)?;
+    Ok(Some(q))
+}
+
+/// An `if` by what its test has become: the branch that a constant chooses, or both.
+fn branches<
+    O: TypeOracle,
+    F: Fn(&mut Run, Mode, &Place<'_>, &Term) -> Result<Option<Equiv>, NoMemory>,
+>(
+    l: &Level<'_, '_, O, F>,
+    run: &mut Run,
+    mode: Mode,
+    at: &Place<'_>,
+    test: Equiv,
+    b: &Term,
+    c: &Term,
+) -> Result<Option<Equiv>, NoMemory>
+    requires level { IsLevel (F.pre l.now.below.now) (F.post l.now.below.now) l.now.r.now l.now.levels }
+    requires facts { KnownFacts (defs_in l.now.r.now) at.now.ctx.now.0 }
+    requires test { From l.now.r.now.w.now Iff at.now.ctx.now test.says.lhs test }
+    requires yes { IsTrue (known (defs_in l.now.r.now) b.now) }
+    requires no { IsTrue (known (defs_in l.now.r.now) c.now) }
+    ensures is { IfOk result (λ o. got o run.new.left ≡ branches (setting_of l.now.r.now) (inner_of l.now.r.now l.now.levels) mode (seen_at at.now) test.says.rhs (truth_of test.says.rhs) b.now c.now run.old.left) }
+    ensures from { IfOk result (λ o. IfSome o (From l.now.r.now.w.now mode at.now.ctx.now (if_of test.says.lhs b.now c.now))) }
+{
+    match truth_of(test.rhs()) {
+        None => both(l, run, mode, at, test, b, c),
+        Some(sign) => {
+            let first = choose(l.r, at.ctx, mode, test, sign, b, c)?;
+            go_on(l, run, mode, at, first)
+        }
+    }
+}
+
+/// An `if`: its test under `iff`, then the branch that the test's constant chooses, or both branches under the
+/// test.
+pub fn rewrite_if<
+    O: TypeOracle,
+    F: Fn(&mut Run, Mode, &Place<'_>, &Term) -> Result<Option<Equiv>, NoMemory>,
+>(
+    l: &Level<'_, '_, O, F>,
+    run: &mut Run,
+    mode: Mode,
+    at: &Place<'_>,
+    a: &Term,
+    b: &Term,
+    c: &Term,
+) -> Result<Option<Equiv>, NoMemory>
+    requires level { IsLevel (F.pre l.now.below.now) (F.post l.now.below.now) l.now.r.now l.now.levels }
+    requires facts { KnownFacts (defs_in l.now.r.now) at.now.ctx.now.0 }
+    requires test { IsTrue (known (defs_in l.now.r.now) a.now) }
+    requires yes { IsTrue (known (defs_in l.now.r.now) b.now) }
+    requires no { IsTrue (known (defs_in l.now.r.now) c.now) }
+    ensures is { IfOk result (λ o. got o run.new.left ≡ rewrite_if (setting_of l.now.r.now) (inner_of l.now.r.now l.now.levels) mode (seen_at at.now) a.now b.now c.now run.old.left) }
+    ensures from { IfOk result (λ o. IfSome o (From l.now.r.now.w.now mode at.now.ctx.now (if_of a.now b.now c.now))) }
+{
+    let Some(test) = deeper(l, run, Mode::Iff, at, a)? else {
+        return Ok(None);
+    };
+    branches(l, run, mode, at, test, b, c)
+}
+
+/// From a negation to what it is by what its argument leads to.
+fn turned<O: TypeOracle>(
+    r: &Rewriter<'_, O>,
+    ctx: &Ctx,
+    mode: Mode,
+    q: Equiv,
+) -> Result<Equiv, NoMemory>
+    requires ready { Ready r.now }
+    requires facts { KnownFacts (defs_in r.now) ctx.now.0 }
+    requires argument { From r.now.w.now Iff ctx.now q.says.lhs q }
+    ensures is { IfOk result (λ a. a.says.rhs ≡ negated (setting_of r.now) mode ctx.now.0 q.says.rhs (truth_of q.says.rhs)) }
+    ensures from { IfOk result (From r.now.w.now mode ctx.now (not_of q.says.lhs)) }
+{
+    let first = negate(r, ctx, mode, q)?;
+    let more = plainest(r, ctx, mode, first.rhs())?;
+    let answer = follow(r, ctx, mode, first, more)?;
+    Ok(answer)
+}
+
+/// A negation: its argument under `iff`, and then what the negation is by what that has become.
+pub fn rewrite_not<
+    O: TypeOracle,
+    F: Fn(&mut Run, Mode, &Place<'_>, &Term) -> Result<Option<Equiv>, NoMemory>,
+>(
+    l: &Level<'_, '_, O, F>,
+    run: &mut Run,
+    mode: Mode,
+    at: &Place<'_>,
+    a: &Term,
+) -> Result<Option<Equiv>, NoMemory>
+    requires level { IsLevel (F.pre l.now.below.now) (F.post l.now.below.now) l.now.r.now l.now.levels }
+    requires facts { KnownFacts (defs_in l.now.r.now) at.now.ctx.now.0 }
+    requires argument { IsTrue (known (defs_in l.now.r.now) a.now) }
+    ensures is { IfOk result (λ o. got o run.new.left ≡ rewrite_not (setting_of l.now.r.now) (inner_of l.now.r.now l.now.levels) mode (seen_at at.now) a.now run.old.left) }
+    ensures from { IfOk result (λ o. IfSome o (From l.now.r.now.w.now mode at.now.ctx.now (not_of a.now))) }
+{
+    let Some(q) = deeper(l, run, Mode::Iff, at, a)? else {
+        return Ok(None);
+    };
+    let answer = turned(l.r, at.ctx, mode, q)?;
+    Ok(Some(answer))
+}

@@ -1,0 +1,276 @@
+// The definition of a function that is called.
+ghost use Rattle.std.specs.Prelude.{◌≡◌, ◌∷◌, IsTrue, IfOk, IfSome, Some, None};
+ghost use Rattle.ap_term.specs.declared.term.Term.{Call};
+ghost use Rattle.ap_world.specs.Facts.{KnownFacts};
+ghost use Rattle.ap_world.specs.Sound.{known};
+ghost use Rattle.ap_kernel.specs.Answers.{if_of};
+ghost use Rattle.ap_kernel.specs.declared.objects.Mode.TheVariants.{Iff};
+ghost use Rattle.ap_rewrite.specs.Rewriting.{truth_of, both, walk, walk_on, answered, open_instance, opened as opening, by_definition};
+ghost use Rattle.ap_rewrite.specs.Answering.{defs_in, setting_of, inner_of, seen_at, got_any, leaf_on, open_closed, From, IsLevel};
+
+use crate::branching::{both, choose, go_on};
+use crate::rewriter::{Level, Place, Run, deeper};
+use crate::rows::{follow, opened};
+use crate::testing::{is_among, is_small, truth_of};
+use crate::trying::answered;
+use ap_kernel::{Equiv, Mode, NoMemory, Seq, ShapeRef, Symbol, Term, TypeOracle, shape_of};
+use ap_term::copy_term;
+use ap_value::copy_symbol;
+use ap_world::{Function, RuneKind};
+use std::alloc::Global;
+
+/// A list of symbols with one more in front.
+fn closing(alloc: Global, f: &Symbol, closed: &[Symbol]) -> Result<Seq<Symbol>, NoMemory>
+    ensures { IfOk result (λ fs. fs ≡ f.now ∷ closed.now) }
+{
+    let mut out = Seq::new(alloc);
+    out.push(copy_symbol(alloc, f)?)?;
+    for g in closed {
+        out.push(copy_symbol(alloc, g)?)?;
+    }
+    Ok(out)
+}
+
+/// Down the body, past an `if` whose test has become what `test` leads to: into the branch that a constant chooses;
+/// else the `if` is the answer, where a branch was taken before.
+#[cycle(walking)]
+fn walk_on<
+    O: TypeOracle,
+    F: Fn(&mut Run, Mode, &Place<'_>, &Term) -> Result<Option<Equiv>, NoMemory>,
+>(
+    l: &Level<'_, '_, O, F>,
+    run: &mut Run,
+    mode: Mode,
+    at: &Place<'_>,
+    inner: &Place<'_>,
+    sofar: Equiv,
+    taken: bool,
+    test: Equiv,
+    b: &Term,
+    c: &Term,
+) -> Result<Option<Option<Equiv>>, NoMemory>
+    requires level { IsLevel (F.pre l.now.below.now) (F.post l.now.below.now) l.now.r.now l.now.levels }
+    requires facts { KnownFacts (defs_in l.now.r.now) at.now.ctx.now.0 }
+    requires inner { inner.now.ctx.now ≡ at.now.ctx.now }
+    requires sofar { From l.now.r.now.w.now mode at.now.ctx.now sofar.says.lhs sofar }
+    requires test { From l.now.r.now.w.now Iff at.now.ctx.now test.says.lhs test }
+    requires choice { sofar.says.rhs ≡ if_of test.says.lhs b.now c.now }
+    ensures is { IfOk result (λ o. got_any o run.new.left ≡ walk_on (setting_of l.now.r.now) (inner_of l.now.r.now l.now.levels) mode (seen_at at.now) (seen_at inner.now) taken test.says.rhs (truth_of test.says.rhs) (b.now, walk (setting_of l.now.r.now) (inner_of l.now.r.now l.now.levels) mode (seen_at at.now) (seen_at inner.now) b.now) (c.now, walk (setting_of l.now.r.now) (inner_of l.now.r.now l.now.levels) mode (seen_at at.now) (seen_at inner.now) c.now) run.old.left) }
+    ensures from { IfOk result (λ o. IfSome o (λ a. IfSome a (From l.now.r.now.w.now mode at.now.ctx.now sofar.says.lhs))) }
+{
+    match truth_of(test.rhs()) {
+        Some(sign) => {
+            let branch = choose(l.r, at.ctx, mode, test, sign, b, c)?;
+            let next = follow(l.r, at.ctx, mode, sofar, branch)?;
+            walk(l, run, mode, at, inner, next, true)
+        }
+        None => {
+            if taken {
+                walk_ends(l, run, mode, inner, sofar, test, b, c)
+            } else {
+                Ok(Some(None))
+            }
+        }
+    }
+}
+
+/// Both branches of the `if` at which the walk ends.
+fn walk_ends<
+    O: TypeOracle,
+    F: Fn(&mut Run, Mode, &Place<'_>, &Term) -> Result<Option<Equiv>, NoMemory>,
+>(
+    l: &Level<'_, '_, O, F>,
+    run: &mut Run,
+    mode: Mode,
+    at: &Place<'_>,
+    sofar: Equiv,
+    test: Equiv,
+    b: &Term,
+    c: &Term,
+) -> Result<Option<Option<Equiv>>, NoMemory>
+    requires level { IsLevel (F.pre l.now.below.now) (F.post l.now.below.now) l.now.r.now l.now.levels }
+    requires facts { KnownFacts (defs_in l.now.r.now) at.now.ctx.now.0 }
+    requires sofar { From l.now.r.now.w.now mode at.now.ctx.now sofar.says.lhs sofar }
+    requires test { From l.now.r.now.w.now Iff at.now.ctx.now test.says.lhs test }
+    requires open { truth_of test.says.rhs ≡ None }
+    requires choice { sofar.says.rhs ≡ if_of test.says.lhs b.now c.now }
+    ensures is { IfOk result (λ o. got_any o run.new.left ≡ answered (both (setting_of l.now.r.now) (inner_of l.now.r.now l.now.levels) mode (seen_at at.now) test.says.rhs b.now c.now run.old.left)) }
+    ensures from { IfOk result (λ o. IfSome o (λ a. IfSome a (From l.now.r.now.w.now mode at.now.ctx.now sofar.says.lhs))) }
+{
+    let Some(more) = both(l, run, mode, at, test, b, c)? else {
+        return Ok(None);
+    };
+    let q = follow(l.r, at.ctx, mode, sofar, more)?;
+    Ok(Some(Some(q)))
+}
+
+/// Down the body of a function that recurs, while it is an `if` whose test becomes a constant. There is an answer
+/// where one was, at least once.
+#[cycle(walking)]
+fn walk<O: TypeOracle, F: Fn(&mut Run, Mode, &Place<'_>, &Term) -> Result<Option<Equiv>, NoMemory>>(
+    l: &Level<'_, '_, O, F>,
+    run: &mut Run,
+    mode: Mode,
+    at: &Place<'_>,
+    inner: &Place<'_>,
+    sofar: Equiv,
+    taken: bool,
+) -> Result<Option<Option<Equiv>>, NoMemory>
+    requires level { IsLevel (F.pre l.now.below.now) (F.post l.now.below.now) l.now.r.now l.now.levels }
+    requires facts { KnownFacts (defs_in l.now.r.now) at.now.ctx.now.0 }
+    requires inner { inner.now.ctx.now ≡ at.now.ctx.now }
+    requires sofar { From l.now.r.now.w.now mode at.now.ctx.now sofar.says.lhs sofar }
+    ensures is { IfOk result (λ o. got_any o run.new.left ≡ walk (setting_of l.now.r.now) (inner_of l.now.r.now l.now.levels) mode (seen_at at.now) (seen_at inner.now) sofar.says.rhs taken run.old.left) }
+    ensures from { IfOk result (λ o. IfSome o (λ a. IfSome a (From l.now.r.now.w.now mode at.now.ctx.now sofar.says.lhs))) }
+{
+    let body = copy_term(l.r.alloc, sofar.rhs())?;
+    match shape_of(&body) {
+        ShapeRef::If(a, b, c) => match deeper(l, run, Mode::Iff, at, a)? {
+            None => Ok(None),
+            Some(test) => walk_on(l, run, mode, at, inner, sofar, taken, test, b, c),
+        },
+        _ => walk_stops(l, run, mode, at, sofar, taken),
+    }
+}
+
+/// The walk ends at what is no `if`: it is rewritten, where a branch was taken.
+fn walk_stops<
+    O: TypeOracle,
+    F: Fn(&mut Run, Mode, &Place<'_>, &Term) -> Result<Option<Equiv>, NoMemory>,
+>(
+    l: &Level<'_, '_, O, F>,
+    run: &mut Run,
+    mode: Mode,
+    at: &Place<'_>,
+    sofar: Equiv,
+    taken: bool,
+) -> Result<Option<Option<Equiv>>, NoMemory>
+    requires level { IsLevel (F.pre l.now.below.now) (F.post l.now.below.now) l.now.r.now l.now.levels }
+    requires facts { KnownFacts (defs_in l.now.r.now) at.now.ctx.now.0 }
+    requires sofar { From l.now.r.now.w.now mode at.now.ctx.now sofar.says.lhs sofar }
+    ensures is { IfOk result (λ o. got_any o run.new.left ≡ leaf_on (inner_of l.now.r.now l.now.levels) mode (seen_at at.now) sofar.says.rhs taken run.old.left) }
+    ensures from { IfOk result (λ o. IfSome o (λ a. IfSome a (From l.now.r.now.w.now mode at.now.ctx.now sofar.says.lhs))) }
+{
+    if !taken {
+        return Ok(Some(None));
+    }
+    let found = go_on(l, run, mode, at, sofar)?;
+    Ok(answered(found))
+}
+
+/// The instance of the body of a function that recurs, where the function isn't opened again: of a call that is to be
+/// opened it is rewritten, else it is walked down.
+fn open_recursive<
+    O: TypeOracle,
+    F: Fn(&mut Run, Mode, &Place<'_>, &Term) -> Result<Option<Equiv>, NoMemory>,
+>(
+    l: &Level<'_, '_, O, F>,
+    run: &mut Run,
+    mode: Mode,
+    at: &Place<'_>,
+    f: &Symbol,
+    first: Equiv,
+) -> Result<Option<Option<Equiv>>, NoMemory>
+    requires level { IsLevel (F.pre l.now.below.now) (F.post l.now.below.now) l.now.r.now l.now.levels }
+    requires facts { KnownFacts (defs_in l.now.r.now) at.now.ctx.now.0 }
+    requires first { From l.now.r.now.w.now mode at.now.ctx.now first.says.lhs first }
+    ensures is { IfOk result (λ o. got_any o run.new.left ≡ open_closed (setting_of l.now.r.now) (inner_of l.now.r.now l.now.levels) mode (seen_at at.now) f.now first.says.lhs first.says.rhs run.old.left) }
+    ensures from { IfOk result (λ o. IfSome o (λ a. IfSome a (From l.now.r.now.w.now mode at.now.ctx.now first.says.lhs))) }
+{
+    let closed = closing(l.r.alloc, f, at.closed)?;
+    let inner = Place {
+        ctx: at.ctx,
+        closed: closed.as_slice(),
+        chain: at.chain,
+    };
+    if ap_kernel::is_among(first.lhs(), l.r.expand.as_slice()) {
+        let found = go_on(l, run, mode, &inner, first)?;
+        return Ok(answered(found));
+    }
+    walk(l, run, mode, at, &inner, first, false)
+}
+
+/// The instance of a function's body to which a call leads.
+fn open_instance<
+    O: TypeOracle,
+    F: Fn(&mut Run, Mode, &Place<'_>, &Term) -> Result<Option<Equiv>, NoMemory>,
+>(
+    l: &Level<'_, '_, O, F>,
+    run: &mut Run,
+    mode: Mode,
+    at: &Place<'_>,
+    f: &Symbol,
+    g: &Function,
+    first: Equiv,
+) -> Result<Option<Option<Equiv>>, NoMemory>
+    requires level { IsLevel (F.pre l.now.below.now) (F.post l.now.below.now) l.now.r.now l.now.levels }
+    requires facts { KnownFacts (defs_in l.now.r.now) at.now.ctx.now.0 }
+    requires first { From l.now.r.now.w.now mode at.now.ctx.now first.says.lhs first }
+    ensures is { IfOk result (λ o. got_any o run.new.left ≡ open_instance (setting_of l.now.r.now) (inner_of l.now.r.now l.now.levels) mode (seen_at at.now) first.says.lhs f.now g.now first.says.rhs run.old.left) }
+    ensures from { IfOk result (λ o. IfSome o (λ a. IfSome a (From l.now.r.now.w.now mode at.now.ctx.now first.says.lhs))) }
+{
+    if g.measure.is_some() {
+        return open_recursive(l, run, mode, at, f, first);
+    }
+    let found = go_on(l, run, mode, at, first)?;
+    Ok(answered(found))
+}
+
+/// A call of a defined function, which is opened where the theory enables its definition, it isn't closed, and the
+/// instance of its body isn't too large.
+fn open_call<
+    O: TypeOracle,
+    F: Fn(&mut Run, Mode, &Place<'_>, &Term) -> Result<Option<Equiv>, NoMemory>,
+>(
+    l: &Level<'_, '_, O, F>,
+    run: &mut Run,
+    mode: Mode,
+    at: &Place<'_>,
+    t: &Term,
+    f: &Symbol,
+    us: &[Term],
+    g: &Function,
+) -> Result<Option<Option<Equiv>>, NoMemory>
+    requires level { IsLevel (F.pre l.now.below.now) (F.post l.now.below.now) l.now.r.now l.now.levels }
+    requires facts { KnownFacts (defs_in l.now.r.now) at.now.ctx.now.0 }
+    requires term { IsTrue (known (defs_in l.now.r.now) t.now) }
+    requires call { t.now ≡ Call f.now us.now }
+    requires function { defs_in l.now.r.now f.now ≡ Some g.now }
+    ensures is { IfOk result (λ o. got_any o run.new.left ≡ opening (setting_of l.now.r.now) (inner_of l.now.r.now l.now.levels) mode (seen_at at.now) t.now f.now us.now (Some g.now) run.old.left) }
+    ensures from { IfOk result (λ o. IfSome o (λ a. IfSome a (From l.now.r.now.w.now mode at.now.ctx.now t.now))) }
+{
+    if !l.r.theory.is_enabled(RuneKind::Definition, f) || is_among(f, at.closed) {
+        return Ok(Some(None));
+    }
+    let first = opened(l.r, at.ctx, mode, t)?;
+    if !is_small(first.rhs()) {
+        return Ok(Some(None));
+    }
+    open_instance(l, run, mode, at, f, g, first)
+}
+
+/// The definition, of a function that may be opened.
+pub fn by_definition<
+    O: TypeOracle,
+    F: Fn(&mut Run, Mode, &Place<'_>, &Term) -> Result<Option<Equiv>, NoMemory>,
+>(
+    l: &Level<'_, '_, O, F>,
+    run: &mut Run,
+    mode: Mode,
+    at: &Place<'_>,
+    t: &Term,
+    f: &Symbol,
+    us: &[Term],
+) -> Result<Option<Option<Equiv>>, NoMemory>
+    requires level { IsLevel (F.pre l.now.below.now) (F.post l.now.below.now) l.now.r.now l.now.levels }
+    requires facts { KnownFacts (defs_in l.now.r.now) at.now.ctx.now.0 }
+    requires term { IsTrue (known (defs_in l.now.r.now) t.now) }
+    requires call { t.now ≡ Call f.now us.now }
+    ensures is { IfOk result (λ o. got_any o run.new.left ≡ by_definition (setting_of l.now.r.now) (inner_of l.now.r.now l.now.levels) mode (seen_at at.now) f.now us.now run.old.left) }
+    ensures from { IfOk result (λ o. IfSome o (λ a. IfSome a (From l.now.r.now.w.now mode at.now.ctx.now t.now))) }
+{
+    match l.r.w.lookup_fun(f) {
+        None => Ok(Some(None)),
+        Some(g) => open_call(l, run, mode, at, t, f, us, g),
+    }
+}

@@ -1,0 +1,64 @@
+ghost use Rattle.std.specs.Prelude.{◌≡◌, IsTrue, IfOk, IfSome};
+ghost use Rattle.ap_world.specs.Facts.{KnownFacts};
+ghost use Rattle.ap_world.specs.Sound.{known};
+ghost use Rattle.ap_rewrite.specs.Answering.{defs_in, inner_of, seen_at, got, From, IsLevel};
+
+use ap_kernel::{Ctx, Equiv, Mode, NoMemory, Seq, Symbol, Term, TypeOracle, World};
+use ap_rules::RuleIndex;
+use ap_world::Theory;
+use std::alloc::Global;
+
+/// What stays the same while a clause is rewritten: the world, its rules by their heads, the theory that says
+/// which of them, and which definitions, may be used, the calls that are to be opened, and what tells types.
+#[derive_where(Clone, Copy)]
+pub struct Rewriter<'a, O> {
+    pub alloc: Global,
+    pub w: &'a World,
+    pub rules: &'a RuleIndex,
+    pub theory: &'a Theory,
+    pub expand: &'a Seq<Term>,
+    pub oracle: &'a O,
+}
+
+/// Where a term stands: the facts in force, the functions that aren't opened, and the number of hypotheses that
+/// are being relieved around it.
+#[derive(Clone, Copy)]
+pub struct Place<'a> {
+    pub ctx: &'a Ctx,
+    pub closed: &'a [Symbol],
+    pub chain: u32,
+}
+
+/// What changes while terms are rewritten: the number of steps that are left.
+#[derive(Clone, Copy, Debug)]
+pub struct Run {
+    pub left: u32,
+}
+
+/// How the terms within a term are rewritten: with so many levels left, by `below`.
+#[derive_where(Clone, Copy)]
+pub struct Level<'a, 'b, O, F> {
+    pub r: &'a Rewriter<'b, O>,
+    pub levels: u32,
+    pub below: &'a F,
+}
+
+/// A term one level deeper. `None` where the steps run out.
+pub fn deeper<
+    O: TypeOracle,
+    F: Fn(&mut Run, Mode, &Place<'_>, &Term) -> Result<Option<Equiv>, NoMemory>,
+>(
+    l: &Level<'_, '_, O, F>,
+    run: &mut Run,
+    mode: Mode,
+    at: &Place<'_>,
+    t: &Term,
+) -> Result<Option<Equiv>, NoMemory>
+    requires level { IsLevel (F.pre l.now.below.now) (F.post l.now.below.now) l.now.r.now l.now.levels }
+    requires facts { KnownFacts (defs_in l.now.r.now) at.now.ctx.now.0 }
+    requires term { IsTrue (known (defs_in l.now.r.now) t.now) }
+    ensures is { IfOk result (λ o. got o run.new.left ≡ inner_of l.now.r.now l.now.levels mode (seen_at at.now) t.now run.old.left) }
+    ensures from { IfOk result (λ o. IfSome o (From l.now.r.now.w.now mode at.now.ctx.now t.now)) }
+{
+    (l.below)(run, mode, at, t)
+}

@@ -1,0 +1,116 @@
+// A term by what it is, and the levels.
+ghost use Rattle.std.specs.Prelude.{◌≡◌, IsTrue, IfOk, IfSome};
+ghost use Rattle.ap_term.specs.declared.term.Term.{out-Term};
+ghost use Rattle.ap_world.specs.Facts.{KnownFacts};
+ghost use Rattle.ap_world.specs.Shapes.{shape_of};
+ghost use Rattle.ap_world.specs.Sound.{known};
+ghost use Rattle.ap_rewrite.specs.Rewriting.{rewrite_parts, rewrite_shape};
+ghost use Rattle.ap_rewrite.specs.Answering.{defs_in, Ready, setting_of, inner_of, seen_at, got, From, IsLevel};
+
+use crate::branching::{rewrite_if, rewrite_not};
+use crate::calls::rewrite_call;
+use crate::rewriter::{Level, Place, Rewriter, Run};
+use crate::rows::{as_constant, settled_by_type, stay};
+use ap_kernel::{Equiv, Mode, NoMemory, ShapeRef, Term, TypeOracle, shape_of};
+
+/// A variable, a constant, or a call that is no `if` and no negation.
+fn rewrite_parts<
+    O: TypeOracle,
+    F: Fn(&mut Run, Mode, &Place<'_>, &Term) -> Result<Option<Equiv>, NoMemory>,
+>(
+    l: &Level<'_, '_, O, F>,
+    run: &mut Run,
+    mode: Mode,
+    at: &Place<'_>,
+    t: &Term,
+) -> Result<Option<Equiv>, NoMemory>
+    requires level { IsLevel (F.pre l.now.below.now) (F.post l.now.below.now) l.now.r.now l.now.levels }
+    requires facts { KnownFacts (defs_in l.now.r.now) at.now.ctx.now.0 }
+    requires term { IsTrue (known (defs_in l.now.r.now) t.now) }
+    ensures is { IfOk result (λ o. got o run.new.left ≡ rewrite_parts (setting_of l.now.r.now) (inner_of l.now.r.now l.now.levels) mode (seen_at at.now) t.now (out-Term t.now) run.old.left) }
+    ensures from { IfOk result (λ o. IfSome o (From l.now.r.now.w.now mode at.now.ctx.now t.now)) }
+{
+    match t {
+        Term::Var(_) => {
+            let q = settled_by_type(l.r, at.ctx, mode, t)?;
+            Ok(Some(q))
+        }
+        Term::Quote(v) => {
+            let q = as_constant(l.r, at.ctx, mode, t, v)?;
+            Ok(Some(q))
+        }
+        Term::Call(f, us) => rewrite_call(l, run, mode, at, f, us.as_slice()),
+    }
+}
+
+/// A term by what it is.
+fn rewrite_shape<
+    O: TypeOracle,
+    F: Fn(&mut Run, Mode, &Place<'_>, &Term) -> Result<Option<Equiv>, NoMemory>,
+>(
+    l: &Level<'_, '_, O, F>,
+    run: &mut Run,
+    mode: Mode,
+    at: &Place<'_>,
+    t: &Term,
+) -> Result<Option<Equiv>, NoMemory>
+    requires level { IsLevel (F.pre l.now.below.now) (F.post l.now.below.now) l.now.r.now l.now.levels }
+    requires facts { KnownFacts (defs_in l.now.r.now) at.now.ctx.now.0 }
+    requires term { IsTrue (known (defs_in l.now.r.now) t.now) }
+    ensures is { IfOk result (λ o. got o run.new.left ≡ rewrite_shape (setting_of l.now.r.now) (inner_of l.now.r.now l.now.levels) mode (seen_at at.now) t.now (shape_of t.now) run.old.left) }
+    ensures from { IfOk result (λ o. IfSome o (From l.now.r.now.w.now mode at.now.ctx.now t.now)) }
+{
+    match shape_of(t) {
+        ShapeRef::If(a, b, c) => rewrite_if(l, run, mode, at, a, b, c),
+        ShapeRef::Not(a) => rewrite_not(l, run, mode, at, a),
+        _ => rewrite_parts(l, run, mode, at, t),
+    }
+}
+
+/// A term with so many levels left: a step is spent first. `None` where the steps run out.
+#[cycle(rewriting)]
+pub fn rewrite<O: TypeOracle>(
+    r: &Rewriter<'_, O>,
+    run: &mut Run,
+    levels: u32,
+    mode: Mode,
+    at: &Place<'_>,
+    t: &Term,
+) -> Result<Option<Equiv>, NoMemory>
+    requires ready { Ready r.now }
+    requires facts { KnownFacts (defs_in r.now) at.now.ctx.now.0 }
+    requires term { IsTrue (known (defs_in r.now) t.now) }
+    ensures is { IfOk result (λ o. got o run.new.left ≡ inner_of r.now levels mode (seen_at at.now) t.now run.old.left) }
+    ensures from { IfOk result (λ o. IfSome o (From r.now.w.now mode at.now.ctx.now t.now)) }
+{
+    if run.left == 0 {
+        return Ok(None);
+    }
+    run.left -= 1;
+    if levels == 0 {
+        let q = stay(&*r, at.ctx, mode, &*t)?;
+        return Ok(Some(q));
+    }
+    let less = levels - 1;
+    let below = |run: &mut Run, mode: Mode, at: &Place<'_>, t: &Term| -> Result<
+        Option<Equiv>,
+        NoMemory,
+    >
+        requires facts { KnownFacts (defs_in r.now) at.now.ctx.now.0 }
+        requires term { IsTrue (known (defs_in r.now) t.now) }
+        ensures is { IfOk result (λ o. got o run.new.left ≡ inner_of r.entry.now less mode (seen_at at.now) t.now run.old.left) }
+        ensures from { IfOk result (λ o. IfSome o (From r.entry.now.w.now mode at.now.ctx.now t.now)) }
+    { rewrite(&*r, run, less, mode, &*at, &*t) };
+    let l = Level {
+        r: &*r,
+        levels: less,
+        below: &below,
+    };
+    rewrite_shape(&l, run, mode, &*at, &*t)
+}
+
+#[cfg(test)]
+mod tests {
+    #[test]
+    fn compiles() {}
+}

@@ -1,0 +1,345 @@
+// Rules, the newest first.
+ghost use Rattle.std.specs.Prelude.{◌≡◌, ◌<◌, IsTrue, IfOk, IfSome, Some, [], map};
+ghost use Rattle.ap_list.specs.Lists.{Each};
+ghost use Rattle.ap_term.specs.declared.term.Term.{Call};
+ghost use Rattle.ap_term.specs.Matching.{matched, Extends, is_bound};
+ghost use Rattle.ap_term.specs.Metered.{first_that};
+ghost use Rattle.ap_term.specs.Terms.{subst_of};
+ghost use Rattle.ap_world.specs.Facts.{KnownFacts};
+ghost use Rattle.ap_world.specs.Holding.{KnownPairs};
+ghost use Rattle.ap_world.specs.Sound.{known};
+ghost use Rattle.ap_rules.specs.Made.{rule_in};
+ghost use Rattle.ap_kernel.specs.Applying.{AllLead};
+ghost use Rattle.ap_kernel.specs.Standing.{Stands};
+ghost use Rattle.ap_rewrite.specs.Relieving.{relieve_one, relieve};
+ghost use Rattle.ap_rewrite.specs.Rewriting.{right, relieved, apply, fits_mode, try_rule, by_rules};
+ghost use Rattle.ap_rewrite.specs.Answering.{defs_in, Ready, setting_of, inner_of, seen_at, got_any, got_pairs, got_reliefs, IsRuleOf, Shows, From, IsLevel};
+ghost use Rattle.ap_rewrite.specs.Relieved.{RelievedFrom};
+
+use crate::branching::go_on;
+use crate::facts::{Relieved, by_sign, is_bound};
+use crate::laws::search_by_head;
+use crate::ordering::{fits_mode, in_order_first, in_order_then};
+use crate::rewriter::{Level, Place, Rewriter, Run, deeper};
+use crate::settling::{in_mode, to_true};
+use crate::testing::is_small;
+use crate::trying::answered;
+use ap_kernel::{
+    Ctx, Equiv, Mode, NoMemory, Seq, Subst, Symbol, Term, TypeOracle, apply_theorem, is_constant,
+    subst,
+};
+use ap_rules::{RewriteRule, by_head, rules_are_parts};
+use ap_term::one_way_match;
+use ap_world::RuneKind;
+use ap_world::laws::rules_hold;
+
+/// The hypotheses of a rule that are relieved: the pairs that have come of it, and for each the equivalence that
+/// leads from its instance to `'T`.
+#[derive(Drop)]
+pub(crate) struct Reliefs {
+    pub pairs: Subst,
+    pub shown: Seq<Equiv>,
+}
+
+/// A hypothesis whose variables all have terms: its instance is rewritten, within one hypothesis more, and has to
+/// become a constant other than `nil`.
+fn by_rewriting<
+    O: TypeOracle,
+    F: Fn(&mut Run, Mode, &Place<'_>, &Term) -> Result<Option<Equiv>, NoMemory>,
+>(
+    l: &Level<'_, '_, O, F>,
+    run: &mut Run,
+    at: &Place<'_>,
+    h: &Term,
+    s: Subst,
+) -> Result<Option<Option<Relieved>>, NoMemory>
+    requires level { IsLevel (F.pre l.now.below.now) (F.post l.now.below.now) l.now.r.now l.now.levels }
+    requires facts { KnownFacts (defs_in l.now.r.now) at.now.ctx.now.0 }
+    requires hyp { IsTrue (known (defs_in l.now.r.now) h.now) }
+    requires pairs { KnownPairs (defs_in l.now.r.now) s.0 }
+    requires bound { IsTrue (is_bound s.0 h.now) }
+    requires few { at.now.chain < 10 }
+    ensures is { IfOk result (λ o. got_pairs o run.new.left ≡ relieve_one (inner_of l.now.r.now l.now.levels) (seen_at at.now) h.now s.0 run.old.left) }
+    ensures shown { IfOk result (λ o. IfSome o (λ a. IfSome a (RelievedFrom l.now.r.now.w.now at.now.ctx.now h.now s.0))) }
+{
+    let instance = subst(l.r.alloc, h, &s)?;
+    let within = Place {
+        ctx: at.ctx,
+        closed: at.closed,
+        chain: at.chain + 1,
+    };
+    let Some(q) = deeper(l, run, Mode::Iff, &within, &instance)? else {
+        return Ok(None);
+    };
+    if !is_constant(true, q.rhs()) {
+        return Ok(Some(None));
+    }
+    let shown = to_true(l.r.alloc, l.r.w, q)?;
+    Ok(Some(Some(Relieved { pairs: s, shown })))
+}
+
+/// One hypothesis: an instance that becomes a constant other than `nil`, or, with variables that have no term, a fact,
+/// which gives them theirs.
+fn relieve_one<
+    O: TypeOracle,
+    F: Fn(&mut Run, Mode, &Place<'_>, &Term) -> Result<Option<Equiv>, NoMemory>,
+>(
+    l: &Level<'_, '_, O, F>,
+    run: &mut Run,
+    at: &Place<'_>,
+    h: &Term,
+    s: Subst,
+) -> Result<Option<Option<Relieved>>, NoMemory>
+    requires level { IsLevel (F.pre l.now.below.now) (F.post l.now.below.now) l.now.r.now l.now.levels }
+    requires facts { KnownFacts (defs_in l.now.r.now) at.now.ctx.now.0 }
+    requires hyp { IsTrue (known (defs_in l.now.r.now) h.now) }
+    requires pairs { KnownPairs (defs_in l.now.r.now) s.0 }
+    requires few { at.now.chain < 10 }
+    ensures is { IfOk result (λ o. got_pairs o run.new.left ≡ relieve_one (inner_of l.now.r.now l.now.levels) (seen_at at.now) h.now s.0 run.old.left) }
+    ensures shown { IfOk result (λ o. IfSome o (λ a. IfSome a (RelievedFrom l.now.r.now.w.now at.now.ctx.now h.now s.0))) }
+{
+    if is_bound(s.0.as_slice(), h) {
+        return by_rewriting(l, run, at, h, s);
+    }
+    let found = by_sign(l.r.alloc, l.r.w, at.ctx, h, &s)?;
+    Ok(Some(found))
+}
+
+/// The hypotheses from left to right, each only where fewer than ten are being relieved around it.
+fn relieve<
+    O: TypeOracle,
+    F: Fn(&mut Run, Mode, &Place<'_>, &Term) -> Result<Option<Equiv>, NoMemory>,
+>(
+    l: &Level<'_, '_, O, F>,
+    run: &mut Run,
+    at: &Place<'_>,
+    hs: &[Term],
+    s: Subst,
+) -> Result<Option<Option<Reliefs>>, NoMemory>
+    requires level { IsLevel (F.pre l.now.below.now) (F.post l.now.below.now) l.now.r.now l.now.levels }
+    requires facts { KnownFacts (defs_in l.now.r.now) at.now.ctx.now.0 }
+    requires hyps { Each (λ h. IsTrue (known (defs_in l.now.r.now) h)) hs.now }
+    requires pairs { KnownPairs (defs_in l.now.r.now) s.0 }
+    ensures is { IfOk result (λ o. got_reliefs o run.new.left ≡ relieve (inner_of l.now.r.now l.now.levels) (seen_at at.now) hs.now s.0 run.old.left) }
+    ensures shown { IfOk result (λ o. IfSome o (λ a. IfSome a (Shows l.now.r.now.w.now at.now.ctx.now hs.now s.0))) }
+{
+    let mut pairs = s;
+    let mut shown = Seq::new(l.r.alloc);
+    for h in hs {
+        if at.chain >= 10 {
+            return Ok(Some(None));
+        }
+        match relieve_one(l, run, at, h, pairs)? {
+            None => return Ok(None),
+            Some(None) => return Ok(Some(None)),
+            Some(Some(found)) => {
+                let Relieved {
+                    pairs: more,
+                    shown: q,
+                } = found;
+                pairs = more;
+                shown.push(q)?;
+            }
+        }
+    }
+    Ok(Some(Some(Reliefs { pairs, shown })))
+}
+
+/// From the instance of a rule's left side to that of its right side, under a mode, where its hypotheses are relieved.
+fn applied<O: TypeOracle>(
+    r: &Rewriter<'_, O>,
+    ctx: &Ctx,
+    mode: Mode,
+    g: &RewriteRule,
+    found: Reliefs,
+) -> Result<Equiv, NoMemory>
+    requires ready { Ready r.now }
+    requires facts { KnownFacts (defs_in r.now) ctx.now.0 }
+    requires rule { IsRuleOf r.now.w.now (rule_in g.now) }
+    requires fits { IsTrue (fits_mode mode (rule_in g.now)) }
+    requires pairs { KnownPairs (defs_in r.now) found.pairs.0 }
+    requires hyps { Each (Stands r.now.w.now) found.shown }
+    requires lead { AllLead ctx.now found.pairs.0 g.now.hyps found.shown }
+    ensures is { IfOk result (λ q. q.says.rhs ≡ subst_of found.pairs.0 g.now.rhs) }
+    ensures from { IfOk result (From r.now.w.now mode ctx.now (subst_of found.pairs.0 g.now.lhs)) }
+{
+    let Reliefs { pairs, shown } = found;
+    let q = apply_theorem(r.alloc, r.w, ctx, &g.theorem, g.part, &pairs, shown)?;
+    let answer = in_mode(r.alloc, r.w, q, mode)?;
+    Ok(answer)
+}
+
+/// The instance of a rule's right side, which is rewritten, where it isn't too large.
+fn right<
+    O: TypeOracle,
+    F: Fn(&mut Run, Mode, &Place<'_>, &Term) -> Result<Option<Equiv>, NoMemory>,
+>(
+    l: &Level<'_, '_, O, F>,
+    run: &mut Run,
+    mode: Mode,
+    at: &Place<'_>,
+    g: &RewriteRule,
+    found: Reliefs,
+) -> Result<Option<Option<Equiv>>, NoMemory>
+    requires level { IsLevel (F.pre l.now.below.now) (F.post l.now.below.now) l.now.r.now l.now.levels }
+    requires facts { KnownFacts (defs_in l.now.r.now) at.now.ctx.now.0 }
+    requires rule { IsRuleOf l.now.r.now.w.now (rule_in g.now) }
+    requires fits { IsTrue (fits_mode mode (rule_in g.now)) }
+    requires shown { Shows l.now.r.now.w.now at.now.ctx.now g.now.hyps [] found }
+    ensures is { IfOk result (λ o. got_any o run.new.left ≡ right (setting_of l.now.r.now) (inner_of l.now.r.now l.now.levels) mode (seen_at at.now) (subst_of found.pairs.0 g.now.rhs) run.old.left) }
+    ensures from { IfOk result (λ o. IfSome o (λ a. IfSome a (From l.now.r.now.w.now mode at.now.ctx.now (subst_of found.pairs.0 g.now.lhs)))) }
+{
+    let first = applied(l.r, at.ctx, mode, g, found)?;
+    if !is_small(first.rhs()) {
+        return Ok(Some(None));
+    }
+    let found = go_on(l, run, mode, at, first)?;
+    Ok(answered(found))
+}
+
+/// A rule whose hypotheses are relieved, where it is in order, if that couldn't be told before.
+fn relieved<
+    O: TypeOracle,
+    F: Fn(&mut Run, Mode, &Place<'_>, &Term) -> Result<Option<Equiv>, NoMemory>,
+>(
+    l: &Level<'_, '_, O, F>,
+    run: &mut Run,
+    mode: Mode,
+    at: &Place<'_>,
+    t: &Term,
+    g: &RewriteRule,
+    found: Reliefs,
+) -> Result<Option<Option<Equiv>>, NoMemory>
+    requires level { IsLevel (F.pre l.now.below.now) (F.post l.now.below.now) l.now.r.now l.now.levels }
+    requires facts { KnownFacts (defs_in l.now.r.now) at.now.ctx.now.0 }
+    requires rule { IsRuleOf l.now.r.now.w.now (rule_in g.now) }
+    requires fits { IsTrue (fits_mode mode (rule_in g.now)) }
+    requires shown { Shows l.now.r.now.w.now at.now.ctx.now g.now.hyps [] found }
+    requires instance { subst_of found.pairs.0 g.now.lhs ≡ t.now }
+    ensures is { IfOk result (λ o. got_any o run.new.left ≡ relieved (setting_of l.now.r.now) (inner_of l.now.r.now l.now.levels) mode (seen_at at.now) t.now (rule_in g.now) (Some found.pairs.0) run.old.left) }
+    ensures from { IfOk result (λ o. IfSome o (λ a. IfSome a (From l.now.r.now.w.now mode at.now.ctx.now t.now))) }
+{
+    if !in_order_then(l.r.alloc, g, &found.pairs, t)? {
+        return Ok(Some(None));
+    }
+    right(l, run, mode, at, g, found)
+}
+
+/// A rule whose left side matches, where it is in order and its hypotheses are relieved.
+fn apply<
+    O: TypeOracle,
+    F: Fn(&mut Run, Mode, &Place<'_>, &Term) -> Result<Option<Equiv>, NoMemory>,
+>(
+    l: &Level<'_, '_, O, F>,
+    run: &mut Run,
+    mode: Mode,
+    at: &Place<'_>,
+    t: &Term,
+    g: &RewriteRule,
+    s: Subst,
+) -> Result<Option<Option<Equiv>>, NoMemory>
+    requires level { IsLevel (F.pre l.now.below.now) (F.post l.now.below.now) l.now.r.now l.now.levels }
+    requires facts { KnownFacts (defs_in l.now.r.now) at.now.ctx.now.0 }
+    requires term { IsTrue (known (defs_in l.now.r.now) t.now) }
+    requires rule { IsRuleOf l.now.r.now.w.now (rule_in g.now) }
+    requires fits { IsTrue (fits_mode mode (rule_in g.now)) }
+    requires matched { matched g.now.lhs t.now [] ≡ Some s.0 }
+    ensures is { IfOk result (λ o. got_any o run.new.left ≡ apply (setting_of l.now.r.now) (inner_of l.now.r.now l.now.levels) mode (seen_at at.now) t.now (rule_in g.now) (Some s.0) run.old.left) }
+    ensures from { IfOk result (λ o. IfSome o (λ a. IfSome a (From l.now.r.now.w.now mode at.now.ctx.now t.now))) }
+{
+    if !in_order_first(l.r.alloc, g, &s, t)? {
+        return Ok(Some(None));
+    }
+    match relieve(l, run, at, g.hyps.as_slice(), s)? {
+        None => Ok(None),
+        Some(None) => Ok(Some(None)),
+        Some(Some(found)) => relieved(l, run, mode, at, t, g, found),
+    }
+}
+
+/// A rule that the theory enables and that serves under the mode.
+fn try_rule<
+    O: TypeOracle,
+    F: Fn(&mut Run, Mode, &Place<'_>, &Term) -> Result<Option<Equiv>, NoMemory>,
+>(
+    l: &Level<'_, '_, O, F>,
+    run: &mut Run,
+    mode: Mode,
+    at: &Place<'_>,
+    t: &Term,
+    g: &RewriteRule,
+) -> Result<Option<Option<Equiv>>, NoMemory>
+    requires level { IsLevel (F.pre l.now.below.now) (F.post l.now.below.now) l.now.r.now l.now.levels }
+    requires facts { KnownFacts (defs_in l.now.r.now) at.now.ctx.now.0 }
+    requires term { IsTrue (known (defs_in l.now.r.now) t.now) }
+    requires rule { IsRuleOf l.now.r.now.w.now (rule_in g.now) }
+    ensures is { IfOk result (λ o. got_any o run.new.left ≡ try_rule (setting_of l.now.r.now) (inner_of l.now.r.now l.now.levels) mode (seen_at at.now) t.now (rule_in g.now) run.old.left) }
+    ensures from { IfOk result (λ o. IfSome o (λ a. IfSome a (From l.now.r.now.w.now mode at.now.ctx.now t.now))) }
+{
+    if !l.r.theory.is_enabled(RuneKind::Rewrite, &g.theorem) || !fits_mode(mode, g) {
+        return Ok(Some(None));
+    }
+    let start = Subst(Seq::new(l.r.alloc));
+    match one_way_match(l.r.alloc, &g.lhs, t, &start)? {
+        None => Ok(Some(None)),
+        Some(s) => apply(l, run, mode, at, t, g, s),
+    }
+}
+
+/// The first of some rules that applies.
+fn each_rule<
+    O: TypeOracle,
+    F: Fn(&mut Run, Mode, &Place<'_>, &Term) -> Result<Option<Equiv>, NoMemory>,
+>(
+    l: &Level<'_, '_, O, F>,
+    run: &mut Run,
+    mode: Mode,
+    at: &Place<'_>,
+    t: &Term,
+    gs: &[RewriteRule],
+) -> Result<Option<Option<Equiv>>, NoMemory>
+    requires level { IsLevel (F.pre l.now.below.now) (F.post l.now.below.now) l.now.r.now l.now.levels }
+    requires facts { KnownFacts (defs_in l.now.r.now) at.now.ctx.now.0 }
+    requires term { IsTrue (known (defs_in l.now.r.now) t.now) }
+    requires rules { Each (IsRuleOf l.now.r.now.w.now) (map rule_in gs.now) }
+    ensures is { IfOk result (λ o. got_any o run.new.left ≡ first_that (map (try_rule (setting_of l.now.r.now) (inner_of l.now.r.now l.now.levels) mode (seen_at at.now) t.now) (map rule_in gs.now)) run.old.left) }
+    ensures from { IfOk result (λ o. IfSome o (λ a. IfSome a (From l.now.r.now.w.now mode at.now.ctx.now t.now))) }
+{
+    for g in gs {
+        match try_rule(l, run, mode, at, t, g)? {
+            None => return Ok(None),
+            Some(Some(q)) => return Ok(Some(Some(q))),
+            Some(None) => {}
+        }
+    }
+    Ok(Some(None))
+}
+
+/// The first rule that applies, from the newest on.
+pub fn by_rules<
+    O: TypeOracle,
+    F: Fn(&mut Run, Mode, &Place<'_>, &Term) -> Result<Option<Equiv>, NoMemory>,
+>(
+    l: &Level<'_, '_, O, F>,
+    run: &mut Run,
+    mode: Mode,
+    at: &Place<'_>,
+    t: &Term,
+    f: &Symbol,
+    us: &[Term],
+) -> Result<Option<Option<Equiv>>, NoMemory>
+    requires level { IsLevel (F.pre l.now.below.now) (F.post l.now.below.now) l.now.r.now l.now.levels }
+    requires facts { KnownFacts (defs_in l.now.r.now) at.now.ctx.now.0 }
+    requires term { IsTrue (known (defs_in l.now.r.now) t.now) }
+    requires call { t.now ≡ Call f.now us.now }
+    ensures is { IfOk result (λ o. got_any o run.new.left ≡ by_rules (setting_of l.now.r.now) (inner_of l.now.r.now l.now.levels) mode (seen_at at.now) t.now run.old.left) }
+    ensures from { IfOk result (λ o. IfSome o (λ a. IfSome a (From l.now.r.now.w.now mode at.now.ctx.now t.now))) }
+{
+    search_by_head();
+    rules_are_parts();
+    rules_hold();
+    l.r.w.is_sound();
+    l.r.w.has_distinct_names();
+    let gs = by_head(l.r.rules, f);
+    each_rule(l, run, mode, at, t, gs)
+}
