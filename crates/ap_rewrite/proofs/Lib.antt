@@ -33,3 +33,6 @@ pub mod Called
 pub mod Applied
 pub mod Opened
 pub mod Ran
+pub mod Sure
+pub mod Simplified
+pub mod Ruled
