@@ -1,5 +1,5 @@
 // The literals of a clause, one after another, and what is left of it, split.
-ghost use Rattle.std.specs.Prelude.{◌≡◌, ◌+◌, ◌<◌, ◌∷◌, [], IfOk, IfSome, IsTrue, List, Some, length, take, drop, slice_get};
+ghost use Rattle.std.specs.Prelude.{◌≡◌, ◌+◌, ◌<◌, ◌∷◌, [], IfOk, IfSome, List, Some, length, take, drop, slice_get, true};
 ghost use Rattle.std.specs.Option.{option_map};
 ghost use Rattle.ap_term.specs.declared.term.Term.{Term};
 ghost use Rattle.ap_term.specs.Metered.{mapped};
@@ -37,12 +37,7 @@ fn itself(alloc: Global, w: &World, c: Clause) -> Result<Reduction, NoMemory>
 }
 
 /// From a clause to what its one clause is reduced to.
-fn then(
-    alloc: Global,
-    w: &World,
-    first: Reduction,
-    next: Reduction,
-) -> Result<Reduction, NoMemory>
+fn then(alloc: Global, w: &World, first: Reduction, next: Reduction) -> Result<Reduction, NoMemory>
     requires first { Reduces w.now first }
     requires next { Reduces w.now next }
     requires one { first.says.to ≡ next.says.from ∷ [] }
@@ -151,10 +146,10 @@ fn rewrite_literals<O: TypeOracle>(
     let count = c.0.len();
     let mut so_far = itself(r.alloc, r.w, c)?;
     for place in 0..count {
-        match advance(r, steps, so_far, place)? {
-            Some(next) => so_far = next,
-            None => return Ok(None),
-        }
+        let Some(next) = advance(r, steps, so_far, place)? else {
+            return Ok(None);
+        };
+        so_far = next;
         if is_proved(&so_far, place) {
             let closed = close(r.alloc, r.w, so_far)?;
             return Ok(Some(closed));
