@@ -1,6 +1,31 @@
-use Rattle.ap_rewrite.specs.Answering.{defs_in}
-use Rattle.ap_rewrite.proofs.Froms.{call_parts}
+use Rattle.std.proofs.Common.{◌≡◌, true, unwrap_or, sym, ap, ◌∙◌, subst}
+use Rattle.ap_term.specs.declared.term.Term.{Term, Call}
+use Rattle.ap_world.specs.Sound.{known}
+use Rattle.ap_rewrite.specs.Answering.{defs_in, setting_of, inner_of, seen_at, right_of}
+use Rattle.ap_rewrite.proofs.Froms.{call_parts, from_own, from_at, followed_from, right_known}
+use Rattle.ap_rewrite.proofs.Called.{call_is, call_out, arguments_out, head_takes, each_from}
 use Rattle.ap_rewrite.proofs.calls.rewrite_call.Goals as goal
 
 pub rewrite_args-requires-clause-terms : goal.rewrite_args-requires-clause-terms
 rewrite_args-requires-clause-terms g c = call_parts (defs_in c.args.l.now.r.now) c.args.f.now c.args.us.now c.requires.call
+
+pub on_arguments-requires-clause-head : goal.on_arguments-requires-clause-head
+on_arguments-requires-clause-head g c =
+    let h = rw c.in-Some.is at c.in_ok-args.ensures.from in
+    head_takes (defs_in c.args.l.now.r.now) c.args.f.now c.args.us.now c.in-Some.args c.requires.call h.0
+
+pub on_arguments-requires-clause-args : goal.on_arguments-requires-clause-args
+on_arguments-requires-clause-args g c = (rw c.in-Some.is at c.in_ok-args.ensures.from).1
+
+pub tried-requires-clause-term : goal.tried-requires-clause-term
+tried-requires-clause-term g c =
+    subst (λ (u : Term). known (defs_in c.args.l.now.r.now) u ≡ true) (sym c.rhs-call.ensures) (right_known _ _ _ _ _ c.in_ok-first.ensures.from)
+
+pub tried-requires-clause-call : goal.tried-requires-clause-call
+tried-requires-clause-call g c = c.in-Call.is ∙ ap (Call c.in-Call.g) (sym c.as_slice.ensures)
+
+pub followed-requires-clause-first : goal.followed-requires-clause-first
+followed-requires-clause-first g c = from_own _ _ _ _ _ c.in_ok-first.ensures.from
+
+pub followed-requires-clause-second : goal.followed-requires-clause-second
+followed-requires-clause-second g c = each_from _ _ _ _ _ _ c.rhs-call.ensures (rw c.in-Some-2.is at c.in_ok-found.ensures.from)
