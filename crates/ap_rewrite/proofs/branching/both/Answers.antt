@@ -17,3 +17,23 @@ shape_whole-requires-clause-yes g c = branch_own _ _ _ _ _ _ _ _ c.rhs.ensures (
 
 pub shape_whole-requires-clause-no : goal.shape_whole-requires-clause-no
 shape_whole-requires-clause-no g c = branch_own _ _ _ _ _ _ _ _ c.rhs-2.ensures (rw c.in-Some-2.is at c.in_ok-no.ensures.from)
+
+pub returns-in_default-clause-is : goal.returns-in_default-clause-is
+returns-in_default-clause-is g c =
+    both_out (setting_of c.args.l.now.r.now) (inner_of c.args.l.now.r.now c.args.l.now.levels) c.args.mode (seen_at c.args.at.now) _ _ _ _ _ c.rhs.ensures (rw c.in_default.is at c.in_ok-yes.ensures.is)
+
+pub returns-in_default-2-clause-is : goal.returns-in_default-2-clause-is
+returns-in_default-2-clause-is g c =
+    second_out (setting_of c.args.l.now.r.now) (inner_of c.args.l.now.r.now c.args.l.now.levels) c.args.mode (seen_at c.args.at.now) _ _ _ _ _ _ _ _ c.rhs.ensures c.rhs-2.ensures
+    (rw c.in-Some.is at c.in_ok-yes.ensures.is) (rw c.in_default-2.is at c.in_ok-no.ensures.is)
+
+pub returns-clause-is : goal.returns-clause-is
+returns-clause-is g c =
+    both_is (setting_of c.args.l.now.r.now) (inner_of c.args.l.now.r.now c.args.l.now.levels) c.args.mode (seen_at c.args.at.now) _ _ _ _ _ _ _ _ _ _ _ c.rhs.ensures c.rhs-2.ensures
+    (rw c.in-Some.is at c.in_ok-yes.ensures.is) (rw c.in-Some-2.is at c.in_ok-no.ensures.is) c.in_ok-whole.ensures.is
+
+pub returns-clause-from : goal.returns-clause-from
+returns-clause-from g c =
+    let yes = rw c.in-Some.is at c.in_ok-yes.ensures.from in
+    let no = rw c.in-Some-2.is at c.in_ok-no.ensures.from in
+    if_whole _ _ _ _ _ _ _ _ _ yes.lhs no.lhs c.in_ok-whole.ensures.from
