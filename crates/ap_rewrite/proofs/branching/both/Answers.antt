@@ -9,8 +9,8 @@ use Rattle.ap_rewrite.proofs.branching.both.Goals as goal
 pub under-requires-clause-test : goal.under-requires-clause-test
 under-requires-clause-test g c = subst (λ (u : Term). known (defs_in c.args.l.now.r.now) u ≡ true) (sym c.rhs.ensures) (right_known _ _ _ _ _ c.requires.test)
 
-pub under-2-requires-clause-test : goal.under-2-requires-clause-test
-under-2-requires-clause-test g c = subst (λ (u : Term). known (defs_in c.args.l.now.r.now) u ≡ true) (sym c.rhs-2.ensures) (right_known _ _ _ _ _ c.requires.test)
+pub under-requires-2-clause-test : goal.under-requires-2-clause-test
+under-requires-2-clause-test g c = subst (λ (u : Term). known (defs_in c.args.l.now.r.now) u ≡ true) (sym c.rhs-2.ensures) (right_known _ _ _ _ _ c.requires.test)
 
 pub shape_whole-requires-clause-yes : goal.shape_whole-requires-clause-yes
 shape_whole-requires-clause-yes g c = branch_own _ _ _ _ _ _ _ _ c.rhs.ensures (rw c.in-Some.is at c.in_ok-yes.ensures.from)

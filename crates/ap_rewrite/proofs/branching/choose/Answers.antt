@@ -9,8 +9,8 @@ use Rattle.ap_rewrite.proofs.branching.choose.Goals as goal
 pub stay_under-requires-clause-test : goal.stay_under-requires-clause-test
 stay_under-requires-clause-test g c = subst (λ (u : Term). known (defs_in c.args.r.now) u ≡ true) (sym c.rhs.ensures) (right_known _ _ _ _ _ c.requires.test)
 
-pub stay_under-2-requires-clause-test : goal.stay_under-2-requires-clause-test
-stay_under-2-requires-clause-test g c = subst (λ (u : Term). known (defs_in c.args.r.now) u ≡ true) (sym c.rhs-2.ensures) (right_known _ _ _ _ _ c.requires.test)
+pub stay_under-requires-2-clause-test : goal.stay_under-requires-2-clause-test
+stay_under-requires-2-clause-test g c = subst (λ (u : Term). known (defs_in c.args.r.now) u ≡ true) (sym c.rhs-2.ensures) (right_known _ _ _ _ _ c.requires.test)
 
 pub take_branch-requires-clause-yes : goal.take_branch-requires-clause-yes
 take_branch-requires-clause-yes g c = branch_own _ _ _ _ _ _ _ _ c.rhs.ensures c.in_ok-yes.ensures.from
