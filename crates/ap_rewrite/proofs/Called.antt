@@ -5,7 +5,7 @@ use Rattle.ap_value.specs.declared.symbol.Symbol.{Symbol}
 use Rattle.ap_term.specs.declared.term.Term.{Term, Call, out-Term}
 use Rattle.ap_term.specs.declared.term.Term.TheOpen.{Term-F}
 use Rattle.ap_term.specs.declared.term.Term.TheVariants.{outs-Call}
-use Rattle.ap_term.specs.Metered.{Got, after, mapped, first_that}
+use Rattle.ap_term.specs.Metered.{after, mapped, first_that}
 use Rattle.ap_world.specs.Meaning.{Defs}
 use Rattle.ap_world.specs.World.{Shown}
 use Rattle.ap_world.specs.Primitives.{prim_of}
