@@ -6,6 +6,7 @@ use Rattle.ap_rewrite.specs.Answering.{defs_in, setting_of, inner_of, seen_at}
 use Rattle.ap_rewrite.proofs.Froms.{from_own}
 use Rattle.ap_rewrite.proofs.Chained.{same_answer, same_from}
 use Rattle.ap_rewrite.proofs.Opened.{is_defined, instance_is, disabled, among, too_grown, let_in}
+use Rattle.ap_rewrite.proofs.opening.open_call.Goals.{then-not-is_enabled-via-then-not-is_enabled, then-not-is_enabled-via-else-not-is_enabled+then-is_among}
 use Rattle.ap_rewrite.proofs.opening.open_call.Goals as goal
 
 pub opened-requires-clause-defined : goal.opened-requires-clause-defined
@@ -25,13 +26,12 @@ returns-clause-from g c = same_from _ _ _ _ _ _ c.in_ok-first.ensures.from.lhs c
 
 pub returns-then-not-is_enabled-clause-is : goal.returns-then-not-is_enabled-clause-is
 returns-then-not-is_enabled-clause-is g c =
-    disabled (setting_of c.args.l.now.r.now) (inner_of c.args.l.now.r.now c.args.l.now.levels) c.args.mode (seen_at c.args.at.now) c.args.t.now c.args.f.now c.args.us.now c.args.g.now c.args.run.now.left
-    (sym c.is_enabled.ensures ∙ c.if-not-is_enabled.true)
-
-pub returns-then-is_among-clause-is : goal.returns-then-is_among-clause-is
-returns-then-is_among-clause-is g c =
-    among (setting_of c.args.l.now.r.now) (inner_of c.args.l.now.r.now c.args.l.now.levels) c.args.mode (seen_at c.args.at.now) c.args.t.now c.args.f.now c.args.us.now c.args.g.now c.args.run.now.left
-    (sym c.is_among.ensures ∙ c.if-is_among.true)
+    let off = disabled (setting_of c.args.l.now.r.now) (inner_of c.args.l.now.r.now c.args.l.now.levels) c.args.mode (seen_at c.args.at.now) c.args.t.now c.args.f.now c.args.us.now c.args.g.now c.args.run.now.left in
+    let shut = among (setting_of c.args.l.now.r.now) (inner_of c.args.l.now.r.now c.args.l.now.levels) c.args.mode (seen_at c.args.at.now) c.args.t.now c.args.f.now c.args.us.now c.args.g.now c.args.run.now.left in
+    elim c.then-not-is_enabled.branch [
+      then-not-is_enabled-via-then-not-is_enabled w ↦ off (sym c.is_enabled.ensures ∙ w.if-not-is_enabled.true)
+      | then-not-is_enabled-via-else-not-is_enabled+then-is_among w ↦ shut (sym w.is_among.ensures ∙ w.if-is_among.true)
+    ]
 
 pub returns-clause-is : goal.returns-clause-is
 returns-clause-is g c =

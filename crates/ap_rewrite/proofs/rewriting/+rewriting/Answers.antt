@@ -14,3 +14,15 @@ returns-then-levels-eq0-clause-is g t c =
 pub returns-clause-is : goal.returns-clause-is
 returns-clause-is g t c =
     rw (level_is (setting_of c.args.r.now) c.args.levels c.args.mode (seen_at c.args.at.now) c.args.t.now c.args.run.now.left (search rules) (search rules)) c.rewrite_shape.ensures.is
+
+pub rewrite_shape-requires-clause-level : goal.rewrite_shape-requires-clause-level
+rewrite_shape-requires-clause-level g t c = ?
+
+pub returns-clause-from : goal.returns-clause-from
+returns-clause-from g t c = ?
+
+pub below-rewrite-requires : goal.below-rewrite-requires
+below-rewrite-requires g t c = ?
+
+pub below-returns : goal.below-returns
+below-returns g t c = ?
