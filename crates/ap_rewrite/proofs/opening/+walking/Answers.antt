@@ -85,8 +85,25 @@ walk-walk_on-requires g t c =
     let smaller : 2 * (term_size c.in-If.b.now + term_size c.in-If.c.now) + 1 < 2 * term_size c.args.sofar.says.rhs = branches_smaller _ _ _ _ parts.0 in
     λ κs within. (
       search rules,
-      (within.0, (within.1, (c.requires.level, (c.requires.facts, (c.requires.inner, (c.requires.sofar,
-      (from_own _ _ _ _ _ test, parts.0 ∙ ap (λ (x : Term). if_of x c.in-If.b.now c.in-If.c.now) (sym test.lhs)))))))),
+      (
+        within.0,
+        (
+          within.1,
+          (
+            c.requires.level,
+            (
+              c.requires.facts,
+              (
+                c.requires.inner,
+                (
+                  c.requires.sofar,
+                  (from_own _ _ _ _ _ test, parts.0 ∙ ap (λ (x : Term). if_of x c.in-If.b.now c.in-If.c.now) (sym test.lhs)),
+                ),
+              ),
+            ),
+          ),
+        ),
+      ),
     )
 
 pub walk-returns-in-Some-clause-is : goal.walk-returns-in-Some-clause-is

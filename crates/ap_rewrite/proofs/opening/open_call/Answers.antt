@@ -29,7 +29,7 @@ returns-then-not-is_enabled-clause-is g c =
     let off = disabled (setting_of c.args.l.now.r.now) (inner_of c.args.l.now.r.now c.args.l.now.levels) c.args.mode (seen_at c.args.at.now) c.args.t.now c.args.f.now c.args.us.now c.args.g.now c.args.run.now.left in
     let shut = among (setting_of c.args.l.now.r.now) (inner_of c.args.l.now.r.now c.args.l.now.levels) c.args.mode (seen_at c.args.at.now) c.args.t.now c.args.f.now c.args.us.now c.args.g.now c.args.run.now.left in
     elim c.then-not-is_enabled.branch [
-      then-not-is_enabled-via-then-not-is_enabled w ↦ off (sym c.is_enabled.ensures ∙ w.if-not-is_enabled.true)
+      | then-not-is_enabled-via-then-not-is_enabled w ↦ off (sym c.is_enabled.ensures ∙ w.if-not-is_enabled.true)
       | then-not-is_enabled-via-else-not-is_enabled+then-is_among w ↦ shut (sym w.is_among.ensures ∙ w.if-is_among.true)
     ]
 
