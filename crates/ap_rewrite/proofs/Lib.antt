@@ -34,3 +34,6 @@ pub mod Branched
 pub mod Applied
 pub mod Opened
 pub mod Ran
+pub mod Sure
+pub mod Simplified
+pub mod Ruled

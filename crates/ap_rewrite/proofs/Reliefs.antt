@@ -65,6 +65,9 @@ pub record ReliefsDone (w : Shown) (c : Ctx) (g all : Got (Option Pairs)) (rest 
 pub none_relieved : (w : Shown) (c : Ctx) (g : Got (Option Pairs)) (hs : List Term) (s : Pairs) → KnownPairs (function_of w.entries) s → ReliefsDone w c g g hs hs s s []
 none_relieved w c g hs s k = record { is = refl; done = []; front = refl; shown = tt; known = k; extends = λ x t e. e }
 
+pub reliefs_begin : (w : Shown) (c : Ctx) (g : Got (Option Pairs)) (hs : List Term) (s : Pairs) (qs : List Equiv) → qs ≡ [] → KnownPairs (function_of w.entries) s → ReliefsDone w c g g hs hs s s qs
+reliefs_begin w c g hs s qs e k = subst (ReliefsDone w c g g hs hs s s) (sym e) (none_relieved w c g hs s k)
+
 few_left : (b : Bool) (g h : Got (Option Pairs)) → b ≡ true → cond b g h ≡ g
 few_left true g h e = refl
 few_left false g h e = cc
@@ -116,3 +119,10 @@ all_relieved w c r p all rest hs first q m at d =
       sym (d.is ∙ ap (λ x. relieve r p x q.pairs.0 m) at),
       record { stand = all_stand w c q.pairs.0 hs q.shown each; lead = all_lead w c q.pairs.0 hs q.shown each; known = d.known; extends = d.extends },
     )
+
+-- from no pairs
+pub shows_from : (w : Shown) (c : Ctx) (hs : List Term) (s : Pairs) (q : Reliefs) → Shows w c hs s q → Shows w c hs [] q
+shows_from w c hs s q h = record { stand = h.stand; lead = h.lead; known = h.known; extends = λ x t e. absurd (no_pair t e) }
+  where
+    no_pair : (t : Term) → None ≡ Some t → ⊥
+    no_pair t e = cc

@@ -11,3 +11,4 @@ pub mod Relieved
 pub mod SoundSettings
 pub mod Laws
 pub mod Answering
+pub mod Simplifying

@@ -20,9 +20,11 @@ mod rules;
 mod running;
 mod settling;
 mod shaping;
+mod simplifying;
 mod testing;
 mod trying;
 
 pub use literals::literal;
 pub use rewriter::{Place, Rewriter, Run};
 pub use rewriting::rewrite;
+pub use simplifying::simplify;

@@ -1,10 +1,12 @@
 // Rules, the newest first.
-ghost use Rattle.std.specs.Prelude.{◌≡◌, ◌<◌, IsTrue, IfOk, IfSome, Some, [], map};
+ghost use Rattle.std.specs.Prelude.{◌≡◌, ◌<◌, ◌&&◌, IsTrue, IfOk, IfSome, Some, [], map};
 ghost use Rattle.ap_list.specs.Lists.{Each};
 ghost use Rattle.ap_term.specs.declared.term.Term.{Call};
 ghost use Rattle.ap_term.specs.Matching.{matched, Extends, is_bound};
 ghost use Rattle.ap_term.specs.Metered.{first_that};
 ghost use Rattle.ap_term.specs.Terms.{subst_of};
+ghost use Rattle.ap_world.specs.declared.theory.Rune.TheVariants as rune;
+ghost use Rattle.ap_world.specs.Theories.{is_enabled};
 ghost use Rattle.ap_world.specs.Facts.{KnownFacts};
 ghost use Rattle.ap_world.specs.Holding.{KnownPairs};
 ghost use Rattle.ap_world.specs.Sound.{known};
@@ -30,8 +32,8 @@ use ap_kernel::{
 };
 use ap_rules::{RewriteRule, by_head, rules_are_parts};
 use ap_term::one_way_match;
-use ap_world::RuneKind;
 use ap_world::laws::rules_hold;
+use ap_world::{RuneKind, Theory};
 
 /// The hypotheses of a rule that are relieved: the pairs that have come of it, and for each the equivalence that
 /// leads from its instance to `'T`.
@@ -257,6 +259,13 @@ fn apply<
     }
 }
 
+/// Whether the theory enables a rule, and it serves under the mode. Takes no memory.
+fn may_serve(theory: &Theory, mode: Mode, g: &RewriteRule) -> bool
+    ensures { result ≡ (is_enabled theory.now (rune.Rewrite g.now.theorem) && fits_mode mode (rule_in g.now)) }
+{
+    theory.is_enabled(RuneKind::Rewrite, &g.theorem) && fits_mode(mode, g)
+}
+
 /// A rule that the theory enables and that serves under the mode.
 fn try_rule<
     O: TypeOracle,
@@ -276,7 +285,7 @@ fn try_rule<
     ensures is { IfOk result (λ o. got_any o run.new.left ≡ try_rule (setting_of l.now.r.now) (inner_of l.now.r.now l.now.levels) mode (seen_at at.now) t.now (rule_in g.now) run.old.left) }
     ensures from { IfOk result (λ o. IfSome o (λ a. IfSome a (From l.now.r.now.w.now mode at.now.ctx.now t.now))) }
 {
-    if !l.r.theory.is_enabled(RuneKind::Rewrite, &g.theorem) || !fits_mode(mode, g) {
+    if !may_serve(l.r.theory, mode, g) {
         return Ok(Some(None));
     }
     let start = Subst(Seq::new(l.r.alloc));

@@ -1,0 +1,203 @@
+// The literals of a clause, one after another, and what is left of it, split.
+ghost use Rattle.std.specs.Prelude.{◌≡◌, ◌+◌, ◌<◌, ◌∷◌, [], IfOk, IfSome, List, Some, length, take, drop, slice_get, true};
+ghost use Rattle.std.specs.Option.{option_map};
+ghost use Rattle.ap_term.specs.declared.term.Term.{Term};
+ghost use Rattle.ap_term.specs.Metered.{mapped};
+ghost use Rattle.ap_world.specs.World.{function_of};
+ghost use Rattle.ap_world.specs.Shapes.{is_constant};
+ghost use Rattle.ap_kernel.specs.Standing.{HasGround};
+ghost use Rattle.ap_kernel.specs.Reductions.{KnownClause, Reduces, put_at, to_one, rewritten};
+ghost use Rattle.ap_rewrite.specs.Literals.{rewrite_literal, rewrite_literals, rewritten_to, split_left, simplify_of};
+ghost use Rattle.ap_rewrite.specs.Answering.{defs_in, Ready, setting_of};
+ghost use Rattle.ap_rewrite.specs.Simplifying.{got_reduced, literals_left, HasPlace, LeavesTrue};
+
+use crate::literals::literal;
+use crate::rewriter::Rewriter;
+use ap_clausify::split;
+use ap_kernel::{
+    Mode, NoMemory, Reduction, Seq, TypeOracle, World, chain, is_constant, others_false, refl,
+    rewrite_literal, tidy,
+};
+use ap_term::{Clause, Steps, copy_terms};
+use std::alloc::Global;
+
+/// From a clause to itself: its first literal is rewritten to itself, and the empty clause is tidied.
+fn itself(alloc: Global, w: &World, c: Clause) -> Result<Reduction, NoMemory>
+    requires ground { HasGround (function_of w.now.entries) }
+    requires clause { KnownClause (function_of w.now.entries) c }
+    ensures stands { IfOk result (λ q. Reduces w.now q) }
+    ensures made { IfOk result (λ q. q.says ≡ record { from = c; to = c ∷ [] }) }
+{
+    let [first, ..] = c.0.as_slice() else {
+        return tidy(alloc, w, c);
+    };
+    let ctx = others_false(alloc, c.0.as_slice(), 0)?;
+    let same = refl(alloc, w, &ctx, Mode::Equal, first)?;
+    rewrite_literal(alloc, w, c, 0, same)
+}
+
+/// From a clause to what its one clause is reduced to.
+fn then(alloc: Global, w: &World, first: Reduction, next: Reduction) -> Result<Reduction, NoMemory>
+    requires first { Reduces w.now first }
+    requires next { Reduces w.now next }
+    requires one { first.says.to ≡ next.says.from ∷ [] }
+    ensures stands { IfOk result (λ q. Reduces w.now q) }
+    ensures made { IfOk result (λ q. q.says ≡ record { from = first.says.from; to = next.says.to }) }
+{
+    let mut rest = Seq::new(alloc);
+    rest.push(next)?;
+    let both = chain(alloc, w, first, rest)?;
+    Ok(both)
+}
+
+/// A copy of the first clause that is left.
+fn first_left(alloc: Global, q: &Reduction) -> Result<Clause, NoMemory>
+    requires { 0 < length q.now.says.to }
+    ensures { IfOk result (λ c. literals_left q.now.says.to ≡ Some c.0) }
+{
+    let clauses = q.to().as_slice();
+    let literals = copy_terms(alloc, clauses[0].0.as_slice())?;
+    Ok(Clause(literals))
+}
+
+/// From a clause to the one whose literal at a place is rewritten while the others are assumed false. `None` where
+/// the steps run out.
+fn at_place<O: TypeOracle>(
+    r: &Rewriter<'_, O>,
+    steps: &mut Steps,
+    c: Clause,
+    place: usize,
+) -> Result<Option<Reduction>, NoMemory>
+    requires ready { Ready r.now }
+    requires clause { KnownClause (defs_in r.now) c }
+    requires place { place < length c.0 }
+    ensures is { IfOk result (λ o. (u : Term) → slice_get c.0 place ≡ Some u → got_reduced o steps.new.left ≡ mapped (rewritten c place) (rewrite_literal (setting_of r.now) (take place c.0) (drop (place + 1) c.0) u steps.old.left)) }
+    ensures stands { IfOk result (λ o. IfSome o (Reduces r.now.w.now)) }
+{
+    let ctx = others_false(r.alloc, c.0.as_slice(), place)?;
+    let t = &c.0.as_slice()[place];
+    let found = literal(
+        r.alloc, r.w, r.rules, r.theory, r.expand, r.oracle, &ctx, steps, t,
+    )?;
+    let Some(q) = found else {
+        return Ok(None);
+    };
+    let answer = rewrite_literal(r.alloc, r.w, c, place, q)?;
+    Ok(Some(answer))
+}
+
+/// The literal at a place of the clause that is left so far is rewritten. `None` where the steps run out.
+fn advance<O: TypeOracle>(
+    r: &Rewriter<'_, O>,
+    steps: &mut Steps,
+    so_far: Reduction,
+    place: usize,
+) -> Result<Option<Reduction>, NoMemory>
+    requires ready { Ready r.now }
+    requires stands { Reduces r.now.w.now so_far }
+    requires place { HasPlace so_far.says place }
+    ensures is { IfOk result (λ o. (us : List Term) (u : Term) → so_far.says.to ≡ record { 0 = us } ∷ [] → slice_get us place ≡ Some u → got_reduced o steps.new.left ≡ mapped (λ v. to_one so_far.says.from (put_at place (v ∷ []) us)) (rewrite_literal (setting_of r.now) (take place us) (drop (place + 1) us) u steps.old.left)) }
+    ensures stands { IfOk result (λ o. IfSome o (Reduces r.now.w.now)) }
+{
+    let c = first_left(r.alloc, &so_far)?;
+    let Some(next) = at_place(r, steps, c, place)? else {
+        return Ok(None);
+    };
+    let both = then(r.alloc, r.w, so_far, next)?;
+    Ok(Some(both))
+}
+
+/// Whether the literal at a place of the clause that is left is a constant other than `nil`. Takes no memory.
+fn is_proved(q: &Reduction, place: usize) -> bool
+    requires { HasPlace q.now.says place }
+    ensures { (us : List Term) (v : Term) → q.now.says.to ≡ record { 0 = us } ∷ [] → slice_get us place ≡ Some v → result ≡ is_constant true v }
+{
+    let clauses = q.to().as_slice();
+    let literals = clauses[0].0.as_slice();
+    is_constant(true, &literals[place])
+}
+
+/// From a clause to none, where the one that is left holds by itself.
+fn close(alloc: Global, w: &World, q: Reduction) -> Result<Reduction, NoMemory>
+    requires ground { HasGround (function_of w.now.entries) }
+    requires stands { Reduces w.now q }
+    requires holds { LeavesTrue q.says }
+    ensures stands { IfOk result (λ p. Reduces w.now p) }
+    ensures made { IfOk result (λ p. p.says ≡ record { from = q.says.from; to = [] }) }
+{
+    let c = first_left(alloc, &q)?;
+    let none = tidy(alloc, w, c)?;
+    let closed = then(alloc, w, q, none)?;
+    Ok(closed)
+}
+
+/// From a clause to the one in which each literal, from left to right, is rewritten while the others are assumed
+/// false; to none where one becomes a constant other than `nil`. `None` where the steps run out.
+fn rewrite_literals<O: TypeOracle>(
+    r: &Rewriter<'_, O>,
+    steps: &mut Steps,
+    c: Clause,
+) -> Result<Option<Reduction>, NoMemory>
+    requires ready { Ready r.now }
+    requires clause { KnownClause (defs_in r.now) c }
+    ensures is { IfOk result (λ o. got_reduced o steps.new.left ≡ mapped (rewritten_to c) (rewrite_literals (setting_of r.now) [] c.0 steps.old.left)) }
+    ensures stands { IfOk result (λ o. IfSome o (Reduces r.now.w.now)) }
+{
+    let count = c.0.len();
+    let mut so_far = itself(r.alloc, r.w, c)?;
+    for place in 0..count {
+        let Some(next) = advance(r, steps, so_far, place)? else {
+            return Ok(None);
+        };
+        so_far = next;
+        if is_proved(&so_far, place) {
+            let closed = close(r.alloc, r.w, so_far)?;
+            return Ok(Some(closed));
+        }
+    }
+    Ok(Some(so_far))
+}
+
+/// What is left is split, where a clause is left. `None` where the steps run out.
+fn split_left(
+    alloc: Global,
+    w: &World,
+    q: Reduction,
+    steps: &mut Steps,
+) -> Result<Option<Reduction>, NoMemory>
+    requires ground { HasGround (function_of w.now.entries) }
+    requires stands { Reduces w.now q }
+    requires one { q.says ≡ rewritten_to q.says.from (literals_left q.says.to) }
+    ensures stands { IfOk result (λ o. IfSome o (Reduces w.now)) }
+    ensures made { IfOk result (λ o. option_map (λ p. p.says) o ≡ option_map (λ p. record { from = q.says.from; to = p.0 }) (split_left (literals_left q.says.to) steps.old.left)) }
+{
+    if q.to().is_empty() {
+        return Ok(Some(q));
+    }
+    let c = first_left(alloc, &q)?;
+    let Some(next) = split(alloc, w, c, steps)?.reduction else {
+        return Ok(None);
+    };
+    let both = then(alloc, w, q, next)?;
+    Ok(Some(both))
+}
+
+/// What the literals of a clause are rewritten to, from left to right, each while the others are assumed false; what
+/// is left is then split, by the steps that are left. `None` exactly where the steps run out. The only error is want
+/// of memory. See the manual's topic `rewrite`.
+pub fn simplify<O: TypeOracle>(
+    r: &Rewriter<'_, O>,
+    steps: &mut Steps,
+    c: Clause,
+) -> Result<Option<Reduction>, NoMemory>
+    requires ready { Ready r.now }
+    requires clause { KnownClause (defs_in r.now) c }
+    ensures stands { IfOk result (λ o. IfSome o (Reduces r.now.w.now)) }
+    ensures made { IfOk result (λ o. option_map (λ q. q.says) o ≡ option_map (λ p. record { from = c; to = p.0 }) (simplify_of (setting_of r.now) steps.old.left c)) }
+{
+    let Some(q) = rewrite_literals(r, steps, c)? else {
+        return Ok(None);
+    };
+    let answer = split_left(r.alloc, r.w, q, steps)?;
+    Ok(answer)
+}
