@@ -23,11 +23,11 @@ by_index law S r o p t f us n gs is e =
 
 each_kept : {A : Type 0} (P : A → Type 0) (test : A → Bool) (xs : List A) → Each P xs → Each P (kept test xs)
 each_kept P test [] h = tt
-each_kept P test (x ∷ xs) h = go (test x)
+each_kept P test (x ∷ xs) h = go (test x) (each_kept P test xs h.1)
   where
-    go : (b : Bool) → Each P (cond b (x ∷ kept test xs) (kept test xs))
-    go true = (h.0, each_kept P test xs h.1)
-    go false = each_kept P test xs h.1
+    go : (b : Bool) → Each P (kept test xs) → Each P (cond b (x ∷ kept test xs) (kept test xs))
+    go true k = (h.0, k)
+    go false k = k
 
 rules_are : (w : Shown) (gs : List Rule) → Each (λ (g : Rule). part_of w.entries g.theorem g.part ≡ Some g) gs → Each (RuleHolds (function_of w.entries)) gs → Each (IsRuleOf w) gs
 rules_are w [] h k = tt
