@@ -1,5 +1,5 @@
 -- The arguments of a call, one after another.
-use Rattle.std.proofs.Common.{◌≡◌, ℕ, suc, ◌+◌, ◌<◌, List, [], ◌∷◌, ◌++◌, map, take, drop, length, Option, Some, None, refl, sym, ap, ◌∙◌, subst, append_assoc, get_or, drop-cons, add-one}
+use Rattle.std.proofs.Common.{◌≡◌, ℕ, suc, ◌+◌, ◌<◌, List, [], ◌∷◌, ◌++◌, drop, length, Some, None, refl, sym, ap, ◌∙◌, subst, append_assoc, get_or, drop-cons, add-one}
 use Rattle.std.proofs.Math.ListN.{length-map}
 use Rattle.ap_list.specs.Lists.{Each}
 use Rattle.ap_term.specs.declared.term.Term.{Term}
@@ -12,7 +12,7 @@ use Rattle.ap_kernel.specs.declared.objects.Equiv.{Equiv}
 use Rattle.ap_kernel.specs.Answers.{said, lefts, rights}
 use Rattle.ap_rewrite.specs.Settings.{Setting, Place, Inner}
 use Rattle.ap_rewrite.specs.Rewriting.{rewrite_args}
-use Rattle.ap_rewrite.specs.Answering.{From, Leads, got, got_all}
+use Rattle.ap_rewrite.specs.Answering.{From, Leads, got_all}
 
 -- answers behind some that are done
 abbrev pub behind : List Term → Got (List Term) → Got (List Term)

@@ -1,9 +1,9 @@
 -- Which branch an `if` leads to whose test is a constant.
-use Rattle.std.proofs.Common.{◌≡◌, Bool, true, false, not, cond, Option, Some, None, refl, sym, ap, ◌∙◌, subst}
+use Rattle.std.proofs.Common.{◌≡◌, Bool, true, false, not, cond, Some, refl, sym, subst}
 use Rattle.ap_value.specs.Values.{val_of, value_eq}
 use Rattle.ap_term.specs.declared.term.Term.{Term}
 use Rattle.ap_world.specs.Primitives.{nil}
-use Rattle.ap_world.specs.Shapes.{Shape, constant, choice, shape_of}
+use Rattle.ap_world.specs.Shapes.{Shape, constant, shape_of}
 use Rattle.ap_kernel.specs.Answers.{if_of}
 use Rattle.ap_kernel.specs.Choices.{by_constant, choice_leads}
 use Rattle.ap_rewrite.specs.Rewriting.{truth_in, truth_of}

@@ -1,12 +1,12 @@
 -- Calls of what arguments lead to.
-use Rattle.std.proofs.Common.{◌≡◌, true, List, [], ◌∷◌, length, refl, sym, ap, ◌∙◌, subst}
+use Rattle.std.proofs.Common.{◌≡◌, true, List, [], ◌∷◌, length, sym, ap, ◌∙◌, subst}
 use Rattle.ap_list.specs.Lists.{Each}
 use Rattle.ap_value.specs.declared.symbol.Symbol.{Symbol}
 use Rattle.ap_value.specs.Values.{symbol_eq}
 use Rattle.ap_value.proofs.Equals.{symbol_eq-same}
-use Rattle.ap_term.specs.declared.term.Term.{Term, Call}
+use Rattle.ap_term.specs.declared.term.Term.{Term}
 use Rattle.ap_world.specs.Meaning.{Defs}
-use Rattle.ap_world.specs.World.{Shown, function_of}
+use Rattle.ap_world.specs.World.{Shown}
 use Rattle.ap_world.specs.Names.{not_name}
 use Rattle.ap_world.specs.Clauses.{not_of}
 use Rattle.ap_world.specs.Primitives.{prim_of}

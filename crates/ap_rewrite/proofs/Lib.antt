@@ -30,6 +30,7 @@ pub mod Reliefs
 pub mod Conged
 pub mod Indexing
 pub mod Called
+pub mod Branched
 pub mod Applied
 pub mod Opened
 pub mod Ran

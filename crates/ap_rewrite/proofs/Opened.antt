@@ -1,5 +1,5 @@
 -- A call of a defined function, and when it is opened.
-use Rattle.std.proofs.Common.{◌≡◌, Bool, true, false, not, ◌&&◌, ◌||◌, cond, List, Option, Some, None, IsTrue, is_some, refl, sym, ap, ◌∙◌, subst}
+use Rattle.std.proofs.Common.{◌≡◌, ℕ, Bool, true, false, not, ◌&&◌, ◌||◌, cond, List, ◌∷◌, Option, Some, None, IsTrue, is_some, nat_le, refl, sym, ap, ◌∙◌, subst}
 use Rattle.std.specs.Option.{option_map}
 use Rattle.ap_value.specs.declared.symbol.Symbol.{Symbol}
 use Rattle.ap_term.specs.declared.term.Term.{Term, Call}
@@ -8,6 +8,16 @@ use Rattle.ap_term.specs.Metered.{Got}
 use Rattle.ap_world.specs.declared.entry.Function.{Function}
 use Rattle.ap_world.specs.Meaning.{Defs}
 use Rattle.ap_kernel.specs.Opening.{opened, opened_layer, body_at}
+use Rattle.ap_kernel.specs.declared.objects.Mode.{Mode}
+use Rattle.ap_list.specs.Lists.{is_among}
+use Rattle.ap_value.specs.Values.{symbol_eq}
+use Rattle.ap_term.specs.Terms.{term_size}
+use Rattle.ap_world.specs.declared.theory.Rune.TheVariants as rune
+use Rattle.ap_world.specs.Theories.{is_enabled}
+use Rattle.ap_term.specs.Equal.{term_eq}
+use Rattle.ap_rewrite.specs.Settings.{Setting, Place, Inner}
+use Rattle.ap_rewrite.specs.Rewriting.{most_nodes, none, answered, walk, open_instance, opened as opening, by_definition}
+use Rattle.ap_rewrite.specs.Answering.{open_closed}
 
 pub opened_at : (D : Defs) (t : Term) (f : Symbol) (us : List Term) (g : Function) → t ≡ Call f us → D f ≡ Some g → opened D t ≡ Some (body_at g us)
 opened_at D t f us g e h = ap (opened D) e ∙ ap (opened_layer D) (outs-Call f us) ∙ ap (option_map (λ (k : Function). body_at k us)) h
@@ -39,3 +49,55 @@ is_opened true false true x y e f h = refl
 is_opened false b c x y e f h = cc
 is_opened true true c x y e f h = cc
 is_opened true false false x y e f h = cc
+
+-- the instance of a body: of a function that recurs it is rewritten where the call is to be opened, else walked down
+module _ (S : Setting) (r : Inner) (o : Mode) (p : Place) (f : Symbol) (u v : Term) (n : ℕ) where
+  abbrev shut : List Symbol → Place
+  shut fs = record { facts = p.facts; closed = fs; chain = p.chain }
+
+  abbrev by_list : List Symbol → Bool → Got (Option Term)
+  by_list fs b = cond b (answered (r o (shut fs) v n)) (walk S r o p (shut fs) v false n)
+
+  pub opened_whole : (fs : List Symbol) → is_among term_eq u S.expand ≡ true → fs ≡ f ∷ p.closed → answered (r o (shut fs) v n) ≡ open_closed S r o p f u v n
+  opened_whole fs e is = ap (by_list fs) (sym e) ∙ ap (λ gs. by_list gs (is_among term_eq u S.expand)) is
+
+  pub walked_down : (fs : List Symbol) → is_among term_eq u S.expand ≡ false → fs ≡ f ∷ p.closed → walk S r o p (shut fs) v false n ≡ open_closed S r o p f u v n
+  walked_down fs e is = ap (by_list fs) (sym e) ∙ ap (λ gs. by_list gs (is_among term_eq u S.expand)) is
+
+  abbrev by_measure : Bool → Got (Option Term)
+  by_measure b = cond (not b) (answered (r o p v n)) (open_closed S r o p f u v n)
+
+  pub recurring : (g : Function) → is_some g.measure ≡ true → open_closed S r o p f u v n ≡ open_instance S r o p u f g v n
+  recurring g e = ap by_measure (sym e)
+
+  pub plain : (g : Function) → is_some g.measure ≡ false → answered (r o p v n) ≡ open_instance S r o p u f g v n
+  plain g e = ap by_measure (sym e)
+
+-- a call of a defined function: its definition is disabled or it is closed, its instance is too large, or it is opened
+module _ (S : Setting) (r : Inner) (o : Mode) (p : Place) (t : Term) (f : Symbol) (us : List Term) (g : Function) (n : ℕ) where
+  pub disabled : is_enabled S.theory (rune.Definition f) ≡ false → none n ≡ opening S r o p t f us (Some g) n
+  disabled e = not_enabled (is_enabled S.theory (rune.Definition f)) (is_among symbol_eq f p.closed) (nat_le (term_size (body_at g us)) most_nodes) (open_instance S r o p t f g (body_at g us) n) (none n) e
+
+  pub among : is_among symbol_eq f p.closed ≡ true → none n ≡ opening S r o p t f us (Some g) n
+  among e = is_closed (is_enabled S.theory (rune.Definition f)) (is_among symbol_eq f p.closed) (nat_le (term_size (body_at g us)) most_nodes) (open_instance S r o p t f g (body_at g us) n) (none n) e
+
+  pub too_grown : (v : Term) → v ≡ body_at g us → nat_le (term_size v) most_nodes ≡ false → none n ≡ opening S r o p t f us (Some g) n
+  too_grown v e h =
+      too_large (is_enabled S.theory (rune.Definition f)) (is_among symbol_eq f p.closed) (nat_le (term_size (body_at g us)) most_nodes) (open_instance S r o p t f g (body_at g us) n) (none n)
+      (ap (λ (x : Term). nat_le (term_size x) most_nodes) (sym e) ∙ h)
+
+  pub let_in : (u v : Term) → is_enabled S.theory (rune.Definition f) ≡ true → is_among symbol_eq f p.closed ≡ false → v ≡ body_at g us → nat_le (term_size v) most_nodes ≡ true → u ≡ t
+      → open_instance S r o p u f g v n ≡ opening S r o p t f us (Some g) n
+  let_in u v e h is small same =
+      ap (λ (x : Term). open_instance S r o p x f g v n) same
+      ∙ ap (λ (x : Term). open_instance S r o p t f g x n) is
+      ∙ is_opened (is_enabled S.theory (rune.Definition f)) (is_among symbol_eq f p.closed) (nat_le (term_size (body_at g us)) most_nodes) (open_instance S r o p t f g (body_at g us) n) (none n)
+      e h (ap (λ (x : Term). nat_le (term_size x) most_nodes) (sym is) ∙ small)
+
+-- a function that isn't defined, and one that is
+pub undefined : (S : Setting) (r : Inner) (o : Mode) (p : Place) (f : Symbol) (us : List Term) (n : ℕ) → None ≡ S.functions f → none n ≡ by_definition S r o p f us n
+undefined S r o p f us n e = ap (λ (x : Option Function). opening S r o p (Call f us) f us x n) e
+
+pub defined : (S : Setting) (r : Inner) (o : Mode) (p : Place) (f : Symbol) (us : List Term) (n : ℕ) (g : Function) (t : Term) → t ≡ Call f us → Some g ≡ S.functions f
+    → opening S r o p t f us (Some g) n ≡ by_definition S r o p f us n
+defined S r o p f us n g t call e = ap (λ (u : Term). opening S r o p u f us (Some g) n) call ∙ ap (λ (x : Option Function). opening S r o p (Call f us) f us x n) e

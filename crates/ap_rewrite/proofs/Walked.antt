@@ -1,16 +1,21 @@
 -- The walk down a body, as the code takes it.
-use Rattle.std.proofs.Common.{◌≡◌, ℕ, ◌+◌, ◌*◌, ◌<◌, arith, Bool, true, false, cond, List, [], ◌∷◌, map, Option, Some, None, refl, sym, ap, ◌∙◌, subst}
+use Rattle.std.proofs.Common.{◌≡◌, ℕ, ◌+◌, ◌*◌, ◌<◌, arith, Bool, true, false, cond, List, [], ◌∷◌, map, Option, Some, None, Result, IfOk, IfSome, refl, sym, ap, ◌∙◌, subst}
+use Rattle.std.specs.declared.alloc.AllocError.{AllocError}
 use Rattle.ap_value.specs.declared.symbol.Symbol.{Symbol}
 use Rattle.ap_value.specs.declared.value.Value.{Value}
 use Rattle.ap_term.specs.declared.term.Term.{Term, Var, Quote, Call}
-use Rattle.ap_term.specs.Metered.{after}
+use Rattle.ap_term.specs.Metered.{Got, after}
 use Rattle.ap_term.specs.Terms.{size_step, term_size}
 use Rattle.ap_list.specs.Lists.{Each}
 use Rattle.ap_term.proofs.Induction.{term_ind, fold_call, para_var, para_quote, para_call}
 use Rattle.ap_world.specs.Names.{if_name}
 use Rattle.ap_world.specs.Shapes.{Shape, constant, choice, negation, equation, pair, other, Head, if_head, not_head, equal_head, cons_head, head_of, call_shape, shape_of}
+use Rattle.ap_world.specs.Sound.{known}
+use Rattle.ap_world.specs.World.{Shown, function_of}
 use Rattle.ap_world.proofs.Equations.{names_open}
 use Rattle.ap_world.proofs.Shaped.{shape_call}
+use Rattle.ap_kernel.specs.declared.objects.Ctx.{Ctx}
+use Rattle.ap_kernel.specs.declared.objects.Equiv.{Equiv}
 use Rattle.ap_kernel.specs.declared.objects.Mode.{Mode}
 use Rattle.ap_kernel.specs.declared.objects.Mode.TheVariants.{Iff}
 use Rattle.ap_kernel.specs.declared.shapes.ShapeRef.{ShapeRef}
@@ -20,8 +25,9 @@ use Rattle.ap_kernel.specs.Answers.{if_of}
 use Rattle.ap_kernel.specs.Choices.{is_choice}
 use denote.Ref.{Bor}
 use Rattle.ap_rewrite.specs.Settings.{Setting, Place, Inner}
-use Rattle.ap_rewrite.specs.Rewriting.{truth_of, Walk, walk_on, walk_shape, walk}
-use Rattle.ap_rewrite.specs.Answering.{leaf_on}
+use Rattle.ap_rewrite.specs.Rewriting.{truth_of, answered, none, both, Walk, walk_on, walk_shape, walk}
+use Rattle.ap_rewrite.specs.Answering.{From, leaf_on}
+use Rattle.ap_rewrite.proofs.Froms.{if_parts, choice_parts, right_known}
 
 abbrev pub branches_there : {A : Type 0} → Shape A → Bool
 branches_there (choice a b c) = true
@@ -54,7 +60,7 @@ module _ (S : Setting) (r : Inner) (o : Mode) (p q : Place) where
   abbrev pub down : Term → Walk
   down = walk S r o p q
 
-  firsts : (ts : List Term) → map (λ w. w.0) (map (λ (u : Term). (u, down u)) ts) ≡ ts
+  firsts : (ts : List Term) → map (λ (w : Term × Walk). w.0) (map (λ (u : Term). (u, down u)) ts) ≡ ts
   firsts [] = refl
   firsts (t ∷ ts) = ap (λ us. t ∷ us) (firsts ts)
 
@@ -127,3 +133,64 @@ walk_at S r o p q u a b c taken n is = ap (λ (x : Term). walk S r o p q x taken
 pub leaf_at : (S : Setting) (r : Inner) (o : Mode) (p q : Place) (u v : Term) (y : ShapeRef) (taken : Bool) (n : ℕ) → u ≡ v → seen y ≡ shape_of u → ((a b c : Bor Term) → y ≡ lent.If a b c → ⊥)
     → walk S r o p q v taken n ≡ leaf_on r o p v taken n
 leaf_at S r o p q u v y taken n is e h = subst (λ (x : Term). walk S r o p q x taken n ≡ leaf_on r o p x taken n) is (walk_leaf S r o p q u (no_branches u y e h) taken n)
+
+-- past an `if` whose test has become this: into the branch that a constant chooses, else to the end
+module _ (S : Setting) (r : Inner) (o : Mode) (p q : Place) (taken : Bool) (a b c : Term) (n : ℕ) where
+  abbrev pub past : Option Bool → Got (Option Term)
+  past x = walk_on S r o p q taken a x (b, walk S r o p q b) (c, walk S r o p q c) n
+
+  chosen : (s : Bool) → walk S r o p q (cond s b c) true n ≡ past (Some s)
+  chosen true = refl
+  chosen false = refl
+
+  pub past_chosen : (s : Bool) (v : Term) → truth_of a ≡ Some s → v ≡ cond s b c → walk S r o p q v true n ≡ past (truth_of a)
+  past_chosen s v e is = ap (λ (x : Term). walk S r o p q x true n) is ∙ chosen s ∙ ap past (sym e)
+
+  ended : taken ≡ true → answered (both S r o q a b c n) ≡ past None
+  ended e = ap (λ t. walk_on S r o p q t a None (b, walk S r o p q b) (c, walk S r o p q c) n) (sym e)
+
+  pub past_open : taken ≡ true → truth_of a ≡ None → answered (both S r o q a b c n) ≡ past (truth_of a)
+  past_open t e = ended t ∙ ap past (sym e)
+
+  left : taken ≡ false → none n ≡ past None
+  left e = ap (λ t. walk_on S r o p q t a None (b, walk S r o p q b) (c, walk S r o p q c) n) (sym e)
+
+  pub past_none : taken ≡ false → truth_of a ≡ None → none n ≡ past (truth_of a)
+  past_none t e = left t ∙ ap past (sym e)
+
+-- at an `if`: the steps run out in its test, or it is passed
+pub walk_out : (S : Setting) (r : Inner) (o : Mode) (p q : Place) (u a b c : Term) (taken : Bool) (n : ℕ) → u ≡ if_of a b c → None ≡ r Iff p a n → None ≡ walk S r o p q u taken n
+walk_out S r o p q u a b c taken n is e =
+    ap (λ (g : Got Term). after g (λ a'. walk_on S r o p q taken a' (truth_of a') (b, walk S r o p q b) (c, walk S r o p q c))) e ∙ sym (walk_at S r o p q u a b c taken n is)
+
+pub walk_past : (S : Setting) (r : Inner) (o : Mode) (p q : Place) (u a b c v : Term) (taken : Bool) (n m : ℕ) → u ≡ if_of a b c → Some (v, m) ≡ r Iff p a n
+    → walk_on S r o p q taken v (truth_of v) (b, walk S r o p q b) (c, walk S r o p q c) m ≡ walk S r o p q u taken n
+walk_past S r o p q u a b c v taken n m is e =
+    ap (λ (g : Got Term). after g (λ a'. walk_on S r o p q taken a' (truth_of a') (b, walk S r o p q b) (c, walk S r o p q c))) e ∙ sym (walk_at S r o p q u a b c taken n is)
+
+-- at what is no `if`
+pub leaf_none : (r : Inner) (o : Mode) (p : Place) (u : Term) (taken : Bool) (n : ℕ) → taken ≡ false → none n ≡ leaf_on r o p u taken n
+leaf_none r o p u taken n e = ap (λ t. leaf_on r o p u t n) (sym e)
+
+pub leaf_there : (r : Inner) (o : Mode) (p : Place) (u : Term) (taken : Bool) (n : ℕ) → taken ≡ true → answered (r o p u n) ≡ leaf_on r o p u taken n
+leaf_there r o p u taken n e = ap (λ t. leaf_on r o p u t n) (sym e)
+
+-- the parts of an `if` to which an equivalence leads
+pub led_parts : (w : Shown) (o : Mode) (k : Ctx) (u : Term) (q : Equiv) (a b c : Term) → From w o k u q → q.says.rhs ≡ if_of a b c
+    → (known (function_of w.entries) a ≡ true) × (known (function_of w.entries) b ≡ true) × (known (function_of w.entries) c ≡ true)
+led_parts w o k u q a b c f e = choice_parts (function_of w.entries) a b c (subst (λ (x : Term). known (function_of w.entries) x ≡ true) e (right_known w o k u q f))
+
+pub seen_parts : (w : Shown) (o : Mode) (k : Ctx) (u v : Term) (q : Equiv) (a b c : Term) → From w o k u q → v ≡ q.says.rhs → choice a b c ≡ shape_of v
+    → (q.says.rhs ≡ if_of a b c) × (known (function_of w.entries) a ≡ true)
+seen_parts w o k u v q a b c f same e =
+    let there : known (function_of w.entries) v ≡ true = subst (λ (x : Term). known (function_of w.entries) x ≡ true) (sym same) (right_known w o k u q f) in
+    let parts = if_parts (function_of w.entries) v a b c there (sym e) in
+    (sym same ∙ parts.0, parts.1)
+
+-- under facts that are the same
+pub same_place : (w : Shown) (o : Mode) (k l : Ctx) (u : Term) (x : Result (Option (Option Equiv)) AllocError) → k ≡ l
+    → IfOk x (λ y. IfSome y (λ a. IfSome a (From w o k u))) → IfOk x (λ y. IfSome y (λ a. IfSome a (From w o l u)))
+same_place w o k l u x e h = subst (λ (z : Ctx). IfOk x (λ y. IfSome y (λ a. IfSome a (From w o z u)))) e h
+
+pub from_there : (w : Shown) (o : Mode) (k l : Ctx) (u : Term) (q : Equiv) → k ≡ l → From w o k u q → From w o l u q
+from_there w o k l u q e f = subst (λ (z : Ctx). From w o z u q) e f

@@ -107,10 +107,11 @@ pub fn rewrite_call<
         return Ok(None);
     };
     let first = on_arguments(l.r, at.ctx, mode, f, args)?;
-    let Term::Call(g, vs) = first.rhs() else {
+    let call = first.rhs();
+    let Term::Call(g, vs) = call else {
         unreachable!()
     };
-    let Some(found) = tried(l, run, mode, at, first.rhs(), g, vs.as_slice())? else {
+    let Some(found) = tried(l, run, mode, at, call, g, vs.as_slice())? else {
         return Ok(None);
     };
     let q = followed(l.r, at.ctx, mode, first, found)?;

@@ -96,6 +96,7 @@ pub fn rewrite<O: TypeOracle>(
         Option<Equiv>,
         NoMemory,
     >
+        requires ready { Ready r.now }
         requires facts { KnownFacts (defs_in r.now) at.now.ctx.now.0 }
         requires term { IsTrue (known (defs_in r.now) t.now) }
         ensures is { IfOk result (λ o. got o run.new.left ≡ inner_of r.entry.now less mode (seen_at at.now) t.now run.old.left) }

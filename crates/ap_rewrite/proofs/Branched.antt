@@ -1,0 +1,79 @@
+-- An `if` and a negation whose parts are rewritten.
+use Rattle.std.proofs.Common.{◌≡◌, ℕ, Bool, true, false, cond, Option, Some, None, refl, ap, ◌∙◌, subst}
+use Rattle.ap_term.specs.declared.term.Term.{Term}
+use Rattle.ap_world.specs.World.{Shown}
+use Rattle.ap_world.specs.Facts.{Facts}
+use Rattle.ap_world.specs.Assume.{assume}
+use Rattle.ap_kernel.specs.declared.objects.Ctx.{Ctx}
+use Rattle.ap_kernel.specs.declared.objects.Mode.{Mode}
+use Rattle.ap_kernel.specs.declared.objects.Mode.TheVariants.{Iff}
+use Rattle.ap_kernel.specs.declared.objects.Equiv.{Equiv}
+use Rattle.ap_kernel.specs.Answers.{if_of}
+use Rattle.ap_rewrite.specs.Settings.{Setting, Place, Inner, under}
+use Rattle.ap_rewrite.specs.Rewriting.{truth_of, shaped, negated, both, branches, rewrite_if, rewrite_not}
+use Rattle.ap_rewrite.specs.Answering.{From}
+use Rattle.ap_rewrite.proofs.Froms.{from_own, from_at}
+
+module _ (S : Setting) (r : Inner) (o : Mode) (p : Place) where
+  -- a term to which another one has led
+  pub goes_on : (x a v z : Term) (n m : ℕ) → x ≡ a → Some (v, m) ≡ r o p x n → z ≡ v → Some (z, m) ≡ r o p a n
+  goes_on x a v z n m e h q = ap (λ z. Some (z, m)) q ∙ h ∙ ap (λ x. r o p x n) e
+
+  pub goes_out : (x a : Term) (n : ℕ) → x ≡ a → None ≡ r o p x n → None ≡ r o p a n
+  goes_out x a n e h = h ∙ ap (λ x. r o p x n) e
+
+  -- both branches of an `if`, and where the steps ran out in the first or the second
+  pub both_out : (a x b c : Term) (n : ℕ) → x ≡ a → None ≡ r o (under p x true) b n → None ≡ both S r o p a b c n
+  both_out a x b c n e h =
+      let i : None ≡ r o (under p a true) b n = subst (λ z. None ≡ r o (under p z true) b n) e h in
+      rw (← i) refl
+
+  pub second_out : (a x y b c v : Term) (n m : ℕ) → x ≡ a → y ≡ a → Some (v, m) ≡ r o (under p x true) b n → None ≡ r o (under p y false) c m → None ≡ both S r o p a b c n
+  second_out a x y b c v n m e f h k =
+      let i : Some (v, m) ≡ r o (under p a true) b n = subst (λ z. Some (v, m) ≡ r o (under p z true) b n) e h in
+      let j : None ≡ r o (under p a false) c m = subst (λ z. None ≡ r o (under p z false) c m) f k in
+      rw (← i) (rw (← j) refl)
+
+  pub both_is : (a x y b c v u z : Term) (n m k : ℕ) → x ≡ a → y ≡ a → Some (v, m) ≡ r o (under p x true) b n → Some (u, k) ≡ r o (under p y false) c m → z ≡ shaped S o p.facts a v u
+      → Some (z, k) ≡ both S r o p a b c n
+  both_is a x y b c v u z n m k e f h l q =
+      let i : Some (v, m) ≡ r o (under p a true) b n = subst (λ z. Some (v, m) ≡ r o (under p z true) b n) e h in
+      let j : Some (u, k) ≡ r o (under p a false) c m = subst (λ z. Some (u, k) ≡ r o (under p z false) c m) f l in
+      rw (← i) (rw (← j) (ap (λ z. Some (z, k)) q))
+
+  -- an `if` by what its test has become
+  pub branches_open : (t : Option Bool) (a b c : Term) (n : ℕ) → t ≡ None → both S r o p a b c n ≡ branches S r o p a t b c n
+  branches_open t a b c n e = rw e refl
+
+  pub branches_chosen : (t : Option Bool) (s : Bool) (a b c v : Term) (n : ℕ) → t ≡ Some s → v ≡ cond s b c → r o p v n ≡ branches S r o p a t b c n
+  branches_chosen t true a b c v n e h = rw (e, h) refl
+  branches_chosen t false a b c v n e h = rw (e, h) refl
+
+  -- an `if` whose test has become another term
+  pub if_goes : (a b c v : Term) (n m : ℕ) → Some (v, m) ≡ r Iff p a n → branches S r o p v (truth_of v) b c m ≡ rewrite_if S r o p a b c n
+  if_goes a b c v n m h = rw (← h) refl
+
+  pub if_out : (a b c : Term) (n : ℕ) → None ≡ r Iff p a n → None ≡ rewrite_if S r o p a b c n
+  if_out a b c n h = rw (← h) refl
+
+  -- a negation whose argument has
+  pub not_goes : (a v z : Term) (n m : ℕ) → Some (v, m) ≡ r Iff p a n → z ≡ negated S o p.facts v (truth_of v) → Some (z, m) ≡ rewrite_not S r o p a n
+  not_goes a v z n m h e = rw (← h) (ap (λ z. Some (z, m)) e)
+
+  pub not_out : (a : Term) (n : ℕ) → None ≡ r Iff p a n → None ≡ rewrite_not S r o p a n
+  not_out a n h = rw (← h) refl
+
+-- from the parts' own left sides
+pub branch_own : (w : Shown) (o : Mode) (fs : Facts) (x a : Term) (s : Bool) (u : Term) (q : Equiv) → x ≡ a → From w o (record { 0 = assume fs x s }) u q → From w o (record { 0 = assume fs a s }) q.says.lhs q
+branch_own w o fs x a s u q e h = from_own w o _ u q (subst (λ z. From w o (record { 0 = assume fs z s }) u q) e h)
+
+-- the `if` of what the parts were
+pub if_whole : (w : Shown) (o : Mode) (c : Ctx) (t x y u v : Term) (q : Equiv) → x ≡ u → y ≡ v → From w o c (if_of t x y) q → From w o c (if_of t u v) q
+if_whole w o c t x y u v q e f h = from_at w o c (if_of t x y) (if_of t u v) q (ap (λ z. if_of t z y) e ∙ ap (if_of t u) f) h
+
+pub if_parts_whole : (w : Shown) (o : Mode) (c : Ctx) (t x y s u v : Term) (q : Equiv) → t ≡ s → x ≡ u → y ≡ v → From w o c (if_of t x y) q → From w o c (if_of s u v) q
+if_parts_whole w o c t x y s u v q d e f h = if_whole w o c s x y u v q e f (from_at w o c (if_of t x y) (if_of s x y) q (ap (λ z. if_of z x y) d) h)
+
+pub chosen_same : (s : Bool) (x y u v z : Term) → z ≡ cond s x y → x ≡ u → y ≡ v → z ≡ cond s u v
+chosen_same true x y u v z h e f = h ∙ e
+chosen_same false x y u v z h e f = h ∙ f
