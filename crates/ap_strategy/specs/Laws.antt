@@ -5,8 +5,9 @@ use Rattle.std.proofs.lemmas.Bool.{leb-false}
 use Rattle.ap_list.specs.Lists.{Each}
 use Rattle.ap_term.specs.declared.term.Term.{Term}
 use Rattle.ap_term.specs.declared.term.Clause.{Clause}
-use Rattle.ap_world.specs.Meaning.{Defs, Total, Valid}
-use Rattle.ap_world.specs.Sound.{HasFunctions}
+use Rattle.ap_world.specs.Meaning.{Defs, Valid}
+use Rattle.ap_world.specs.Sound.{Sound, HasFunctions}
+use Rattle.ap_world.specs.World.{are_distinct}
 use Rattle.ap_world.specs.Ground.{not_function, ground_functions}
 use Rattle.ap_names.specs.Names.{Name}
 use Rattle.ap_walk.specs.declared.act.Reason.{Reason}
@@ -69,21 +70,21 @@ pub deeper : (g : Goal) → Each (λ c. depth_of c < depth_of g) (out_children (
 deeper g = of_step (λ g s. Each (λ c. depth_of c < depth_of g) (out_children s.out)) g (λ missed r. tt) (λ limited. tt) (λ ds above q. less_deep g (named g.name ds) above)
 
 -- the clauses of children that are good are valid
-module _ (g : Goal) (functions : HasFunctions (defs_of g.plan)) (total : Total (defs_of g.plan)) where
+module _ (g : Goal) (functions : HasFunctions (defs_of g.plan)) (sound : Sound g.plan.world.entries) (distinct : are_distinct g.plan.world.entries ≡ true) where
   counted_valid : (name : Name) (ds : List Clause) → Each (KnownClause (defs_of g.plan)) ds → Each IsGood (map (child g) (counted_down name ds)) → Each (λ (d : Clause). Valid (defs_of g.plan) d.0) ds
   counted_valid name [] ks gs = tt
-  counted_valid name (d ∷ ds) ks gs = (gs.0 functions total ks.0, counted_valid name ds ks.1 gs.1)
+  counted_valid name (d ∷ ds) ks gs = (gs.0 functions sound distinct ks.0, counted_valid name ds ks.1 gs.1)
 
   children_valid : (ds : List Clause) → Each (KnownClause (defs_of g.plan)) ds → Each IsGood (children g ds) → Each (λ (d : Clause). Valid (defs_of g.plan) d.0) ds
   children_valid [] ks gs = tt
-  children_valid (d ∷ []) ks gs = (gs.0 functions total ks.0, tt)
+  children_valid (d ∷ []) ks gs = (gs.0 functions sound distinct ks.0, tt)
   children_valid (d ∷ e ∷ ds) ks gs = counted_valid g.name (d ∷ e ∷ ds) ks gs
 
 split_good : (g : Goal) (ds : List Clause) → simplified g.plan.step_limit g.clause ≡ Some ds → Each IsGood (children g ds) → IsGood g
-split_good g ds q gs functions total k =
+split_good g ds q gs functions sound distinct k =
     let D = defs_of g.plan in
-    let r = simplified_reduces D total (kernel_ground D functions) g.plan.step_limit g.clause ds k q in
-    r.valid (children_valid g functions total ds r.goals gs)
+    let r = simplified_reduces D sound.total (kernel_ground D functions) g.plan.step_limit g.clause ds k q in
+    r.valid (children_valid g functions sound distinct ds r.goals gs)
 
 -- where all children of a goal that splits are good, the goal is
 pub whole : (g : Goal) → IsSplit (step_of g).out → Each IsGood (out_children (step_of g).out) → IsGood g

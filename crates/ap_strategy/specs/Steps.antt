@@ -5,9 +5,10 @@ use Rattle.ap_list.specs.Lists.{is_among, joined}
 use Rattle.ap_term.specs.declared.term.Term.{Term}
 use Rattle.ap_term.specs.declared.term.Clause.{Clause}
 use Rattle.ap_term.specs.Equal.{term_eq}
-use Rattle.ap_world.specs.Meaning.{Total, Valid}
+use Rattle.ap_world.specs.Meaning.{Valid}
 use Rattle.ap_world.specs.Recursion.{args_eq}
-use Rattle.ap_world.specs.Sound.{HasFunctions}
+use Rattle.ap_world.specs.Sound.{Sound, HasFunctions}
+use Rattle.ap_world.specs.World.{are_distinct}
 use Rattle.ap_world.specs.Shapes.{Shape, equation, shape_of}
 use Rattle.ap_names.specs.Names.{Name, child_of, primed_of}
 use Rattle.ap_walk.specs.declared.act.Reason.{Reason}
@@ -126,9 +127,9 @@ step_of g = cond g.induct (induct_step g) (clause_step g g.clause.0)
 abbrev pub depth_of : Goal → ℕ
 depth_of g = 250 - g.depth
 
--- what a proof of a goal establishes: in its plan's world, the clause is valid
+-- what a proof of a goal establishes: in its plan's world, where that is sound, the clause is valid
 abbrev pub IsGood : Goal → Type 0
-IsGood g = HasFunctions (defs_of g.plan) → Total (defs_of g.plan) → KnownClause (defs_of g.plan) g.clause → Valid (defs_of g.plan) g.clause.0
+IsGood g = HasFunctions (defs_of g.plan) → Sound g.plan.world.entries → are_distinct g.plan.world.entries ≡ true → KnownClause (defs_of g.plan) g.clause → Valid (defs_of g.plan) g.clause.0
 
 -- as inferences of the kernel
 abbrev pub settled_made : Clause → Inference

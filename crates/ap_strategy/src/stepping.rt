@@ -141,7 +141,8 @@ fn simplify_step<'a>(alloc: Global, task: &Task<'a>) -> Result<Stepped<Task<'a>>
     ensures { IfOk result (λ s. s ≡ simplify_step task.now (simplified task.now.plan.step_limit task.now.clause)) }
 {
     let clause = copy_clause(alloc, &task.clause)?;
-    let Some(clauses) = simplify(alloc, &task.plan.world, task.plan.step_limit, clause)? else {
+    let Some(clauses) = simplify(alloc, task.plan.world.world(), task.plan.step_limit, clause)?
+    else {
         return Ok(pushed(true));
     };
     if is_alone(&task.clause, clauses.as_slice()) {
