@@ -1,4 +1,3 @@
 pub mod Rooted
-pub mod Closing
 pub mod Places
 pub mod Counted
