@@ -14,7 +14,7 @@ mod task;
 
 pub use ap_list::{NoMemory, Seq};
 pub use ap_names::GoalName;
-pub use ap_rules::{Ruled, Ruled};
+pub use ap_rules::Ruled;
 pub use ap_term::{Clause, Term};
 pub use ap_walk::{Process, Step, Stepped};
 pub use ap_world::{Theory, World};
