@@ -1,5 +1,5 @@
 -- The waterfall's step on a goal: it is simplified, or it is pushed, or the attempt stops at it.
-use Rattle.std.specs.Prelude.{ℕ, ◌+◌, ◌-◌, Bool, true, false, cond, ◌||◌, nat_le, nat_lt, List, [], ◌∷◌, ◌++◌, length, map, Option, Some, None}
+use Rattle.std.specs.Prelude.{◌≡◌, ℕ, ◌+◌, ◌-◌, Bool, true, false, cond, ◌||◌, nat_le, nat_lt, List, [], ◌∷◌, ◌++◌, length, map, Option, Some, None}
 use Rattle.std.specs.Option.{option_map}
 use Rattle.ap_list.specs.Lists.{is_among, joined}
 use Rattle.ap_term.specs.declared.term.Term.{Term}
