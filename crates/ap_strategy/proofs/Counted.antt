@@ -39,8 +39,11 @@ simplify_few S n b c ds m h below one = go (rewrite_literals S [] c.0 n) refl h
     go None q h = cc
     go (Some (None, k)) q h = let e : length {A = Clause} [] ≡ length ds = none_is ds m k h in omega arith
       where
-        none_is : (ds : List Clause) (m k : ℕ) → Some ([], k) ≡ Some (ds, m) → length {A = Clause} [] ≡ length ds
-        none_is ds m k e = cc
+        none_is : (ds : List Clause) (m k : ℕ) → ◌≡◌ {A = Option (List Clause × ℕ)} (Some ([], k)) (Some (ds, m)) → length {A = Clause} [] ≡ length ds
+        none_is ds m k e = ap (λ (p : List Clause × ℕ). length p.0) (same ([], k) (ds, m) e)
+          where
+            same : (x y : List Clause × ℕ) → ◌≡◌ {A = Option (List Clause × ℕ)} (Some x) (Some y) → x ≡ y
+            same x y e = cc
     go (Some (Some us, k)) q h =
         let cost = literals_metered S [] c.0 n (Some us) k q in
         let spent : n ≡ k + cost.cost = cost.spent in

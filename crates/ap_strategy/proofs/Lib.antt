@@ -1,3 +1,4 @@
 pub mod Rooted
 pub mod Places
 pub mod Counted
+pub mod Grounded

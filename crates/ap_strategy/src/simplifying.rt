@@ -169,6 +169,7 @@ pub(crate) fn simplify(
     ensures known { IfOk result (λ o. IfSome o (Each (KnownClause (defs_of plan.now)))) }
     ensures few { IfOk result (λ o. IfSome o (λ cs. length cs < 2 ^ 32)) }
 {
+    let _limit = plan.step_limit;
     let Some(reduction) = reduce(alloc, plan, settings, c)? else {
         return Ok(None);
     };
