@@ -2,15 +2,17 @@ ghost use Rattle.std.specs.Prelude.{◌≡◌, IfOk};
 ghost use Rattle.ap_strategy.specs.Goals.{first_settings};
 
 use ap_list::{NoMemory, Seq};
+use ap_rules::Ruled;
 use ap_term::{Term, copy_terms};
 use ap_walk::Process;
-use ap_world::{Theory, World, copy_theory};
+use ap_world::{Theory, copy_theory};
 use std::alloc::Global;
 
-/// What the goals of an attempt are worked by: the world, and the number of steps that one clause may spend.
+/// What the goals of an attempt are worked by: the world with the index of its rules, and the number of steps that
+/// one clause may spend.
 #[derive(Drop)]
 pub struct Plan {
-    pub world: World,
+    pub world: Ruled,
     pub step_limit: u32,
 }
 
@@ -27,7 +29,7 @@ pub struct Settings {
 pub fn first_settings(alloc: Global, plan: &Plan) -> Result<Settings, NoMemory>
     ensures { IfOk result (λ s. s ≡ first_settings plan.now) }
 {
-    let theory = copy_theory(alloc, plan.world.theory())?;
+    let theory = copy_theory(alloc, plan.world.world().theory())?;
     Ok(Settings {
         theory,
         expand: Seq::new(alloc),

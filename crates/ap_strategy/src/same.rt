@@ -9,7 +9,7 @@ use ap_world::{same_theory, same_world};
 pub(crate) fn same_plan(a: &Plan, b: &Plan) -> bool
     ensures { IsTrue result ↔ (a.now ≡ b.now) }
 {
-    a.step_limit == b.step_limit && same_world(&a.world, &b.world)
+    a.step_limit == b.step_limit && same_world(a.world.world(), b.world.world())
 }
 
 /// Whether two lists of processes are one. Takes no memory.

@@ -86,7 +86,7 @@ pub fn root_task<'a>(alloc: Global, plan: &'a Plan, term: &Term) -> Result<Task<
     requires term { IsTrue (known (defs_of plan.now) term.now) }
     ensures { IfOk result (λ t. t ≡ root_goal plan.now term.now) }
 {
-    plan.world.is_sound();
+    plan.world.world().is_sound();
     let name = root_name(alloc);
     let clause = flat(alloc, term)?;
     let settings = first_settings(alloc, plan)?;

@@ -8,6 +8,7 @@ use ap_eval::is_known;
 use ap_ground::ground_world;
 use ap_ground::laws::ground_has_its_functions;
 use ap_list::{NoMemory, Seq};
+use ap_rules::Ruled;
 use ap_strategy::{Acl2Step, Plan, Task};
 use ap_term::Term;
 use ap_value::{Value, acl2};
@@ -100,7 +101,7 @@ fn first_plan(alloc: Global) -> Result<Plan, NoMemory>
     ensures { IfOk result (λ p. HasFunctions (defs_of p)) }
 {
     ground_has_its_functions();
-    let world = ground_world(alloc)?;
+    let world = Ruled::of(alloc, ground_world(alloc)?)?;
     Ok(Plan {
         world,
         step_limit: 100,
@@ -111,7 +112,7 @@ fn first_plan(alloc: Global) -> Result<Plan, NoMemory>
 fn root<'a>(alloc: Global, plan: &'a Plan, t: &Term) -> Result<Task<'a>, NoMemory>
     requires { HasFunctions (defs_of plan.now) }
 {
-    if is_known(&plan.world, t) {
+    if is_known(plan.world.world(), t) {
         Acl2Step::new(plan).root(alloc, t)
     } else {
         Err(AllocError)
