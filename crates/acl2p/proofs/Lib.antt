@@ -1,4 +1,3 @@
-pub mod Commanding
 pub mod Grammars
 pub mod Numbers
 pub mod Showing

@@ -1,10 +1,12 @@
--- The command's words: for now they name exactly one book, behind the option `--goals N` where that is given.
-use Rattle.std.specs.Prelude.{ℕ, ◌+◌, ◌*◌, ◌-◌, Bool, false, cond, not, ◌&&◌, ◌||◌, nat_eq, nat_le, List, [], ◌∷◌, length, Option, Some, None, codes, string_bytes}
+-- The command's words: for now they name exactly one book, behind the options `--steps N` and `--goals N` where these are
+-- given, in any order.
+use Rattle.std.specs.Prelude.{ℕ, ◌+◌, ◌*◌, ◌-◌, Bool, false, cond, not, ◌&&◌, ◌||◌, nat_eq, nat_le, List, [], ◌∷◌, length, Option, Some, None, unwrap_or, codes, string_bytes}
 use Rattle.std.specs.List.{list_all}
 use Rattle.ap_value.specs.Values.{bytes_eq}
 use Rattle.ap_events.specs.declared.limits.Limits.{Limits}
 use Rattle.ap_events.specs.Limits.{limits_of}
 use Rattle.acl2p.specs.declared.command.Command as commands
+use Rattle.acl2p.specs.declared.command.Options as options
 
 -- between two codes, both among them
 abbrev pub is_between : ℕ → ℕ → ℕ → Bool
@@ -51,26 +53,58 @@ pub record Command : Type 0 where
   pub book : List ℕ
   pub limits : Limits
 
+-- the options that are given, each at most once: how many steps a clause may spend, and how many goals an attempt may
+-- visit
+pub record Options : Type 0 where
+  pub steps : Option ℕ
+  pub goals : Option ℕ
+
+abbrev pub no_options : Options
+no_options = record { steps = None; goals = None }
+
+-- an option's number, where there is one and the option comes for the first time
+abbrev pub once : Option ℕ → Option ℕ → Option ℕ
+once None n = n
+once (Some k) n = None
+
+abbrev pub with_steps : Options → Option ℕ → Option Options
+with_steps p None = None
+with_steps p (Some n) = Some (record p { steps = Some n })
+
+abbrev pub with_goals : Options → Option ℕ → Option Options
+with_goals p None = None
+with_goals p (Some n) = Some (record p { goals = Some n })
+
+-- one option more, of these words
+abbrev pub with_option : Options → List ℕ → List ℕ → Option Options
+with_option p o n =
+    cond (bytes_eq o (codes "--steps")) (with_steps p (once p.steps (number_in 1000000 n)))
+    (cond (bytes_eq o (codes "--goals")) (with_goals p (once p.goals (number_in 100000 n))) None)
+
+-- a clause may spend 100,000 steps, and an attempt visit 10,000 goals where the words don't say how many
+abbrev pub limits_in : Options → Option Limits
+limits_in p = limits_of (unwrap_or p.steps 100000) (unwrap_or p.goals 10000)
+
 abbrev pub book_command : Option Limits → List ℕ → Option Command
 book_command None w = None
 book_command (Some limits) w = cond (is_book_name w) (Some (record { book = w; limits = limits })) None
 
--- a clause may spend 100,000 steps, and an attempt visit 10,000 goals where the words don't say how many
-abbrev pub with_goals : Option ℕ → Option Limits
-with_goals None = None
-with_goals (Some goals) = limits_of 100000 goals
+abbrev pub go_on : Option Options → (Options → Option Command) → Option Command
+go_on None k = None
+go_on (Some p) k = k p
 
--- the option on goals, its number and a book's name
-abbrev pub goals_command : List ℕ → List ℕ → List ℕ → Option Command
-goals_command o n w = cond (bytes_eq o (codes "--goals")) (book_command (with_goals (number_in 100000 n)) w) None
+-- options, each with its number, and then a book's name
+abbrev pub command_from : List (List ℕ) → Options → Option Command
+command_from [] p = None
+command_from (w ∷ []) p = book_command (limits_in p) w
+command_from (o ∷ n ∷ ws) p = go_on (with_option p o n) (command_from ws)
 
 abbrev pub command_of : List (List ℕ) → Option Command
-command_of [] = None
-command_of (w ∷ []) = book_command (with_goals (Some 10000)) w
-command_of (o ∷ w ∷ []) = None
-command_of (o ∷ n ∷ w ∷ []) = goals_command o n w
-command_of (o ∷ n ∷ w ∷ v ∷ ws) = None
+command_of ws = command_from ws no_options
 
--- a command as the program holds it
+-- options and a command as the program holds them
+abbrev pub shown_options : options.Options → Options
+shown_options p = record { steps = p.steps; goals = p.goals }
+
 abbrev pub shown_command : commands.Command → Command
 shown_command c = record { book = string_bytes c.book.now; limits = c.limits }

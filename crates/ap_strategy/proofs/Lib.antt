@@ -1,4 +1,4 @@
 pub mod Rooted
-pub mod Closing
 pub mod Places
 pub mod Counted
+pub mod Grounded

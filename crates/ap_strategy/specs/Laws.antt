@@ -17,8 +17,12 @@ use Rattle.ap_walk.specs.declared.act.Stepped.{Stepped}
 use Rattle.ap_walk.specs.Visits.{Tells, IsSplit, out_children}
 use Rattle.ap_kernel.specs.Standing.{HasGround}
 use Rattle.ap_kernel.specs.Reductions.{KnownClause}
+use Rattle.ap_rewrite.specs.Arithmetic.{no_arithmetic}
+use Rattle.ap_rewrite.specs.SoundSettings.{SoundSetting}
+use Rattle.ap_rewrite.proofs.ArithmeticSound.{nothing_sound}
+use Rattle.ap_rewrite.proofs.InWorldStands.{sound_setting}
 use Rattle.ap_strategy.specs.Goals.{Goal, defs_of}
-use Rattle.ap_strategy.specs.Steps.{simplified, is_alone, counted_down, named, child, children, done, stop_step, simplify_step, clause_step, induct_step, step_of, depth_of, IsGood}
+use Rattle.ap_strategy.specs.Steps.{setting_of, simplified, is_alone, counted_down, named, child, children, done, stop_step, simplify_step, clause_step, induct_step, step_of, depth_of, IsGood}
 use Rattle.ap_strategy.specs.Reduced.{simplified_reduces}
 
 -- what the kernel asks of a world is the first of its functions
@@ -30,8 +34,8 @@ kernel_ground D functions = functions.0
 module _ (P : Goal → Stepped Goal → Type 0) (g : Goal)
     (stops : (missed : Bool) (r : Reason) → P g (stop_step missed r))
     (pushes : (limited : Bool) → P g (done Process.Push true limited Out.Push))
-    (splits : (ds : List Clause) → g.depth < 250 → simplified g.plan.step_limit g.clause ≡ Some ds → P g (done Process.Simplify false false (Out.Split (children g ds)))) where
-  of_simplified : (o : Option (List Clause)) → g.depth < 250 → simplified g.plan.step_limit g.clause ≡ o → P g (simplify_step g o)
+    (splits : (ds : List Clause) → g.depth < 250 → simplified (setting_of g) g.plan.step_limit g.clause ≡ Some ds → P g (done Process.Simplify false false (Out.Split (children g ds)))) where
+  of_simplified : (o : Option (List Clause)) → g.depth < 250 → simplified (setting_of g) g.plan.step_limit g.clause ≡ o → P g (simplify_step g o)
   of_simplified None above q = pushes true
   of_simplified (Some ds) above q = go (is_alone g.clause ds)
     where
@@ -43,9 +47,9 @@ module _ (P : Goal → Stepped Goal → Type 0) (g : Goal)
   of_clause [] = stops true Reason.EmptyClause
   of_clause (u ∷ us) = go (nat_le 250 g.depth) refl
     where
-      go : (b : Bool) → nat_le 250 g.depth ≡ b → P g (cond b (stop_step false Reason.PathDepth) (simplify_step g (simplified g.plan.step_limit g.clause)))
+      go : (b : Bool) → nat_le 250 g.depth ≡ b → P g (cond b (stop_step false Reason.PathDepth) (simplify_step g (simplified (setting_of g) g.plan.step_limit g.clause)))
       go true q = stops false Reason.PathDepth
-      go false q = of_simplified (simplified g.plan.step_limit g.clause) (above q) refl
+      go false q = of_simplified (simplified (setting_of g) g.plan.step_limit g.clause) (above q) refl
         where
           above : nat_le 250 g.depth ≡ false → g.depth < 250
           above q = leb-false 250 g.depth q
@@ -80,10 +84,14 @@ module _ (g : Goal) (functions : HasFunctions (defs_of g.plan)) (sound : Sound g
   children_valid (d ∷ []) ks gs = (gs.0 functions sound distinct ks.0, tt)
   children_valid (d ∷ e ∷ ds) ks gs = counted_valid g.name (d ∷ e ∷ ds) ks gs
 
-split_good : (g : Goal) (ds : List Clause) → simplified g.plan.step_limit g.clause ≡ Some ds → Each IsGood (children g ds) → IsGood g
+-- what the goal's literals are rewritten by is right
+setting_is_sound : (g : Goal) → HasFunctions (defs_of g.plan) → Sound g.plan.world.entries → are_distinct g.plan.world.entries ≡ true → SoundSetting (setting_of g)
+setting_is_sound g functions sound distinct =
+    sound_setting g.plan.world g.settings.theory g.settings.expand no_arithmetic sound (kernel_ground (defs_of g.plan) functions) distinct (nothing_sound (defs_of g.plan))
+
+split_good : (g : Goal) (ds : List Clause) → simplified (setting_of g) g.plan.step_limit g.clause ≡ Some ds → Each IsGood (children g ds) → IsGood g
 split_good g ds q gs functions sound distinct k =
-    let D = defs_of g.plan in
-    let r = simplified_reduces D sound.total (kernel_ground D functions) g.plan.step_limit g.clause ds k q in
+    let r = simplified_reduces (setting_of g) (setting_is_sound g functions sound distinct) g.plan.step_limit g.clause ds k q in
     r.valid (children_valid g functions sound distinct ds r.goals gs)
 
 -- where all children of a goal that splits are good, the goal is

@@ -1,15 +1,13 @@
 -- The waterfall's step on a goal: it is simplified, or it is pushed, or the attempt stops at it.
-use Rattle.std.specs.Prelude.{◌≡◌, ℕ, ◌+◌, ◌-◌, Bool, true, false, cond, ◌||◌, nat_le, nat_lt, List, [], ◌∷◌, ◌++◌, length, map, Option, Some, None}
+use Rattle.std.specs.Prelude.{◌≡◌, ℕ, ◌+◌, ◌-◌, Bool, true, false, cond, nat_le, nat_lt, List, [], ◌∷◌, ◌++◌, length, map, Option, Some, None}
 use Rattle.std.specs.Option.{option_map}
 use Rattle.ap_list.specs.Lists.{is_among, joined}
 use Rattle.ap_term.specs.declared.term.Term.{Term}
 use Rattle.ap_term.specs.declared.term.Clause.{Clause}
-use Rattle.ap_term.specs.Equal.{term_eq}
 use Rattle.ap_world.specs.Meaning.{Valid}
 use Rattle.ap_world.specs.Recursion.{args_eq}
 use Rattle.ap_world.specs.Sound.{Sound, HasFunctions}
 use Rattle.ap_world.specs.World.{are_distinct}
-use Rattle.ap_world.specs.Shapes.{Shape, equation, shape_of}
 use Rattle.ap_names.specs.Names.{Name, child_of, primed_of}
 use Rattle.ap_walk.specs.declared.act.Reason.{Reason}
 use Rattle.ap_walk.specs.declared.act.Process.{Process}
@@ -17,30 +15,29 @@ use Rattle.ap_walk.specs.declared.act.Out.{Out}
 use Rattle.ap_walk.specs.declared.act.Stepped.{Stepped}
 use Rattle.ap_kernel.specs.declared.reductions.Inference.{Inference}
 use Rattle.ap_kernel.specs.Reductions.{KnownClause}
-use Rattle.ap_kernel.specs.Tidying.{tidied, holds_by_itself}
+use Rattle.ap_kernel.specs.Tidying.{tidied, holds_by_itself, tidy_goals}
 use Rattle.ap_kernel.specs.Solving.{solved_made}
-use Rattle.ap_clausify.specs.Splitting.{split_of}
+use Rattle.ap_rewrite.specs.Settings.{Setting}
+use Rattle.ap_rewrite.specs.Arithmetic.{no_arithmetic}
+use Rattle.ap_rewrite.specs.InWorld.{setting_in}
+use Rattle.ap_rewrite.specs.Literals.{simplify_of}
+use Rattle.ap_strategy.specs.declared.plan.Plan.{Plan}
+use Rattle.ap_strategy.specs.declared.plan.Settings.{Settings}
 use Rattle.ap_strategy.specs.Goals.{Goal, defs_of}
 
--- (equal a a)
-abbrev pub is_reflexive : Shape Term → Bool
-is_reflexive (equation a b) = term_eq a b
-is_reflexive y = false
+-- what a goal's literals are rewritten by: its plan's world and the settings that hold for it
+abbrev pub setting_by : Plan → Settings → Setting
+setting_by plan s = setting_in plan.world s.theory s.expand no_arithmetic
 
-abbrev pub any_reflexive : List Term → Bool
-any_reflexive [] = false
-any_reflexive (u ∷ us) = is_reflexive (shape_of u) || any_reflexive us
-
--- a tidied clause that needs no proof: it holds by itself, or it has a literal (equal a a)
-abbrev pub is_closed : List Term → Bool
-is_closed us = holds_by_itself us || any_reflexive us
+abbrev pub setting_of : Goal → Setting
+setting_of g = setting_by g.plan g.settings
 
 abbrev pub tidied_clause : Clause → Clause
 tidied_clause c = record { 0 = tidied c.0 }
 
--- a clause tidied, or none where it then needs no proof
+-- a clause tidied, or none where it then holds by itself
 abbrev pub settled : Clause → List Clause
-settled c = cond (is_closed (tidied c.0)) [] (tidied_clause c ∷ [])
+settled c = tidy_goals (tidied c.0)
 
 -- what comes first, if there is one, else what comes later
 abbrev pub or_later : {A : Type 0} → Option A → Option A → Option A
@@ -56,14 +53,16 @@ first_solved c i (u ∷ us) = or_later (solved_made c i) (first_solved c (i + 1)
 abbrev pub settled_all : List Clause × ℕ → List Clause
 settled_all p = joined (map settled p.0)
 
--- a tidied clause with a variable solved, else split; None where the steps ran out
-abbrev pub opened : ℕ → Clause → Option Inference → Option (List Clause)
-opened steps c (Some r) = Some r.to
-opened steps c None = option_map settled_all (split_of steps c)
+-- a tidied clause with a variable solved, else with its literals rewritten, and then split; None where the steps ran
+-- out
+abbrev pub opened : Setting → ℕ → Clause → Option Inference → Option (List Clause)
+opened S steps c (Some r) = Some r.to
+opened S steps c None = option_map settled_all (simplify_of S steps c)
 
--- what a clause is reduced to: to none where the tidied clause needs no proof
-abbrev pub reduced : ℕ → Clause → Option (List Clause)
-reduced steps c = cond (is_closed (tidied c.0)) (Some []) (opened steps (tidied_clause c) (first_solved (tidied_clause c) 0 (tidied c.0)))
+-- what a clause is reduced to: to none where the tidied clause holds by itself
+abbrev pub reduced : Setting → ℕ → Clause → Option (List Clause)
+reduced S steps c =
+    cond (holds_by_itself (tidied c.0)) (Some []) (opened S steps (tidied_clause c) (first_solved (tidied_clause c) 0 (tidied c.0)))
 
 abbrev pub literals_of : Clause → List Term
 literals_of c = c.0
@@ -77,8 +76,8 @@ unrepeated ds [] = ds
 unrepeated ds (c ∷ cs) = unrepeated (cond (is_repeated ds c) ds (ds ++ c ∷ [])) cs
 
 -- what simplification makes of a clause: later equal clauses are left out
-abbrev pub simplified : ℕ → Clause → Option (List Clause)
-simplified steps c = option_map (unrepeated []) (reduced steps c)
+abbrev pub simplified : Setting → ℕ → Clause → Option (List Clause)
+simplified S steps c = option_map (unrepeated []) (reduced S steps c)
 
 -- the clause alone
 abbrev pub is_alone : Clause → List Clause → Bool
@@ -114,7 +113,7 @@ stop_step missed r = done Process.Stop missed false (Out.Stop r)
 -- the empty clause counts as left unchanged
 abbrev pub clause_step : Goal → List Term → Stepped Goal
 clause_step g [] = stop_step true Reason.EmptyClause
-clause_step g us = cond (nat_le 250 g.depth) (stop_step false Reason.PathDepth) (simplify_step g (simplified g.plan.step_limit g.clause))
+clause_step g us = cond (nat_le 250 g.depth) (stop_step false Reason.PathDepth) (simplify_step g (simplified (setting_of g) g.plan.step_limit g.clause))
 
 -- there is no induction yet
 abbrev pub induct_step : Goal → Stepped Goal
@@ -132,8 +131,5 @@ abbrev pub IsGood : Goal → Type 0
 IsGood g = HasFunctions (defs_of g.plan) → Sound g.plan.world.entries → are_distinct g.plan.world.entries ≡ true → KnownClause (defs_of g.plan) g.clause → Valid (defs_of g.plan) g.clause.0
 
 -- as inferences of the kernel
-abbrev pub settled_made : Clause → Inference
-settled_made c = record { from = c; to = settled c }
-
 abbrev pub reduced_to : Clause → List Clause → Inference
 reduced_to c ds = record { from = c; to = ds }

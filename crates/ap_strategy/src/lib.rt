@@ -1,11 +1,11 @@
 //! One step of the waterfall of ACL2 (the manual's topic `hints-and-the-waterfall`; "Computer-Aided
 //! Reasoning", 2000) on a goal: the goal is simplified, or it is pushed, or the attempt stops at it. Each
-//! clause that a goal is simplified to comes from the kernel's rows.
+//! clause that a goal is simplified to comes from the kernel's rows: a clause is tidied; a literal that solves a
+//! variable replaces it; or else each literal is rewritten, and what is left is split and tidied.
 #![tactic(auto)]
 
 mod clauses;
 mod plan;
-mod reflexive;
 mod same;
 mod simplifying;
 mod step;

@@ -1,40 +1,26 @@
-ghost use Rattle.std.specs.Prelude.{◌≡◌, ◌<◌, ◌^◌, [], ◌∷◌, length, IfOk, IfSome, MatchOption, IsTrue, IsSomeAnd, is_some, map, Some, None};
+ghost use Rattle.std.specs.Prelude.{◌≡◌, ◌<◌, ◌^◌, [], ◌∷◌, length, IfOk, IfSome, MatchOption, IsTrue, is_some, map, Some, None};
 ghost use Rattle.std.specs.Option.{option_map};
 ghost use Rattle.ap_list.specs.Lists.{Each, joined};
+ghost use Rattle.ap_world.specs.Sound.{HasFunctions};
 ghost use Rattle.ap_world.specs.World.{function_of};
 ghost use Rattle.ap_kernel.specs.Standing.{HasGround};
 ghost use Rattle.ap_kernel.specs.Reductions.{KnownClause, Reduces, claims};
 ghost use Rattle.ap_kernel.specs.Solving.{solved_made};
-ghost use Rattle.ap_clausify.specs.Splitting.{split_of};
-ghost use Rattle.ap_strategy.specs.Steps.{settled, settled_made, settled_all, first_solved, opened, reduced, simplified, reduced_to};
+ghost use Rattle.ap_kernel.specs.Tidying.{tidy_made};
+ghost use Rattle.ap_rewrite.specs.Literals.{simplify_of};
+ghost use Rattle.ap_rewrite.specs.Answering.{Ready, setting_of as rewriter_setting};
+ghost use Rattle.ap_strategy.specs.Goals.{defs_of};
+ghost use Rattle.ap_strategy.specs.Steps.{setting_by, settled, settled_all, first_solved, opened, reduced, simplified, reduced_to};
 
 use crate::clauses::{copy_clause, without_repeats};
-use crate::reflexive::{close, reflexive_place};
-use ap_clausify::split;
+use crate::plan::{Plan, Settings};
 use ap_kernel::{Reduction, chain, is_solvable, tidy, use_equality};
 use ap_list::{NoMemory, Seq};
+use ap_rewrite::Rewriter;
 use ap_term::{Clause, Steps};
+use ap_types::Types;
 use ap_world::World;
 use std::alloc::Global;
-
-/// From a clause to its plain form, or to no clause where that needs no proof.
-fn settle(alloc: Global, w: &World, c: Clause) -> Result<Reduction, NoMemory>
-    requires ground { HasGround (function_of w.now.entries) }
-    requires clause { KnownClause (function_of w.now.entries) c }
-    ensures stands { IfOk result (λ r. Reduces w.now r) }
-    ensures made { IfOk result (λ r. r.says ≡ settled_made c) }
-{
-    let tidied = tidy(alloc, w, c)?;
-    let [plain] = tidied.to().as_slice() else {
-        return Ok(tidied);
-    };
-    let Some(place) = reflexive_place(plain.0.as_slice()) else {
-        return Ok(tidied);
-    };
-    let closed = close(alloc, w, copy_clause(alloc, plain)?, place)?;
-    let settled = then(alloc, w, tidied, closed)?;
-    Ok(settled)
-}
 
 /// From a clause to what its one clause is reduced to.
 fn then(alloc: Global, w: &World, first: Reduction, next: Reduction) -> Result<Reduction, NoMemory>
@@ -50,16 +36,16 @@ fn then(alloc: Global, w: &World, first: Reduction, next: Reduction) -> Result<R
     Ok(both)
 }
 
-/// What each of some clauses is settled to.
+/// What each of some clauses is tidied to.
 fn settle_all(alloc: Global, w: &World, cs: &[Clause]) -> Result<Seq<Reduction>, NoMemory>
     requires ground { HasGround (function_of w.now.entries) }
     requires clauses { Each (KnownClause (function_of w.now.entries)) cs.now }
-    ensures made { IfOk result (λ rs. claims rs ≡ map settled_made cs.now) }
+    ensures made { IfOk result (λ rs. claims rs ≡ map tidy_made cs.now) }
     ensures stand { IfOk result (λ rs. Each (Reduces w.now) rs) }
 {
     let mut out = Seq::new(alloc);
     for c in cs {
-        out.push(settle(alloc, w, copy_clause(alloc, c)?)?)?;
+        out.push(tidy(alloc, w, copy_clause(alloc, c)?)?)?;
     }
     Ok(out)
 }
@@ -88,70 +74,103 @@ fn settle_cases(alloc: Global, w: &World, cases: Reduction) -> Result<Reduction,
     Ok(answer)
 }
 
-/// From a clause to those that it is split into, each settled. `None` where the steps ran out.
-fn split_settled(
-    alloc: Global,
-    w: &World,
-    limit: u32,
-    c: Clause,
-) -> Result<Option<Reduction>, NoMemory>
-    requires ground { HasGround (function_of w.now.entries) }
-    requires clause { KnownClause (function_of w.now.entries) c }
-    ensures stands { IfOk result (λ o. IfSome o (Reduces w.now)) }
-    ensures made { IfOk result (λ o. option_map (λ r. r.says) o ≡ option_map (reduced_to c) (option_map settled_all (split_of limit c))) }
+/// What a goal's literals are rewritten by.
+fn rewriter<'a>(alloc: Global, plan: &'a Plan, settings: &'a Settings) -> Rewriter<'a, Types>
+    requires functions { HasFunctions (defs_of plan.now) }
+    ensures ready { Ready result }
+    ensures setting { rewriter_setting result ≡ setting_by plan.now settings.now }
+    ensures world { result.w.now ≡ plan.now.world }
 {
-    let mut steps = Steps { left: limit };
-    let Some(cases) = split(alloc, w, c, &mut steps)?.reduction else {
-        return Ok(None);
-    };
-    Ok(Some(settle_cases(alloc, w, cases)?))
+    Rewriter {
+        alloc,
+        w: plan.world.world(),
+        rules: plan.world.rules(),
+        theory: &settings.theory,
+        expand: &settings.expand,
+        oracle: &Types,
+    }
 }
 
-/// From a tidied clause to the one with a variable replaced that a literal solves, or else to those that it
-/// is split into, each settled. `None` where the steps ran out.
-fn open(alloc: Global, w: &World, limit: u32, c: Clause) -> Result<Option<Reduction>, NoMemory>
-    requires ground { HasGround (function_of w.now.entries) }
-    requires clause { KnownClause (function_of w.now.entries) c }
-    ensures stands { IfOk result (λ o. IfSome o (Reduces w.now)) }
-    ensures made { IfOk result (λ o. option_map (λ r. r.says) o ≡ option_map (reduced_to c) (opened limit c (first_solved c 0 c.0))) }
+/// From a clause to those that are left once its literals are rewritten and it is split, each tidied. `None`
+/// where the steps ran out.
+fn rewrite_settled(
+    alloc: Global,
+    plan: &Plan,
+    settings: &Settings,
+    c: Clause,
+) -> Result<Option<Reduction>, NoMemory>
+    requires functions { HasFunctions (defs_of plan.now) }
+    requires clause { KnownClause (defs_of plan.now) c }
+    ensures stands { IfOk result (λ o. IfSome o (Reduces plan.now.world)) }
+    ensures made { IfOk result (λ o. option_map (λ r. r.says) o ≡ option_map (reduced_to c) (option_map settled_all (simplify_of (setting_by plan.now settings.now) plan.now.step_limit c))) }
+{
+    let by = rewriter(alloc, plan, settings);
+    let mut steps = Steps {
+        left: plan.step_limit,
+    };
+    let Some(cases) = ap_rewrite::simplify(&by, &mut steps, c)? else {
+        return Ok(None);
+    };
+    Ok(Some(settle_cases(alloc, plan.world.world(), cases)?))
+}
+
+/// From a tidied clause to the one with a variable replaced that a literal solves, or else to those that are left
+/// once it is rewritten. `None` where the steps ran out.
+fn open(
+    alloc: Global,
+    plan: &Plan,
+    settings: &Settings,
+    c: Clause,
+) -> Result<Option<Reduction>, NoMemory>
+    requires functions { HasFunctions (defs_of plan.now) }
+    requires clause { KnownClause (defs_of plan.now) c }
+    ensures stands { IfOk result (λ o. IfSome o (Reduces plan.now.world)) }
+    ensures made { IfOk result (λ o. option_map (λ r. r.says) o ≡ option_map (reduced_to c) (opened (setting_by plan.now settings.now) plan.now.step_limit c (first_solved c 0 c.0))) }
 {
     match solvable_place(&c) {
-        Some(place) => Ok(Some(use_equality(alloc, w, c, place)?)),
-        None => split_settled(alloc, w, limit, c),
+        Some(place) => Ok(Some(use_equality(alloc, plan.world.world(), c, place)?)),
+        None => rewrite_settled(alloc, plan, settings, c),
     }
 }
 
 /// From a clause to what it is reduced to. `None` where the steps ran out.
-fn reduce(alloc: Global, w: &World, limit: u32, c: Clause) -> Result<Option<Reduction>, NoMemory>
-    requires ground { HasGround (function_of w.now.entries) }
-    requires clause { KnownClause (function_of w.now.entries) c }
-    ensures stands { IfOk result (λ o. IfSome o (Reduces w.now)) }
-    ensures made { IfOk result (λ o. option_map (λ r. r.says) o ≡ option_map (reduced_to c) (reduced limit c)) }
+fn reduce(
+    alloc: Global,
+    plan: &Plan,
+    settings: &Settings,
+    c: Clause,
+) -> Result<Option<Reduction>, NoMemory>
+    requires functions { HasFunctions (defs_of plan.now) }
+    requires clause { KnownClause (defs_of plan.now) c }
+    ensures stands { IfOk result (λ o. IfSome o (Reduces plan.now.world)) }
+    ensures made { IfOk result (λ o. option_map (λ r. r.says) o ≡ option_map (reduced_to c) (reduced (setting_by plan.now settings.now) plan.now.step_limit c)) }
 {
-    let settled = settle(alloc, w, c)?;
-    let [plain] = settled.to().as_slice() else {
-        return Ok(Some(settled));
+    let w = plan.world.world();
+    let tidied = tidy(alloc, w, c)?;
+    let [plain] = tidied.to().as_slice() else {
+        return Ok(Some(tidied));
     };
-    let Some(opened) = open(alloc, w, limit, copy_clause(alloc, plain)?)? else {
+    let Some(opened) = open(alloc, plan, settings, copy_clause(alloc, plain)?)? else {
         return Ok(None);
     };
-    Ok(Some(then(alloc, w, settled, opened)?))
+    Ok(Some(then(alloc, w, tidied, opened)?))
 }
 
 /// The clauses that simplification makes of a clause. `None` where the steps ran out.
 pub(crate) fn simplify(
     alloc: Global,
-    w: &World,
-    limit: u32,
+    plan: &Plan,
+    settings: &Settings,
     c: Clause,
 ) -> Result<Option<Seq<Clause>>, NoMemory>
-    requires ground { HasGround (function_of w.now.entries) }
-    requires clause { KnownClause (function_of w.now.entries) c }
-    ensures made { IfOk result (λ o. o ≡ simplified limit c) }
-    ensures known { IfOk result (λ o. IfSome o (Each (KnownClause (function_of w.now.entries)))) }
+    requires functions { HasFunctions (defs_of plan.now) }
+    requires clause { KnownClause (defs_of plan.now) c }
+    ensures made { IfOk result (λ o. o ≡ simplified (setting_by plan.now settings.now) plan.now.step_limit c) }
+    ensures known { IfOk result (λ o. IfSome o (Each (KnownClause (defs_of plan.now)))) }
     ensures few { IfOk result (λ o. IfSome o (λ cs. length cs < 2 ^ 32)) }
 {
-    let Some(reduction) = reduce(alloc, w, limit, c)? else {
+    let _limit = plan.step_limit;
+    let Some(reduction) = reduce(alloc, plan, settings, c)? else {
         return Ok(None);
     };
     let (_, clauses) = reduction.into_parts();

@@ -6,7 +6,7 @@ ghost use Rattle.ap_walk.specs.declared.act.Out.{Out};
 ghost use Rattle.ap_walk.specs.declared.act.Reason.{Reason};
 ghost use Rattle.ap_kernel.specs.Reductions.{KnownClause};
 ghost use Rattle.ap_strategy.specs.Goals.{defs_of, IsGoal};
-ghost use Rattle.ap_strategy.specs.Steps.{child, counted_down, children, done, stop_step, simplify_step, simplified, clause_step, induct_step, step_of};
+ghost use Rattle.ap_strategy.specs.Steps.{setting_of, child, counted_down, children, done, stop_step, simplify_step, simplified, clause_step, induct_step, step_of};
 
 use crate::clauses::{copy_clause, is_alone};
 use crate::plan::copy_settings;
@@ -138,11 +138,10 @@ fn simplified<'a>(children: Seq<Task<'a>>) -> Stepped<Task<'a>>
 fn simplify_step<'a>(alloc: Global, task: &Task<'a>) -> Result<Stepped<Task<'a>>, NoMemory>
     requires above { task.now.depth < 250 }
     requires plain { task.now.induct ≡ false }
-    ensures { IfOk result (λ s. s ≡ simplify_step task.now (simplified task.now.plan.step_limit task.now.clause)) }
+    ensures { IfOk result (λ s. s ≡ simplify_step task.now (simplified (setting_of task.now) task.now.plan.step_limit task.now.clause)) }
 {
     let clause = copy_clause(alloc, &task.clause)?;
-    let Some(clauses) = simplify(alloc, task.plan.world.world(), task.plan.step_limit, clause)?
-    else {
+    let Some(clauses) = simplify(alloc, task.plan, &task.settings, clause)? else {
         return Ok(pushed(true));
     };
     if is_alone(&task.clause, clauses.as_slice()) {

@@ -22,13 +22,13 @@ use std::process::Abort;
 /// with the number of children or of the reason, and with the clause; and the names of the goals.
 const ROWS: &str =
     "(WALK 9 (IMPLIES (EQUAL X Y) (EQUAL Y X)) (SIMPLIFY 1 (OR (NOT (EQUAL X Y)) (EQUAL Y X))) (SIMPLIFY 0 (OR (EQUAL Y Y)))) => Goal, Goal'
-(WALK 9 (IF (EQUAL (EQUAL X Y) (EQUAL Z W)) (EQUAL U V) 'NIL) (SIMPLIFY 2 (OR (IF (EQUAL (EQUAL X Y) (EQUAL Z W)) (EQUAL U V) 'NIL))) (PUSH 0 (OR (NOT (EQUAL (EQUAL X Y) (EQUAL Z W))) (EQUAL U V))) (PUSH 0 (OR (EQUAL (EQUAL X Y) (EQUAL Z W))))) => Goal, Subgoal 2, Subgoal 1
+(WALK 14 (IF (EQUAL (EQUAL X Y) (EQUAL Z W)) (EQUAL U V) 'NIL) (SIMPLIFY 2 (OR (IF (EQUAL (EQUAL X Y) (EQUAL Z W)) (EQUAL U V) 'NIL))) (PUSH 0 (OR (NOT (EQUAL (EQUAL X Y) (EQUAL Z W))) (EQUAL U V))) (PUSH 0 (OR (EQUAL (EQUAL X Y) (EQUAL Z W))))) => Goal, Subgoal 2, Subgoal 1
 (WALK 9 'NIL (SIMPLIFY 1 (OR 'NIL)) (EMPTY 2 (OR))) => Goal, Goal'
 (WALK 9 (EQUAL X Y) (PUSH 0 (OR (EQUAL X Y)))) => Goal
-(WALK 4 (IF X (IF Y Z W) U) (SIMPLIFY 3 (OR (IF X (IF Y Z W) U))) (PUSH 0 (OR (NOT X) (NOT Y) Z)) (PUSH 0 (OR (NOT X) Y W)) (PUSH 0 (OR X U))) => Goal, Subgoal 3, Subgoal 2, Subgoal 1
-(WALK 3 (IF X (IF Y Z W) U) (LIMITED 0 (OR (IF X (IF Y Z W) U)))) => Goal
+(WALK 11 (IF X (IF Y Z W) U) (SIMPLIFY 3 (OR (IF X (IF Y Z W) U))) (PUSH 0 (OR (NOT X) (NOT Y) Z)) (PUSH 0 (OR (NOT X) Y W)) (PUSH 0 (OR X U))) => Goal, Subgoal 3, Subgoal 2, Subgoal 1
+(WALK 10 (IF X (IF Y Z W) U) (LIMITED 0 (OR (IF X (IF Y Z W) U)))) => Goal
 (WALK 9 (IF X (EQUAL Y Y) (IF X Z X)) (SIMPLIFY 1 (OR (IF X (EQUAL Y Y) (IF X Z X)))) (PUSH 0 (OR X))) => Goal, Goal'
-(WALK 9 (IMPLIES (NOT (NOT (EQUAL X (CONS Y Z)))) (IMPLIES (EQUAL W X) (CONSP W))) (SIMPLIFY 1 (OR (NOT (EQUAL X (CONS Y Z))) (NOT (EQUAL W X)) (CONSP W))) (SIMPLIFY 1 (OR (NOT (EQUAL W (CONS Y Z))) (CONSP W))) (PUSH 0 (OR (CONSP (CONS Y Z))))) => Goal, Goal', Goal''
+(WALK 9 (IMPLIES (NOT (NOT (EQUAL X (CONS Y Z)))) (IMPLIES (EQUAL W X) (CONSP W))) (SIMPLIFY 1 (OR (NOT (EQUAL X (CONS Y Z))) (NOT (EQUAL W X)) (CONSP W))) (SIMPLIFY 1 (OR (NOT (EQUAL W (CONS Y Z))) (CONSP W))) (SIMPLIFY 0 (OR (CONSP (CONS Y Z))))) => Goal, Goal', Goal''
 (WALK 0 (IMPLIES (CONSP X) (IMPLIES (NOT (CONSP X)) Y)) (SIMPLIFY 0 (OR (NOT (CONSP X)) (CONSP X) Y))) => Goal";
 
 /// A plan of the ground world.
