@@ -290,7 +290,17 @@ x:y => Read error 12 BadPackage at 20
 ((f) x) => FORM refused 1 NotSupported
 (3 . x) => FORM refused 1 NotSupported
 (in-package "ACL2") => IN-PACKAGE refused 1 NotSupported
-(defthmd a (equal x x) :rule-classes nil) => DEFTHMD refused 1 NotSupported
+(defthmd 3 (equal x x)) => DEFTHM refused 2 BadEvent
+(defund f (3) x) => DEFUN refused 2 BadEvent
+(in-theory) => IN-THEORY refused 2 BadEvent
+(in-theory (enable car) (disable car)) => IN-THEORY refused 2 BadEvent
+(in-theory (enable . car)) => IN-THEORY refused 2 BadEvent
+(in-theory (e/d (not))) => IN-THEORY refused 2 BadEvent
+(in-theory (current-theory :here)) => IN-THEORY refused 2 BadEvent
+(in-theory (enable foo)) => IN-THEORY refused 4.1 UnknownName
+(in-theory (disable car)) => IN-THEORY refused 4.1 UnknownName
+(in-theory (enable (:rewrite not))) => IN-THEORY refused 4.1 UnknownName
+(in-theory (enable not 3)) => IN-THEORY refused 4.1 UnknownName
 (local . 3) => LOCAL refused 1 NotSupported
 (|a b|) => |a b| refused 1 NotSupported
 (:key) => :KEY refused 1 NotSupported
@@ -311,9 +321,12 @@ x:y => Read error 12 BadPackage at 20
 (defthm a x :rule-classes nil :rule-classes nil) => DEFTHM refused 2 BadEvent
 (defthm a x :rule-classes rewrite) => DEFTHM refused 2 BadEvent
 (defthm a x :hints nil :rule-classes (:rewrite :elim)) => DEFTHM refused 2 BadEvent
-(defthm a (equal x x)) => DEFTHM refused 1 NotSupported
-(defthm a (equal x x) :rule-classes :linear) => DEFTHM refused 1 NotSupported
-(defthm a (equal x x) :rule-classes (:rewrite :type-prescription)) => DEFTHM refused 1 NotSupported
+(defthm a (equal x x)) => DEFTHM A / DEFTHM A refused 5.1 LhsVariable
+(defthm a (equal x x) :rule-classes :linear) => DEFTHM A / DEFTHM A refused 5.4 NotInequality
+(defthm a (equal x x) :rule-classes (:type-prescription :rewrite)) => DEFTHM A / DEFTHM A refused 5.1 LhsVariable
+(defthm a (equal 'b (car x))) => DEFTHM A / DEFTHM A refused 5.2 LhsConstant
+(defthm a (equal (car x) (cdr y))) => DEFTHM A / DEFTHM A refused 5.3 FreeInRhs
+(defthm a (consp x) :rule-classes :type-prescription) => DEFTHM A / DEFTHM A refused 5.5 NotTypeForm
 (defthm a (equal x x) :hints nil :rule-classes nil) => DEFTHM refused 1 NotSupported
 (defun) => DEFUN refused 2 BadEvent
 (defun f (x)) => DEFUN refused 2 BadEvent
@@ -378,6 +391,9 @@ const ADMITTED: &str = r##"(defun f (x) x) => DEFUN F / DEFUN F admitted
 (defconst *c* #\a) (defconst *d* "s") => DEFCONST *C* admitted / DEFCONST *D* admitted
 (defconst *c* :key) (defconst *d* t) (defconst *e* ()) => DEFCONST *C* admitted / DEFCONST *D* admitted / DEFCONST *E* admitted
 (defconst *c* '(1 2)) (defthm a (equal *c* '(1 2)) :rule-classes nil) => DEFCONST *C* admitted / DEFTHM A / Goal simplify 0 / DEFTHM A proved
+(defthmd a (equal (car x) (car x)) :rule-classes ()) => DEFTHM A / Goal simplify 0 / DEFTHM A proved
+(defund f (x) x) (in-theory (e/d (f (:executable-counterpart f)) (not))) => DEFUN F / DEFUN F admitted / IN-THEORY admitted
+(in-theory (enable)) => IN-THEORY admitted
 (defthm a (equal `x `x) :rule-classes nil) => DEFTHM A / Goal simplify 0 / DEFTHM A proved
 (defthm s (implies (equal x y) (equal y x)) :rule-classes nil) => DEFTHM S / Goal simplify 1 / Goal' simplify 0 / DEFTHM S proved
 (defthm a (implies (and p q) (or q r)) :rule-classes nil) => DEFTHM A / Goal simplify 0 / DEFTHM A proved
@@ -430,12 +446,12 @@ fn prints_each(
 
 #[test]
 fn each_fault_and_refusal_is_printed(rt: HostRuntime) -> Result<(), Fail> {
-    prints_each(&rt, rt.alloc(), REFUSED, "Book b not certified\n", 90)
+    prints_each(&rt, rt.alloc(), REFUSED, "Book b not certified\n", 103)
 }
 
 #[test]
 fn what_is_admitted_is_printed(rt: HostRuntime) -> Result<(), Fail> {
-    prints_each(&rt, rt.alloc(), ADMITTED, "Book b certified\n", 17)
+    prints_each(&rt, rt.alloc(), ADMITTED, "Book b certified\n", 20)
 }
 
 #[test]

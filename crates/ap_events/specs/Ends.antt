@@ -1,9 +1,10 @@
 -- What an event comes to: a text, and the next world where it is admitted.
-use Rattle.std.specs.Prelude.{◌≡◌, ℕ, List, Option, Some, None}
+use Rattle.std.specs.Prelude.{◌≡◌, ℕ, List, ◌++◌, Option, Some, None}
 use Rattle.ap_value.specs.declared.symbol.Symbol.{Symbol}
 use Rattle.ap_world.specs.declared.entry.Entry.{Entry}
 use Rattle.ap_world.specs.World.{Shown, added}
 use Rattle.ap_events.specs.declared.end.EventEnd.{EventEnd}
+use Rattle.ap_events.specs.declared.end.RuledEnd.{RuledEnd}
 use Rattle.ap_events.specs.Texts.{not_supported_text, bad_event_text, event_text, refused_as}
 
 -- an event's text, and the world after it where it is admitted
@@ -41,14 +42,20 @@ abbrev pub world_in : EventEnd → Shown
 world_in (EventEnd.Admitted w text) = w
 world_in (EventEnd.Refused w text) = w
 
-abbrev pub step_in : EventEnd → Step
-step_in e = record { text = text_in e; next = next_in e }
-
--- the world that was handed in, where the event is refused; else one with one entry more
-abbrev pub Follows : Shown → EventEnd → Type 0
-Follows w (EventEnd.Admitted v text) = (e : Entry) × (v ≡ added w e)
-Follows w (EventEnd.Refused v text) = v ≡ w
-
+-- the world that was handed in, where the event is refused
 abbrev pub Kept : Shown → EventEnd → Type 0
 Kept w (EventEnd.Admitted v text) = Unit {0}
 Kept w (EventEnd.Refused v text) = v ≡ w
+
+-- without the index of the world's rules
+abbrev pub without_index : RuledEnd → EventEnd
+without_index (RuledEnd.Admitted w text) = EventEnd.Admitted w text
+without_index (RuledEnd.Refused w text) = EventEnd.Refused w text
+
+abbrev pub step_in : RuledEnd → Step
+step_in e = record { text = text_in (without_index e); next = next_in (without_index e) }
+
+-- the world that was handed in, where the event is refused; else one with entries more at its end, if any
+abbrev pub Follows : Shown → RuledEnd → Type 0
+Follows w (RuledEnd.Admitted v text) = (es : List Entry) × (v.entries ≡ w.entries ++ es)
+Follows w (RuledEnd.Refused v text) = v ≡ w

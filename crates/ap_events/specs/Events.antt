@@ -5,18 +5,43 @@ use Rattle.ap_value.specs.Values.{acl2, symbol_eq}
 use Rattle.ap_world.specs.World.{Shown}
 use Rattle.ap_reader.specs.declared.form.Form.{Form}
 use Rattle.ap_events.specs.declared.limits.Limits.{Limits}
-use Rattle.ap_events.specs.Shapes.{head_of, statement_of, definition_of, constant_of}
+use Rattle.ap_events.specs.Shapes.{Stated, Defined, head_of, statement_of, definition_of, constant_of}
 use Rattle.ap_events.specs.Texts.{no_head_text}
-use Rattle.ap_events.specs.Ends.{Step, refused, not_supported}
-use Rattle.ap_events.specs.Theorems.{theorem_step}
-use Rattle.ap_events.specs.Definitions.{definition_step}
+use Rattle.ap_events.specs.Ends.{Step, refused, not_supported, bad_event}
+use Rattle.ap_events.specs.Theorems.{stated_theorem, theorem_step}
+use Rattle.ap_events.specs.Definitions.{plain_definition, definition_step}
 use Rattle.ap_events.specs.Constants.{constant_step}
+use Rattle.ap_events.specs.Changes.{changes_of, theory_step, disabled}
+
+-- `defthmd` and `defund` print as `defthm` and `defun`, and disable the name that they made
+abbrev pub theorem_head : Symbol
+theorem_head = acl2 (codes "DEFTHM")
+
+abbrev pub definition_head : Symbol
+definition_head = acl2 (codes "DEFUN")
+
+abbrev pub disabled_statement : Limits → Shown → Stated → Step
+disabled_statement limits w s = disabled s.name (stated_theorem limits w theorem_head s)
+
+unfoldable pub disabled_theorem : Limits → Shown → Option Stated → Step
+disabled_theorem limits w None = bad_event theorem_head
+disabled_theorem limits w (Some s) = disabled_statement limits w s
+
+abbrev pub disabled_function : Shown → Defined → Step
+disabled_function w d = disabled d.name (plain_definition w definition_head d)
+
+unfoldable pub disabled_definition : Shown → Option Defined → Step
+disabled_definition w None = bad_event definition_head
+disabled_definition w (Some d) = disabled_function w d
 
 unfoldable pub named_event : Limits → Shown → Form → Symbol → Step
 named_event limits w f h =
     cond (symbol_eq h (acl2 (codes "DEFTHM"))) (theorem_step limits w h (statement_of f))
     (cond (symbol_eq h (acl2 (codes "DEFUN"))) (definition_step w h (definition_of f))
-    (cond (symbol_eq h (acl2 (codes "DEFCONST"))) (constant_step w h (constant_of f)) (not_supported h)))
+    (cond (symbol_eq h (acl2 (codes "DEFCONST"))) (constant_step w h (constant_of f))
+    (cond (symbol_eq h (acl2 (codes "DEFTHMD"))) (disabled_theorem limits w (statement_of f))
+    (cond (symbol_eq h (acl2 (codes "DEFUND"))) (disabled_definition w (definition_of f))
+    (cond (symbol_eq h (acl2 (codes "IN-THEORY"))) (theory_step w h (changes_of f)) (not_supported h))))))
 
 unfoldable pub headed_event : Limits → Shown → Form → Option Symbol → Step
 headed_event limits w f None = refused no_head_text

@@ -1,11 +1,14 @@
 pub mod Attempts
 pub mod Bounds
+pub mod Changes
+pub mod Classes
 pub mod Constants
 pub mod Definitions
 pub mod Ends
 pub mod Events
 pub mod Limits
 pub mod Lines
+pub mod Runes
 pub mod Shapes
 pub mod Texts
 pub mod Theorems

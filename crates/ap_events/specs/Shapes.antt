@@ -1,10 +1,11 @@
 -- The shapes of events: `defthm`, `defun` and `defconst`.
-use Rattle.std.specs.Prelude.{ℕ, Bool, true, false, cond, ◌&&◌, ◌||◌, not, List, [], ◌∷◌, ◌++◌, Option, Some, None, is_some, option_map, codes}
+use Rattle.std.specs.Prelude.{ℕ, Bool, true, false, cond, ◌&&◌, ◌||◌, List, [], ◌∷◌, ◌++◌, Option, Some, None, is_some, option_map, codes}
 use Rattle.std.specs.List.{list_all}
 use Rattle.ap_value.specs.declared.symbol.Symbol.{Symbol}
 use Rattle.ap_value.specs.Values.{bytes_eq}
 use Rattle.ap_reader.specs.declared.form.Form.{Form}
 use Rattle.ap_reader.specs.declared.form.Body.TheOpen.{Body-F}
+use Rattle.ap_events.specs.declared.shapes.Choices.{Choices}
 use Rattle.ap_events.specs.declared.shapes.Statement.{Statement}
 use Rattle.ap_events.specs.declared.shapes.Declared.{Declared}
 use Rattle.ap_events.specs.declared.shapes.Preamble.{Preamble}
@@ -127,35 +128,38 @@ abbrev pub none_or : (Form → Bool) → Option Form → Bool
 none_or good None = true
 none_or good (Some f) = good f
 
-abbrev pub gives_nil : Option Form → Bool
-gives_nil None = false
-gives_nil (Some f) = is_nil f
+-- what follows a theorem's term: its classes, if they are given, and whether hints are
+pub record Chosen : Type 0 where
+  pub classes : Option Form
+  pub hinted : Bool
 
--- What follows a theorem's term. It says whether the classes are given as `nil` and no hints are given;
--- None: it isn't of the shape.
-abbrev pub plain_by : Option Form → Option Form → Option Bool
-plain_by classes hints = cond (none_or are_classes classes) (Some (gives_nil classes && not (is_given hints))) None
+abbrev pub as_chosen : Choices → Chosen
+as_chosen c = record { classes = option_map (λ f. f.now) c.classes; hinted = c.hinted }
 
-abbrev pub plain_of : List Form → Option Bool
-plain_of fs =
+-- None: it isn't of the shape
+abbrev pub chosen_by : Option Form → Option Form → Option Chosen
+chosen_by classes hints = cond (none_or are_classes classes) (Some (record { classes = classes; hinted = is_given hints })) None
+
+abbrev pub chosen_of : List Form → Option Chosen
+chosen_of fs =
     cond (are_keyed (codes "RULE-CLASSES" ∷ codes "HINTS" ∷ []) fs)
-    (both plain_by (given_once (codes "RULE-CLASSES") fs) (given_once (codes "HINTS") fs))
+    (both chosen_by (given_once (codes "RULE-CLASSES") fs) (given_once (codes "HINTS") fs))
     None
 
 -- a theorem as its event states it
 pub record Stated : Type 0 where
   pub name : Symbol
   pub term : Form
-  pub plain : Bool
+  pub chosen : Chosen
 
 abbrev pub as_stated : Statement → Stated
-as_stated s = record { name = s.name.now; term = s.term.now; plain = s.plain }
+as_stated s = record { name = s.name.now; term = s.term.now; chosen = as_chosen s.choices }
 
-abbrev pub stated_by : Form → Symbol → Bool → Option Stated
-stated_by u n plain = Some (record { name = n; term = u; plain = plain })
+abbrev pub stated_by : Form → Symbol → Chosen → Option Stated
+stated_by u n chosen = Some (record { name = n; term = u; chosen = chosen })
 
 abbrev pub statement_of_parts : Option (List Form) → Option Stated
-statement_of_parts (Some (h ∷ n ∷ u ∷ fs)) = both (stated_by u) (name_in n) (plain_of fs)
+statement_of_parts (Some (h ∷ n ∷ u ∷ fs)) = both (stated_by u) (name_in n) (chosen_of fs)
 statement_of_parts o = None
 
 abbrev pub statement_of : Form → Option Stated

@@ -2,6 +2,7 @@
 use Rattle.std.specs.Prelude.{ℕ, List, [], ◌∷◌, ◌++◌, codes, decimal}
 use Rattle.ap_value.specs.declared.symbol.Symbol.{Symbol}
 use Rattle.ap_term.specs.Printed.{symbol_text}
+use Rattle.ap_rules.specs.declared.refusing.RuleError.{RuleError}
 use Rattle.ap_translate.specs.declared.fault.TransKind.{TransKind}
 use Rattle.ap_translate.specs.declared.fault.TransKind.TheVariants as kinds
 use Rattle.ap_translate.specs.Answers as translation
@@ -42,6 +43,15 @@ kind_text kinds.CommaOutside = codes "CommaOutside"
 unfoldable pub translation_text : TransKind → List ℕ
 translation_text k = codes "4." ++ decimal (translation.number_of k) ++ codes " " ++ kind_text k
 
+-- why a theorem gives no rules of its classes
+unfoldable pub rule_text : RuleError → List ℕ
+rule_text RuleError.LhsVariable = codes "5.1 LhsVariable"
+rule_text RuleError.LhsConstant = codes "5.2 LhsConstant"
+rule_text RuleError.FreeInRhs = codes "5.3 FreeInRhs"
+rule_text RuleError.NotInequality = codes "5.4 NotInequality"
+rule_text RuleError.NotTypeForm = codes "5.5 NotTypeForm"
+rule_text RuleError.NoMemory = []
+
 unfoldable pub reason_text : Reason → List ℕ
 reason_text Reason.NoScheme = codes "NoScheme"
 reason_text Reason.EmptyClause = codes "EmptyClause"
@@ -60,3 +70,7 @@ event_text head n lines said = event_line head n [] ++ lines ++ event_line head 
 -- a constant's event has the last line alone
 abbrev pub constant_line : Symbol → List ℕ → List ℕ
 constant_line n said = event_line (codes "DEFCONST") n said
+
+-- that of a theory has no name
+unfoldable pub theory_line : List ℕ → List ℕ
+theory_line said = codes "IN-THEORY" ++ line said

@@ -3,51 +3,65 @@
 use Rattle.std.specs.Prelude.{ℕ, cond, List, [], ◌++◌, Option, Some, None, Ok, Err, codes}
 use Rattle.ap_value.specs.declared.symbol.Symbol.{Symbol}
 use Rattle.ap_term.specs.declared.term.Term.{Term}
-use Rattle.ap_world.specs.declared.entry.Entry.{Entry}
+use Rattle.ap_world.specs.declared.entry.Theorem.{Theorem}
 use Rattle.ap_world.specs.declared.entry.Entry.TheVariants as entry
 use Rattle.ap_world.specs.World.{Shown, has_name}
 use Rattle.ap_walk.specs.declared.act.Reason.{Reason}
+use Rattle.ap_rules.specs.declared.refusing.RuleError.{RuleError}
+use Rattle.ap_rules.specs.Refused.{refusal}
 use Rattle.ap_translate.specs.Answers.{Answer}
 use Rattle.ap_translate.specs.Table.{translated}
 use Rattle.ap_events.specs.declared.limits.Limits.{Limits}
 use Rattle.ap_events.specs.declared.attempting.Tried.{Tried}
 use Rattle.ap_events.specs.Shapes.{Stated}
+use Rattle.ap_events.specs.Classes.{classes_in}
 use Rattle.ap_events.specs.Attempts.{tried, plan_for}
-use Rattle.ap_events.specs.Texts.{event_text, translation_text, failure_text}
+use Rattle.ap_events.specs.Texts.{event_text, translation_text, rule_text, failure_text}
 use Rattle.ap_events.specs.Ends.{Step, refused_event, not_supported, bad_event, admitted}
 
-abbrev pub theorem_entry : Symbol → Term → Entry
-theorem_entry n u = entry.Theorem (record { name = n; term = u; classes = [] })
-
-abbrev pub added_theorem : Shown → Symbol → Term → List ℕ → Step
-added_theorem w n u lines = admitted w (theorem_entry n u) (event_text (codes "DEFTHM") n lines (codes " proved"))
+abbrev pub added_theorem : Shown → Theorem → List ℕ → Step
+added_theorem w t lines = admitted w (entry.Theorem t) (event_text (codes "DEFTHM") t.name lines (codes " proved"))
 
 abbrev pub refused_theorem : Symbol → List ℕ → List ℕ → Step
 refused_theorem n lines reason = refused_event (codes "DEFTHM") n lines reason
 
 -- it is added where the attempt proves it; else its checkpoints follow the attempt's lines
-unfoldable pub ended_theorem : Shown → Symbol → Term → List ℕ → List ℕ → Option Reason → Step
-ended_theorem w n u lines checkpoints None = added_theorem w n u lines
-ended_theorem w n u lines checkpoints (Some r) = refused_theorem n (lines ++ checkpoints) (failure_text r)
+unfoldable pub ended_theorem : Shown → Theorem → List ℕ → List ℕ → Option Reason → Step
+ended_theorem w t lines checkpoints None = added_theorem w t lines
+ended_theorem w t lines checkpoints (Some r) = refused_theorem t.name (lines ++ checkpoints) (failure_text r)
 
-abbrev pub tried_theorem : Shown → Symbol → Term → Tried → Step
-tried_theorem w n u a = ended_theorem w n u a.lines a.checkpoints a.failed
+abbrev pub tried_theorem : Shown → Theorem → Tried → Step
+tried_theorem w t a = ended_theorem w t a.lines a.checkpoints a.failed
+
+-- before that it is asked whether it gives rules of its classes
+unfoldable pub ruled_theorem : Limits → Shown → Theorem → Option RuleError → Step
+ruled_theorem limits w t (Some e) = refused_theorem t.name [] (rule_text e)
+ruled_theorem limits w t None = tried_theorem w t (tried limits (plan_for limits w) t.term)
+
+abbrev pub theorem_of : Stated → Term → Theorem
+theorem_of s u = record { name = s.name; term = u; classes = classes_in s.chosen.classes }
+
+abbrev pub judged_theorem : Limits → Shown → Theorem → Step
+judged_theorem limits w t = ruled_theorem limits w t (refusal t.name t.term t.classes)
+
+abbrev pub classified_theorem : Limits → Shown → Stated → Term → Step
+classified_theorem limits w s u = judged_theorem limits w (theorem_of s u)
 
 -- before that its term is translated
-unfoldable pub translated_theorem : Limits → Shown → Symbol → Answer Term → Step
-translated_theorem limits w n (Err e) = refused_theorem n [] (translation_text e.kind)
-translated_theorem limits w n (Ok u) = tried_theorem w n u (tried limits (plan_for limits w) u)
+unfoldable pub translated_theorem : Limits → Shown → Stated → Answer Term → Step
+translated_theorem limits w s (Err e) = refused_theorem s.name [] (translation_text e.kind)
+translated_theorem limits w s (Ok u) = classified_theorem limits w s u
 
 -- before that its name is looked up
 unfoldable pub named_theorem : Limits → Shown → Stated → Step
 named_theorem limits w s =
     cond (has_name w.entries s.name)
     (refused_theorem s.name [] (codes "3 NameTaken"))
-    (translated_theorem limits w s.name (translated w.entries None s.term))
+    (translated_theorem limits w s (translated w.entries None s.term))
 
--- rules and hints aren't built
+-- hints aren't built
 unfoldable pub stated_theorem : Limits → Shown → Symbol → Stated → Step
-stated_theorem limits w h s = cond s.plain (named_theorem limits w s) (not_supported h)
+stated_theorem limits w h s = cond s.chosen.hinted (not_supported h) (named_theorem limits w s)
 
 unfoldable pub theorem_step : Limits → Shown → Symbol → Option Stated → Step
 theorem_step limits w h None = bad_event h

@@ -56,7 +56,9 @@ pub(crate) fn attempt(
     ensures tried { IfOk result (λ t. t ≡ tried limits.now plan.now term.now) }
     ensures valid { IfOk result (λ t. t.failed ≡ None → Valid (defs_of plan.now) (term.now ∷ [])) }
 {
-    plan.world.is_sound();
+    let world = plan.world.world();
+    world.is_sound();
+    world.has_distinct_names();
     let root = root_task(alloc, plan, term)?;
     let prover = Proving {
         step: Acl2Step::new(plan),

@@ -14,15 +14,17 @@ ghost use Rattle.ap_translate.specs.Parts.{items_in};
 ghost use Rattle.ap_translate.specs.Names.{can_be_bound};
 ghost use Rattle.ap_events.specs.Shapes.{as_defined};
 ghost use Rattle.ap_events.specs.Ends.{admitted, step_in, Follows};
-ghost use Rattle.ap_events.specs.Texts.{event_text};
+ghost use Rattle.ap_events.specs.Texts.{event_text, refused_as};
 ghost use Rattle.ap_events.specs.Definitions.{formal_in, formal_names, component_forms_by, component_forms, guard_forms, translated_all, translated_definition, seen_in, first_named, any_calls, function_with, added_definition, refused_definition, untranslated_definition, plain_definition, named_definition};
 
-use crate::end::{EventEnd, not_supported};
+use crate::end::{RuledEnd, not_supported};
 use crate::forms::{is_symbol, items, symbol};
 use crate::shapes::Definition;
+use crate::taken::is_taken;
 use crate::texts;
 use ap_list::{Bytes, NoMemory, Seq};
 use ap_reader::{Body, Form};
+use ap_rules::Ruled;
 use ap_term::Term;
 use ap_translate::{TransError, TransKind, can_be_bound, translate};
 use ap_types::kept_mask;
@@ -131,6 +133,22 @@ fn translate_all(
     Ok(Translated { formals, body })
 }
 
+/// Translates a definition in the world of a ruled one.
+#[tactic(auto, using(crate::proofs::Defining::macro_functions))]
+fn translated_parts(
+    alloc: Global,
+    w: &Ruled,
+    definition: &Definition<'_>,
+) -> Result<Translated, TransError>
+    requires functions { HasFunctions (function_of w.now.entries) }
+    ensures made { Gives result (translated_definition w.now.entries (as_defined definition.now)) }
+    ensures distinct { IfOk result (λ t. IsTrue (is_distinct symbol_eq t.formals)) }
+    ensures known { IfOk result (λ t. IsTrue (known (function_of w.now.entries) t.body)) }
+    ensures speaks { IfOk result (λ t. IsTrue (speaks_of t.formals t.body)) }
+{
+    translate_all(alloc, w.world(), definition)
+}
+
 /// Whether two symbols are one, as the definitions test it.
 fn is_same(a: &Symbol, b: &Symbol) -> bool
     ensures { result ≡ symbol_eq a.now b.now }
@@ -185,14 +203,21 @@ fn any_calls(name: &Symbol, forms: &[Form]) -> bool
     false
 }
 
+/// What the event of a definition prints that is refused.
+fn refused_text(alloc: Global, name: &Symbol, reason: &[u8]) -> Result<Bytes, NoMemory>
+    ensures { IfOk result (λ text. text ≡ event_text (codes "DEFUN") name.now [] (refused_as reason.now)) }
+{
+    let said = texts::refused_as(alloc, reason)?;
+    texts::event_text(alloc, b"DEFUN", name, b"", said.as_slice())
+}
+
 /// A definition that is refused, by the refusal's number and word.
-fn refused(alloc: Global, w: World, name: &Symbol, reason: &[u8]) -> Result<EventEnd, NoMemory>
+fn refused(alloc: Global, w: Ruled, name: &Symbol, reason: &[u8]) -> Result<RuledEnd, NoMemory>
     ensures step { IfOk result (λ e. step_in e ≡ refused_definition name.now reason.now) }
     ensures follows { IfOk result (λ e. Follows w e) }
 {
-    let said = texts::refused_as(alloc, reason)?;
-    let text = texts::event_text(alloc, b"DEFUN", name, b"", said.as_slice())?;
-    Ok(EventEnd::Refused(w, text))
+    let text = refused_text(alloc, name, reason)?;
+    Ok(RuledEnd::Refused(w, text))
 }
 
 /// What is made for a function before it is added: its name, the mask that its body gives back, and what
@@ -235,7 +260,7 @@ fn function(alloc: Global, name: Symbol, mask: Mask, translated: Translated) -> 
 }
 
 /// Adds a function whose name is free, and with which the world is sound.
-fn add(alloc: Global, w: World, function: Function, text: Bytes) -> Result<EventEnd, NoMemory>
+fn add(alloc: Global, w: Ruled, function: Function, text: Bytes) -> Result<RuledEnd, NoMemory>
     requires free { has_name w.entries function.name ≡ false }
     requires sound { Sound (w.entries ++ entry.Function function ∷ []) }
     ensures step { IfOk result (λ e. step_in e ≡ admitted w (entry.Function function) text) }
@@ -243,7 +268,7 @@ fn add(alloc: Global, w: World, function: Function, text: Bytes) -> Result<Event
 {
     let mut world = w;
     match world.add_function(alloc, function) {
-        Ok(()) => Ok(EventEnd::Admitted(world, text)),
+        Ok(()) => Ok(RuledEnd::Admitted(world, text)),
         Err(AddError::NoMemory) => Err(AllocError),
         Err(AddError::NameTaken) => unreachable!(),
     }
@@ -252,10 +277,10 @@ fn add(alloc: Global, w: World, function: Function, text: Bytes) -> Result<Event
 /// Adds the function of a translated definition, whose name is free.
 fn admit(
     alloc: Global,
-    w: World,
+    w: Ruled,
     name: &Symbol,
     translated: Translated,
-) -> Result<EventEnd, NoMemory>
+) -> Result<RuledEnd, NoMemory>
     requires functions { HasFunctions (function_of w.entries) }
     requires free { has_name w.entries name.now ≡ false }
     requires distinct { IsTrue (is_distinct symbol_eq translated.formals) }
@@ -264,8 +289,8 @@ fn admit(
     ensures step { IfOk result (λ e. step_in e ≡ added_definition w name.now translated) }
     ensures follows { IfOk result (λ e. Follows w e) }
 {
-    w.is_sound();
-    let made = prepared(alloc, &w, name, &translated.body)?;
+    w.world().is_sound();
+    let made = prepared(alloc, w.world(), name, &translated.body)?;
     let function = function(alloc, made.name, made.mask, translated);
     add(alloc, w, function, made.text)
 }
@@ -273,11 +298,11 @@ fn admit(
 /// A definition of which a part isn't of the language: one that calls itself isn't built.
 fn untranslated(
     alloc: Global,
-    w: World,
+    w: Ruled,
     head: &Symbol,
     definition: &Definition<'_>,
     kind: TransKind,
-) -> Result<EventEnd, NoMemory>
+) -> Result<RuledEnd, NoMemory>
     ensures step { IfOk result (λ e. step_in e ≡ untranslated_definition head.now (as_defined definition.now) kind) }
     ensures follows { IfOk result (λ e. Follows w e) }
 {
@@ -289,21 +314,21 @@ fn untranslated(
 }
 
 /// Does a definition's event that asks for no guards and gives no hints.
-#[tactic(auto, using(crate::proofs::Defining::macro_functions), unfolding(crate::specs::Definitions::named_definition, crate::specs::Definitions::defined_step))]
+#[tactic(auto, unfolding(crate::specs::Definitions::named_definition, crate::specs::Definitions::defined_step))]
 fn unguarded(
     alloc: Global,
-    w: World,
+    w: Ruled,
     head: &Symbol,
     definition: &Definition<'_>,
-) -> Result<EventEnd, NoMemory>
+) -> Result<RuledEnd, NoMemory>
     requires functions { HasFunctions (function_of w.entries) }
     ensures step { IfOk result (λ e. step_in e ≡ named_definition w head.now (as_defined definition.now)) }
     ensures follows { IfOk result (λ e. Follows w e) }
 {
-    if w.has(definition.name) {
+    if is_taken(&w, definition.name) {
         return refused(alloc, w, definition.name, b"3 NameTaken");
     }
-    match translate_all(alloc, &w, definition) {
+    match translated_parts(alloc, &w, definition) {
         Ok(found) => admit(alloc, w, definition.name, found),
         Err(TransError::NoMemory) => Err(AllocError),
         Err(TransError::Fault { kind, .. }) => untranslated(alloc, w, head, definition, kind),
@@ -314,10 +339,10 @@ fn unguarded(
 #[tactic(auto, unfolding(crate::specs::Definitions::plain_definition, crate::specs::Definitions::unguarded_definition))]
 pub(crate) fn define(
     alloc: Global,
-    w: World,
+    w: Ruled,
     head: &Symbol,
     definition: &Definition<'_>,
-) -> Result<EventEnd, NoMemory>
+) -> Result<RuledEnd, NoMemory>
     requires functions { HasFunctions (function_of w.entries) }
     ensures step { IfOk result (λ e. step_in e ≡ plain_definition w head.now (as_defined definition.now)) }
     ensures follows { IfOk result (λ e. Follows w e) }

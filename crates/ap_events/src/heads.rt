@@ -1,35 +1,38 @@
 ghost use Rattle.std.specs.Prelude.{◌≡◌, IfOk};
 ghost use Rattle.ap_world.specs.Sound.{HasFunctions};
 ghost use Rattle.ap_world.specs.World.{function_of};
-ghost use Rattle.ap_events.specs.Ends.{refused, step_in, text_in, next_in, world_in, Kept, Follows};
+ghost use Rattle.ap_events.specs.Ends.{refused, without_index, step_in, text_in, next_in, world_in, Kept, Follows};
 ghost use Rattle.ap_events.specs.Theorems.{theorem_step};
 ghost use Rattle.ap_events.specs.Definitions.{definition_step};
 ghost use Rattle.ap_events.specs.Constants.{constant_step};
-ghost use Rattle.ap_events.specs.Shapes.{statement_of, definition_of, constant_of};
-ghost use Rattle.ap_events.specs.Events.{named_event, event_of};
+ghost use Rattle.ap_events.specs.Changes.{changes_of, theory_step};
+ghost use Rattle.ap_events.specs.Shapes.{as_stated, statement_of, as_defined, definition_of, constant_of};
+ghost use Rattle.ap_events.specs.Events.{theorem_head, definition_head, disabled_statement, disabled_theorem, disabled_function, disabled_definition, named_event, event_of};
 
+use crate::changes::{change, changes_in, disable};
 use crate::constant::constant;
 use crate::definition::define;
-use crate::end::{EventEnd, bad_event, not_supported};
+use crate::end::{EventEnd, RuledEnd, bad_event, not_supported};
 use crate::forms::head;
 use crate::limits::Limits;
-use crate::shapes::{constant_in, definition_in, theorem_in};
+use crate::shapes::{Definition, Statement, constant_in, definition_in, theorem_in};
 use crate::texts;
 use crate::theorem::state;
 use ap_list::NoMemory;
 use ap_reader::Form;
-use ap_value::{Symbol, is_named};
+use ap_rules::Ruled;
+use ap_value::{Symbol, acl2, is_named};
 use ap_world::World;
 use std::alloc::Global;
 
 #[tactic(auto, unfolding(crate::specs::Theorems::theorem_step))]
 fn theorem_event(
     alloc: Global,
-    w: World,
+    w: Ruled,
     head: &Symbol,
     f: &Form,
     limits: &Limits,
-) -> Result<EventEnd, NoMemory>
+) -> Result<RuledEnd, NoMemory>
     requires functions { HasFunctions (function_of w.entries) }
     ensures step { IfOk result (λ e. step_in e ≡ theorem_step limits.now w head.now (statement_of f.now)) }
     ensures follows { IfOk result (λ e. Follows w e) }
@@ -41,7 +44,7 @@ fn theorem_event(
 }
 
 #[tactic(auto, unfolding(crate::specs::Definitions::definition_step))]
-fn definition_event(alloc: Global, w: World, head: &Symbol, f: &Form) -> Result<EventEnd, NoMemory>
+fn definition_event(alloc: Global, w: Ruled, head: &Symbol, f: &Form) -> Result<RuledEnd, NoMemory>
     requires functions { HasFunctions (function_of w.entries) }
     ensures step { IfOk result (λ e. step_in e ≡ definition_step w head.now (definition_of f.now)) }
     ensures follows { IfOk result (λ e. Follows w e) }
@@ -53,7 +56,7 @@ fn definition_event(alloc: Global, w: World, head: &Symbol, f: &Form) -> Result<
 }
 
 #[tactic(auto, unfolding(crate::specs::Constants::constant_step))]
-fn constant_event(alloc: Global, w: World, head: &Symbol, f: &Form) -> Result<EventEnd, NoMemory>
+fn constant_event(alloc: Global, w: Ruled, head: &Symbol, f: &Form) -> Result<RuledEnd, NoMemory>
     ensures step { IfOk result (λ e. step_in e ≡ constant_step w head.now (constant_of f.now)) }
     ensures follows { IfOk result (λ e. Follows w e) }
 {
@@ -63,15 +66,90 @@ fn constant_event(alloc: Global, w: World, head: &Symbol, f: &Form) -> Result<Ev
     }
 }
 
+/// Does a theorem's event, and disables the theorem.
+fn disabled_statement(
+    alloc: Global,
+    w: Ruled,
+    head: &Symbol,
+    statement: &Statement<'_>,
+    limits: &Limits,
+) -> Result<RuledEnd, NoMemory>
+    requires head { head.now ≡ theorem_head }
+    requires functions { HasFunctions (function_of w.entries) }
+    ensures step { IfOk result (λ e. step_in e ≡ disabled_statement limits.now w (as_stated statement.now)) }
+    ensures follows { IfOk result (λ e. Follows w e) }
+{
+    let end = state(alloc, w, head, statement, limits)?;
+    disable(alloc, statement.name, end)
+}
+
+#[tactic(auto, unfolding(crate::specs::Events::disabled_theorem))]
+fn disabled_theorem_event(
+    alloc: Global,
+    w: Ruled,
+    f: &Form,
+    limits: &Limits,
+) -> Result<RuledEnd, NoMemory>
+    requires functions { HasFunctions (function_of w.entries) }
+    ensures step { IfOk result (λ e. step_in e ≡ disabled_theorem limits.now w (statement_of f.now)) }
+    ensures follows { IfOk result (λ e. Follows w e) }
+{
+    let head = acl2(alloc, b"DEFTHM")?;
+    match theorem_in(f) {
+        Some(statement) => disabled_statement(alloc, w, &head, &statement, limits),
+        None => bad_event(alloc, w, &head),
+    }
+}
+
+/// Does a definition's event, and disables the function.
+fn disabled_function(
+    alloc: Global,
+    w: Ruled,
+    head: &Symbol,
+    definition: &Definition<'_>,
+) -> Result<RuledEnd, NoMemory>
+    requires head { head.now ≡ definition_head }
+    requires functions { HasFunctions (function_of w.entries) }
+    ensures step { IfOk result (λ e. step_in e ≡ disabled_function w (as_defined definition.now)) }
+    ensures follows { IfOk result (λ e. Follows w e) }
+{
+    let end = define(alloc, w, head, definition)?;
+    disable(alloc, definition.name, end)
+}
+
+#[tactic(auto, unfolding(crate::specs::Events::disabled_definition))]
+fn disabled_definition_event(alloc: Global, w: Ruled, f: &Form) -> Result<RuledEnd, NoMemory>
+    requires functions { HasFunctions (function_of w.entries) }
+    ensures step { IfOk result (λ e. step_in e ≡ disabled_definition w (definition_of f.now)) }
+    ensures follows { IfOk result (λ e. Follows w e) }
+{
+    let head = acl2(alloc, b"DEFUN")?;
+    match definition_in(f) {
+        Some(definition) => disabled_function(alloc, w, &head, &definition),
+        None => bad_event(alloc, w, &head),
+    }
+}
+
+#[tactic(auto, unfolding(crate::specs::Changes::theory_step))]
+fn theory_event(alloc: Global, w: Ruled, head: &Symbol, f: &Form) -> Result<RuledEnd, NoMemory>
+    ensures step { IfOk result (λ e. step_in e ≡ theory_step w head.now (changes_of f.now)) }
+    ensures follows { IfOk result (λ e. Follows w e) }
+{
+    match changes_in(f) {
+        Some(changes) => change(alloc, w, &changes),
+        None => bad_event(alloc, w, head),
+    }
+}
+
 /// Does an event of this head.
 #[tactic(auto, unfolding(crate::specs::Events::named_event))]
 fn named(
     alloc: Global,
-    w: World,
+    w: Ruled,
     head: &Symbol,
     f: &Form,
     limits: &Limits,
-) -> Result<EventEnd, NoMemory>
+) -> Result<RuledEnd, NoMemory>
     requires functions { HasFunctions (function_of w.entries) }
     ensures step { IfOk result (λ e. step_in e ≡ named_event limits.now w f.now head.now) }
     ensures follows { IfOk result (λ e. Follows w e) }
@@ -82,15 +160,38 @@ fn named(
         definition_event(alloc, w, head, f)
     } else if is_named(head, b"DEFCONST") {
         constant_event(alloc, w, head, f)
+    } else if is_named(head, b"DEFTHMD") {
+        disabled_theorem_event(alloc, w, f, limits)
+    } else if is_named(head, b"DEFUND") {
+        disabled_definition_event(alloc, w, f)
+    } else if is_named(head, b"IN-THEORY") {
+        theory_event(alloc, w, head, f)
     } else {
         not_supported(alloc, w, head)
     }
 }
 
-/// Does an event in a world, by the form that states it: `defthm`, `defun` or `defconst`. Answers what it
-/// prints, and the world after it where it is admitted, else the world that was handed in. The only error is
-/// want of memory.
-#[tactic(auto, using(crate::proofs::Ending::functions_kept), unfolding(crate::specs::Events::event_of, crate::specs::Events::headed_event))]
+/// Does an event in a world with the index of its rules, by the form that states it: `defthm`, `defthmd`,
+/// `defun`, `defund`, `defconst` or `in-theory`. Answers what it prints, and the world after it where it is
+/// admitted, else the world that was handed in. It costs what the event costs, whatever the world has already.
+/// The only error is want of memory.
+#[tactic(auto, using(crate::proofs::Ending::functions_kept, crate::proofs::Ending::kept), unfolding(crate::specs::Events::event_of, crate::specs::Events::headed_event))]
+pub fn work(alloc: Global, w: Ruled, f: &Form, limits: &Limits) -> Result<RuledEnd, NoMemory>
+    requires { HasFunctions (function_of w.entries) }
+    ensures text { IfOk result (λ e. text_in (without_index e) ≡ (event_of limits.now w f.now).text) }
+    ensures next { IfOk result (λ e. next_in (without_index e) ≡ (event_of limits.now w f.now).next) }
+    ensures refused { IfOk result (λ e. Kept w (without_index e)) }
+    ensures ground { IfOk result (λ e. HasFunctions (function_of (world_in (without_index e)).entries)) }
+{
+    let Some(head) = head(f) else {
+        let text = texts::no_head(alloc)?;
+        return Ok(RuledEnd::Refused(w, text));
+    };
+    named(alloc, w, head, f, limits)
+}
+
+/// Does an event in a world, as [`work`] does: the index of the world's rules is made first, and left out of
+/// the answer.
 pub fn event(alloc: Global, w: World, f: &Form, limits: &Limits) -> Result<EventEnd, NoMemory>
     requires { HasFunctions (function_of w.entries) }
     ensures text { IfOk result (λ e. text_in e ≡ (event_of limits.now w f.now).text) }
@@ -98,9 +199,7 @@ pub fn event(alloc: Global, w: World, f: &Form, limits: &Limits) -> Result<Event
     ensures refused { IfOk result (λ e. Kept w e) }
     ensures ground { IfOk result (λ e. HasFunctions (function_of (world_in e).entries)) }
 {
-    let Some(head) = head(f) else {
-        let text = texts::no_head(alloc)?;
-        return Ok(EventEnd::Refused(w, text));
-    };
-    named(alloc, w, head, f, limits)
+    let ruled = Ruled::of(alloc, w)?;
+    let end = work(alloc, ruled, f, limits)?;
+    Ok(end.into_end())
 }

@@ -1,7 +1,7 @@
 //! The shapes of events.
 ghost use Rattle.std.specs.Prelude.{◌≡◌, option_map, map};
 ghost use Rattle.std.specs.List.{list_all};
-ghost use Rattle.ap_events.specs.Shapes.{name_in, constant_name_in, are_keyed, given_once, is_class, are_classes, none_or, gives_nil, plain_of, as_stated, statement_of, as_xargs, no_xargs, truth_in, xargs_of, is_declaration, in_list, xargs_by, xargs_lists, at_most_one, declared_in, as_before, before_body, as_defined, formals_in, defined_in, definition_of, as_constant, constant_of};
+ghost use Rattle.ap_events.specs.Shapes.{name_in, constant_name_in, are_keyed, given_once, is_class, are_classes, none_or, as_chosen, chosen_of, as_stated, statement_of, as_xargs, no_xargs, truth_in, xargs_of, is_declaration, in_list, xargs_by, xargs_lists, at_most_one, declared_in, as_before, before_body, as_defined, formals_in, defined_in, definition_of, as_constant, constant_of};
 ghost use Rattle.ap_translate.specs.Parts.{items_in};
 
 use crate::forms::{
@@ -98,20 +98,18 @@ fn are_classes_if_given(classes: Option<&Form>) -> bool
     }
 }
 
-/// Whether a value is given as `nil`.
-fn gives_nil(value: Option<&Form>) -> bool
-    ensures { result ≡ gives_nil (option_map (λ f. f.now) value.entry) }
-{
-    match value {
-        Some(value) => is_nil(value),
-        None => false,
-    }
+/// What follows a theorem's term.
+#[derive(Clone, Copy)]
+pub struct Choices<'a> {
+    pub classes: Option<&'a Form>,
+    /// `:hints` are given.
+    pub hinted: bool,
 }
 
-/// By what follows a theorem's term, whether its classes are given as `nil` and no hints are given; `None`
-/// where it isn't of the shape.
-fn plain(options: &[Form]) -> Option<bool>
-    ensures { result ≡ plain_of options.now }
+/// What follows a theorem's term: its classes, if they are given, and whether hints are; `None` where it isn't
+/// of the shape.
+fn chosen(options: &[Form]) -> Option<Choices<'_>>
+    ensures { option_map as_chosen result ≡ chosen_of options.now }
 {
     if !are_keyed(&[b"RULE-CLASSES", b"HINTS"], options) {
         return None;
@@ -119,7 +117,10 @@ fn plain(options: &[Form]) -> Option<bool>
     let classes = given(b"RULE-CLASSES", options)?;
     let hints = given(b"HINTS", options)?;
     if are_classes_if_given(classes) {
-        Some(gives_nil(classes) && hints.is_none())
+        Some(Choices {
+            classes,
+            hinted: hints.is_some(),
+        })
     } else {
         None
     }
@@ -130,8 +131,7 @@ fn plain(options: &[Form]) -> Option<bool>
 pub struct Statement<'a> {
     pub name: &'a Symbol,
     pub term: &'a Form,
-    /// Its rule classes are given as `nil`, and no hints are given.
-    pub plain: bool,
+    pub choices: Choices<'a>,
 }
 
 /// What a `defthm` states, or `None` where it isn't `(defthm NAME TERM [:rule-classes C] [:hints H])`, its
@@ -142,8 +142,12 @@ pub(crate) fn theorem_in(form: &Form) -> Option<Statement<'_>>
     match items(form) {
         Some([_, name_form, term, rest @ ..]) => {
             let name = name(name_form)?;
-            let plain = plain(rest)?;
-            Some(Statement { name, term, plain })
+            let choices = chosen(rest)?;
+            Some(Statement {
+                name,
+                term,
+                choices,
+            })
         }
         _ => None,
     }

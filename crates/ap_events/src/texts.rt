@@ -1,10 +1,11 @@
 //! The printed lines of events.
 ghost use Rattle.std.specs.Prelude.{◌≡◌, IfOk};
 ghost use Rattle.ap_term.specs.Printed.{symbol_text};
-ghost use Rattle.ap_events.specs.Texts.{no_head_text, not_supported_text, bad_event_text, event_line, event_text, constant_line, refused_as, kind_text, translation_text, reason_text, failure_text};
+ghost use Rattle.ap_events.specs.Texts.{no_head_text, not_supported_text, bad_event_text, event_line, event_text, constant_line, theory_line, refused_as, kind_text, translation_text, rule_text, reason_text, failure_text};
 
 use ap_list::{Bytes, NoMemory};
 use ap_print::print_term;
+use ap_rules::RuleError;
 use ap_term::Term;
 use ap_translate::TransKind;
 use ap_value::{Symbol, copy_symbol};
@@ -84,6 +85,17 @@ pub(crate) fn constant_line(alloc: Global, name: &Symbol, said: &[u8]) -> Result
     event_line(alloc, b"DEFCONST", name, said)
 }
 
+/// What a theory's event prints.
+#[tactic(auto, unfolding(crate::specs::Texts::theory_line))]
+pub(crate) fn theory_line(alloc: Global, said: &[u8]) -> Result<Bytes, NoMemory>
+    ensures { IfOk result (λ text. text ≡ theory_line said.now) }
+{
+    let mut text = Bytes::from_slice(alloc, b"IN-THEORY")?;
+    text.extend(said)?;
+    text.push(10)?;
+    Ok(text)
+}
+
 /// What is said of a refused event, by the refusal's number and word.
 pub(crate) fn refused_as(alloc: Global, reason: &[u8]) -> Result<Bytes, NoMemory>
     ensures { IfOk result (λ text. text ≡ refused_as reason.now) }
@@ -120,6 +132,21 @@ pub(crate) fn translation(alloc: Global, kind: TransKind) -> Result<Bytes, NoMem
     text.extend(b" ")?;
     text.extend(kind_name(kind))?;
     Ok(text)
+}
+
+/// Why a theorem gives no rules of its classes, by its number and name; nothing where memory is wanting.
+#[tactic(auto, unfolding(crate::specs::Texts::rule_text))]
+pub(crate) fn rule(error: RuleError) -> &'static [u8]
+    ensures { result.now ≡ rule_text error }
+{
+    match error {
+        RuleError::LhsVariable => b"5.1 LhsVariable",
+        RuleError::LhsConstant => b"5.2 LhsConstant",
+        RuleError::FreeInRhs => b"5.3 FreeInRhs",
+        RuleError::NotInequality => b"5.4 NotInequality",
+        RuleError::NotTypeForm => b"5.5 NotTypeForm",
+        RuleError::NoMemory => b"",
+    }
 }
 
 /// The name of a reason to fail.

@@ -23,6 +23,7 @@ const EVENTS: &str = r#"(defconst *two* 2)
 (defun guarded (x) (declare (xargs :verify-guards t)) x)
 (defthm halves (equal (twice x) (twice x)) :rule-classes nil)
 (in-theory (enable twice))
+(in-theory twice)
 'x
 "#;
 
@@ -44,7 +45,8 @@ DEFUN GUARDED refused 11 GuardsAsked
 DEFTHM HALVES
 Goal simplify 0
 DEFTHM HALVES proved
-IN-THEORY refused 1 NotSupported
+IN-THEORY admitted
+IN-THEORY refused 2 BadEvent
 FORM refused 1 NotSupported
 ";
 

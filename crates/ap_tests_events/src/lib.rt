@@ -3,3 +3,5 @@
 
 #[cfg(test)]
 mod events;
+#[cfg(test)]
+mod theories;
