@@ -1,5 +1,6 @@
 -- The hypotheses of a rule, relieved one after another.
-use Rattle.std.proofs.Common.{◌≡◌, ℕ, ◌<◌, nat_lt, Bool, true, false, cond, List, [], ◌∷◌, ◌++◌, Option, Some, None, IsTrue, refl, sym, ap, ◌∙◌, subst, append_assoc}
+use Rattle.std.proofs.Common.{◌≡◌, ℕ, ◌<◌, ◌≤◌, nat_lt, Bool, true, false, cond, List, [], ◌∷◌, ◌++◌, Option, Some, None, IsTrue, refl, sym, ap, ◌∙◌, subst, append_assoc, arith}
+use Rattle.std.proofs.lemmas.Bool.Decides.{nat_tests}
 use Rattle.std.specs.Option.{option_map}
 use Rattle.ap_list.specs.Lists.{Each}
 use Rattle.ap_term.specs.declared.term.Term.{Term}
@@ -67,6 +68,12 @@ none_relieved w c g hs s k = record { is = refl; done = []; front = refl; shown 
 
 pub reliefs_begin : (w : Shown) (c : Ctx) (g : Got (Option Pairs)) (hs : List Term) (s : Pairs) (qs : List Equiv) → qs ≡ [] → KnownPairs (function_of w.entries) s → ReliefsDone w c g g hs hs s s qs
 reliefs_begin w c g hs s qs e k = subst (ReliefsDone w c g g hs hs s s) (sym e) (none_relieved w c g hs s k)
+
+pub few_around : (n : ℕ) → n < 10 → nat_lt n most_chained ≡ true
+few_around n h = grind (arith, nat_tests)
+
+pub many_around : (n : ℕ) → 10 ≤ n → nat_lt n most_chained ≡ false
+many_around n h = grind (arith, nat_tests)
 
 few_left : (b : Bool) (g h : Got (Option Pairs)) → b ≡ true → cond b g h ≡ g
 few_left true g h e = refl

@@ -16,8 +16,8 @@ returns-in_default-clause-is g c =
     relieving_out (inner_of c.args.l.now.r.now c.args.l.now.levels) (seen_at c.args.at.now) c.args.h.now c.in_ok-instance.instance c.args.s.0 c.args.run.now.left c.requires.bound c.in_ok-instance.ensures
     (rw c.in_default.is at c.in_ok-q.ensures.is)
 
-pub returns-then-is_constant-clause-is : goal.returns-then-is_constant-clause-is
-returns-then-is_constant-clause-is g c =
+pub returns-then-not-is_constant-clause-is : goal.returns-then-not-is_constant-clause-is
+returns-then-not-is_constant-clause-is g c =
     let b : is_constant true c.in-Some.q.says.rhs ≡ false = search rules in
     relieved_by (inner_of c.args.l.now.r.now c.args.l.now.levels) (seen_at c.args.at.now) c.args.h.now c.in_ok-instance.instance c.in-Some.q.says.rhs c.args.s.0 c.args.run.now.left c.deeper.new.run.left false
     c.requires.bound c.in_ok-instance.ensures (rw c.in-Some.is at c.in_ok-q.ensures.is) b
