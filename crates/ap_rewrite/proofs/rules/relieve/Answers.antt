@@ -21,25 +21,25 @@ pub loop-h-preserved : goal.loop-h-preserved
 loop-h-preserved g c =
     let there : c.in_ok-relieve_one.field-0 ≡ Some (Some c.in-Some-Some.found) = c.in-Some-Some.is ∙ ap Some c.in-Some-Some.field-0-is in
     relief_done _ _ (inner_of c.args.l.now.r.now c.args.l.now.levels) (seen_at c.args.at.now) _ _ _ _ _ _ _ _ _ c.relieve_one.new.run.left
-    (from_place c.args.hs.now c.loop-h.h-index _ (omega arith) c.h-item.is) c.loop-h.invariant c.in-Some-Some.found c.push.new.self (few_around c.args.at.now.chain c.if-at-ge10.false)
+    (from_place c.args.hs.now c.loop-h.h-index c.h-item.result (omega arith) c.h-item.is) c.loop-h.invariant c.in-Some-Some.found c.push.new.self (few_around c.args.at.now.chain c.if-at-ge10.false)
     (rw there at c.in_ok-relieve_one.ensures.is) (rw there at c.in_ok-relieve_one.ensures.shown) c.in_ok-push-in-Some-Some.ensures.ok
 
 pub returns-then-at-ge10-clause-is : goal.returns-then-at-ge10-clause-is
 returns-then-at-ge10-clause-is g c =
     too_many _ _ (inner_of c.args.l.now.r.now c.args.l.now.levels) (seen_at c.args.at.now) _ _ _ _ _ _ _ _ _ 0
-    (from_place c.args.hs.now c.loop-h.h-index _ (omega arith) c.h-item.is) c.loop-h.invariant (many_around c.args.at.now.chain c.if-at-ge10.true)
+    (from_place c.args.hs.now c.loop-h.h-index c.h-item.result (omega arith) c.h-item.is) c.loop-h.invariant (many_around c.args.at.now.chain c.if-at-ge10.true)
 
 pub returns-in-None-clause-is : goal.returns-in-None-clause-is
 returns-in-None-clause-is g c =
     relief_out _ _ (inner_of c.args.l.now.r.now c.args.l.now.levels) (seen_at c.args.at.now) _ _ _ _ _ _ _ _ _ c.relieve_one.new.run.left
-    (from_place c.args.hs.now c.loop-h.h-index _ (omega arith) c.h-item.is) c.loop-h.invariant (few_around c.args.at.now.chain c.if-at-ge10.false)
+    (from_place c.args.hs.now c.loop-h.h-index c.h-item.result (omega arith) c.h-item.is) c.loop-h.invariant (few_around c.args.at.now.chain c.if-at-ge10.false)
     (rw c.in-None.is at c.in_ok-relieve_one.ensures.is)
 
 pub returns-in-Some-None-clause-is : goal.returns-in-Some-None-clause-is
 returns-in-Some-None-clause-is g c =
     let there : c.in_ok-relieve_one.field-0 ≡ Some None = c.in-Some-None.is ∙ ap Some c.in-Some-None.field-0-is in
     relief_none _ _ (inner_of c.args.l.now.r.now c.args.l.now.levels) (seen_at c.args.at.now) _ _ _ _ _ _ _ _ _ c.relieve_one.new.run.left
-    (from_place c.args.hs.now c.loop-h.h-index _ (omega arith) c.h-item.is) c.loop-h.invariant (few_around c.args.at.now.chain c.if-at-ge10.false)
+    (from_place c.args.hs.now c.loop-h.h-index c.h-item.result (omega arith) c.h-item.is) c.loop-h.invariant (few_around c.args.at.now.chain c.if-at-ge10.false)
     (rw there at c.in_ok-relieve_one.ensures.is)
 
 pub returns-clause-is : goal.returns-clause-is
