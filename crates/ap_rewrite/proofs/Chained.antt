@@ -4,7 +4,7 @@ use Rattle.std.specs.Option.{option_map}
 use Rattle.std.specs.declared.alloc.AllocError.{AllocError}
 use Rattle.ap_value.specs.declared.symbol.Symbol.{Symbol}
 use Rattle.ap_term.specs.declared.term.Term.{Term, Call}
-use Rattle.ap_term.specs.Metered.{Got, By, after, known as answer, mapped, or_else, first_that}
+use Rattle.ap_term.specs.Metered.{Got, By, after, known as answer, or_else, first_that}
 use Rattle.ap_world.specs.declared.primitive.Primitive.{Primitive as Prim}
 use Rattle.ap_world.specs.declared.primitive.Primitive.TheVariants as prim
 use Rattle.ap_world.specs.Primitives.{prim_of}
@@ -17,7 +17,7 @@ use Rattle.ap_kernel.specs.Opening.{is_quoted}
 use Rattle.ap_rewrite.specs.Arithmetic.{no_arithmetic}
 use Rattle.ap_rewrite.specs.Settings.{Setting, Place, Inner}
 use Rattle.ap_rewrite.specs.InWorld.{setting_in}
-use Rattle.ap_rewrite.specs.Linear.{are_integers, by_less, by_equal, by_pair, by_arithmetic}
+use Rattle.ap_rewrite.specs.Linear.{are_integers, by_equal, by_pair, by_arithmetic}
 use Rattle.ap_rewrite.specs.Rewriting.{answered, led, run, settle, equate, tried, by_rules, by_definition}
 use Rattle.ap_rewrite.specs.Answering.{From, got, got_any, from_settling, from_equating, from_rules}
 use Rattle.ap_rewrite.proofs.Froms.{got_answered}

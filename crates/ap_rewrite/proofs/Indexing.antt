@@ -1,10 +1,9 @@
 -- The rules of the index, as those of the world.
-use Rattle.std.proofs.Common.{◌≡◌, ℕ, Bool, true, false, cond, List, [], ◌∷◌, map, Some, refl, sym, ap, ◌∙◌, subst}
+use Rattle.std.proofs.Common.{◌≡◌, ℕ, Bool, true, false, cond, List, [], ◌∷◌, map, Some, sym, ap, ◌∙◌, subst}
 use Rattle.ap_list.specs.Lists.{Each}
 use Rattle.ap_value.specs.declared.symbol.Symbol.{Symbol}
 use Rattle.ap_term.specs.declared.term.Term.{Term, Call}
 use Rattle.ap_term.specs.Metered.{first_that}
-use Rattle.ap_world.specs.declared.entry.Entry.{Entry}
 use Rattle.ap_world.specs.World.{Shown, function_of}
 use Rattle.ap_world.specs.Rules.{Rule, rules_in}
 use Rattle.ap_world.specs.Holding.{RuleHolds, part_of}

@@ -1,12 +1,10 @@
 -- The hypotheses of a rule, relieved one after another.
-use Rattle.std.proofs.Common.{◌≡◌, ℕ, ◌<◌, ◌≤◌, nat_lt, Bool, true, false, cond, List, [], ◌∷◌, ◌++◌, Option, Some, None, IsTrue, refl, sym, ap, ◌∙◌, subst, append_assoc, arith}
+use Rattle.std.proofs.Common.{◌≡◌, ℕ, ◌<◌, ◌≤◌, nat_lt, Bool, true, false, cond, List, [], ◌∷◌, ◌++◌, Option, Some, None, refl, sym, ap, ◌∙◌, subst, append_assoc, arith}
 use Rattle.std.proofs.lemmas.Bool.Decides.{nat_tests}
-use Rattle.std.specs.Option.{option_map}
 use Rattle.ap_list.specs.Lists.{Each}
 use Rattle.ap_term.specs.declared.term.Term.{Term}
 use Rattle.ap_term.specs.Metered.{Got, after, known as answer}
-use Rattle.ap_term.specs.Matching.{Pairs, Extends, is_bound, matched}
-use Rattle.ap_term.specs.Terms.{subst_of}
+use Rattle.ap_term.specs.Matching.{Pairs, Extends}
 use Rattle.ap_term.proofs.Matches.{extends_more}
 use Rattle.ap_world.specs.World.{Shown, function_of}
 use Rattle.ap_world.specs.Holding.{KnownPairs}
@@ -16,10 +14,10 @@ use Rattle.ap_kernel.specs.Standing.{Stands}
 use Rattle.ap_kernel.specs.Applying.{AllLead}
 use Rattle.ap_rewrite.specs.declared.facts.Relieved.{Relieved}
 use Rattle.ap_rewrite.specs.declared.rules.Reliefs.{Reliefs}
-use Rattle.ap_rewrite.specs.Settings.{Setting, Place, Inner}
+use Rattle.ap_rewrite.specs.Settings.{Place, Inner}
 use Rattle.ap_rewrite.specs.Relieving.{most_chained, relieve_one, then_more, relieve}
 use Rattle.ap_rewrite.specs.Relieved.{Relieves, RelievedFrom}
-use Rattle.ap_rewrite.specs.Answering.{Shows, got_pairs}
+use Rattle.ap_rewrite.specs.Answering.{Shows}
 use Rattle.ap_rewrite.proofs.FactsRelieve.{relieves_more}
 
 -- each hypothesis is relieved under the same pairs

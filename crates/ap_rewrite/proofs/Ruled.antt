@@ -1,7 +1,6 @@
 -- A rule that is tried, and rules one after another.
-use Rattle.std.proofs.Common.{◌≡◌, ℕ, Bool, true, false, cond, List, [], ◌∷◌, map, Option, Some, None, IfSome, refl, sym, ap, ◌∙◌, subst}
+use Rattle.std.proofs.Common.{◌≡◌, ℕ, Bool, true, false, cond, List, [], ◌∷◌, map, Option, Some, None, IfSome, sym, ap, ◌∙◌}
 use Rattle.std.specs.Option.{option_map}
-use Rattle.ap_list.specs.Lists.{Each}
 use Rattle.ap_term.specs.Metered.{Got, By, after, or_else, first_that}
 
 -- what a test chooses

@@ -1,12 +1,12 @@
 -- The literals of a clause, rewritten one after another, and what is left of it.
-use Rattle.std.proofs.Common.{◌≡◌, ℕ, zero, suc, ◌+◌, ◌<◌, Bool, true, false, cond, List, [], ◌∷◌, ◌++◌, length, take, drop, Option, Some, None, slice_get, refl, sym, ap, ◌∙◌, subst, append-nil, add-one, arith}
+use Rattle.std.proofs.Common.{◌≡◌, ℕ, zero, suc, ◌+◌, ◌<◌, Bool, true, false, cond, List, [], ◌∷◌, ◌++◌, length, take, drop, Option, Some, None, slice_get, refl, sym, ap, ◌∙◌, subst, add-one, arith}
 use Rattle.std.specs.Option.{option_map}
 use Rattle.ap_list.specs.Lists.{Each}
 use Rattle.ap_term.specs.declared.term.Term.{Term}
 use Rattle.ap_term.specs.declared.term.Clause.{Clause}
 use Rattle.ap_term.specs.Metered.{Got, known as answer, after, mapped}
 use Rattle.ap_world.specs.Meaning.{Defs}
-use Rattle.ap_world.specs.World.{Shown, function_of}
+use Rattle.ap_world.specs.World.{Shown}
 use Rattle.ap_world.specs.Facts.{Facts}
 use Rattle.ap_world.specs.Shapes.{is_constant}
 use Rattle.ap_kernel.specs.declared.objects.Mode.TheVariants.{Iff}
@@ -14,7 +14,6 @@ use Rattle.ap_kernel.specs.declared.reductions.Inference.{Inference}
 use Rattle.ap_kernel.specs.declared.reductions.Reduction.{Reduction}
 use Rattle.ap_kernel.specs.Reductions.{KnownClause, Reduces, put_at, others, all_false, to_one, rewritten}
 use Rattle.ap_kernel.specs.Tidying.{tidied, holds_by_itself, tidy_goals, tidy_made}
-use Rattle.ap_clausify.specs.Splitting.{Left}
 use Rattle.ap_rewrite.specs.Settings.{Setting}
 use Rattle.ap_rewrite.specs.Rewriting.{rewrite_of}
 use Rattle.ap_rewrite.specs.Literals.{rewrite_literal, rewrite_literals, left_of, rewritten_to, split_left}

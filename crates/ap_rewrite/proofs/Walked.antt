@@ -22,7 +22,6 @@ use Rattle.ap_kernel.specs.declared.shapes.ShapeRef.{ShapeRef}
 use Rattle.ap_kernel.specs.declared.shapes.ShapeRef.TheVariants as lent
 use Rattle.ap_kernel.specs.Shapes.{seen}
 use Rattle.ap_kernel.specs.Answers.{if_of}
-use Rattle.ap_kernel.specs.Choices.{is_choice}
 use denote.Ref.{Bor}
 use Rattle.ap_rewrite.specs.Settings.{Setting, Place, Inner}
 use Rattle.ap_rewrite.specs.Rewriting.{truth_of, answered, none, both, Walk, walk_on, walk_shape, walk}

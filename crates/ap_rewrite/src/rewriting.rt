@@ -109,9 +109,3 @@ pub fn rewrite<O: TypeOracle>(
     };
     rewrite_shape(&l, run, mode, &*at, &*t)
 }
-
-#[cfg(test)]
-mod tests {
-    #[test]
-    fn compiles() {}
-}

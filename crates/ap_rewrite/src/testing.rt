@@ -1,15 +1,12 @@
-// Tests on terms and theories by which the rewriter chooses.
-ghost use Rattle.std.specs.Prelude.{◌≡◌, nat_le, not, ◌&&◌};
+// Tests on terms by which the rewriter chooses.
+ghost use Rattle.std.specs.Prelude.{◌≡◌, nat_le};
 ghost use Rattle.ap_list.specs.Lists.{is_among};
 ghost use Rattle.ap_value.specs.Values.{symbol_eq};
 ghost use Rattle.ap_term.specs.Terms.{term_size};
-ghost use Rattle.ap_world.specs.declared.theory.Rune.TheVariants as rune;
-ghost use Rattle.ap_world.specs.Theories.{is_enabled};
 ghost use Rattle.ap_rewrite.specs.Rewriting.{most_nodes, truth_of};
 
 use ap_kernel::{ShapeRef, Symbol, Term, is_nil, is_symbol, shape_of};
 use ap_term::size;
-use ap_world::{RuneKind, Theory};
 
 /// Whether a constant means something else than `nil`; `None` of another term. Takes no memory.
 pub fn truth_of(t: &Term) -> Option<bool>
@@ -41,12 +38,4 @@ pub fn is_among(x: &Symbol, list: &[Symbol]) -> bool
         }
     }
     false
-}
-
-/// Whether a call of a function may be opened to this instance of its body: the theory enables its definition, it
-/// isn't closed, and the instance has at most 4,096 nodes. Takes no memory.
-pub fn may_open(theory: &Theory, closed: &[Symbol], f: &Symbol, instance: &Term) -> bool
-    ensures { result ≡ (is_enabled theory.now (rune.Definition f.now) && (not (is_among symbol_eq f.now closed.now) && nat_le (term_size instance.now) most_nodes)) }
-{
-    theory.is_enabled(RuneKind::Definition, f) && !is_among(f, closed) && is_small(instance)
 }

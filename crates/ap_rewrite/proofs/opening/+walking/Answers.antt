@@ -1,4 +1,4 @@
-use Rattle.std.proofs.Common.{◌≡◌, ◌+◌, ◌*◌, ◌<◌, sym, ap, ◌∙◌, subst, rules}
+use Rattle.std.proofs.Common.{◌+◌, ◌*◌, ◌<◌, sym, ap, ◌∙◌, subst, rules}
 use Rattle.ap_term.specs.declared.term.Term.{Term}
 use Rattle.ap_term.specs.Terms.{term_size}
 use Rattle.ap_world.specs.Facts.{KnownFacts}
@@ -27,7 +27,7 @@ walk_on-follow-requires-clause-second g t c = from_at _ _ _ _ _ _ (sym c.require
 pub walk_on-walk-requires : goal.walk_on-walk-requires
 walk_on-walk-requires g t c =
     let smaller : 2 * term_size c.in_ok-next-in-Some.next.says.rhs < 2 * (term_size c.args.b.now + term_size c.args.c.now) + 1 =
-    branch_smaller _ _ _ _ (c.in_ok-next-in-Some.ensures.is ∙ c.in_ok-branch-in-Some.ensures.is) in
+    branch_smaller c.in-Some.sign c.in_ok-next-in-Some.next.says.rhs c.args.b.now c.args.c.now (c.in_ok-next-in-Some.ensures.is ∙ c.in_ok-branch-in-Some.ensures.is) in
     λ κs within. (search rules, (within.0, (within.1, (c.requires.level, (c.requires.facts, (c.requires.inner, from_own _ _ _ _ _ c.in_ok-next-in-Some.ensures.from))))))
 
 pub walk_on-returns-in_ok-next-in-Some-clause-is : goal.walk_on-returns-in_ok-next-in-Some-clause-is
@@ -82,7 +82,7 @@ pub walk-walk_on-requires : goal.walk-walk_on-requires
 walk-walk_on-requires g t c =
     let parts = seen_parts _ _ _ _ _ _ _ _ _ c.requires.sofar (c.in_ok-body.ensures ∙ c.rhs.ensures) c.in-If.ensures in
     let test = rw c.in-Some.is at c.in_ok-deeper-in-If.ensures.from in
-    let smaller : 2 * (term_size c.in-If.b.now + term_size c.in-If.c.now) + 1 < 2 * term_size c.args.sofar.says.rhs = branches_smaller _ _ _ _ parts.0 in
+    let smaller : 2 * (term_size c.in-If.b.now + term_size c.in-If.c.now) + 1 < 2 * term_size c.args.sofar.says.rhs = branches_smaller c.args.sofar.says.rhs c.in-If.a.now c.in-If.b.now c.in-If.c.now parts.0 in
     λ κs within. (
       search rules,
       (

@@ -1,4 +1,4 @@
-use Rattle.std.proofs.Common.{ℕ, ◌+◌, ◌*◌}
+use Rattle.std.proofs.Common.{◌+◌, ◌*◌}
 use Rattle.ap_term.specs.Terms.{term_size}
 use Rattle.ap_rewrite.proofs.opening.+walking.Given as goal
 

@@ -1,4 +1,4 @@
-use Rattle.std.proofs.Common.{sym, ap, ◌∙◌}
+use Rattle.std.proofs.Common.{sym, ◌∙◌}
 use Rattle.ap_rewrite.specs.Answering.{setting_of, inner_of, seen_at}
 use Rattle.ap_rewrite.proofs.Chained.{answered_is, answered_from, same_answer}
 use Rattle.ap_rewrite.proofs.Opened.{recurring, plain}

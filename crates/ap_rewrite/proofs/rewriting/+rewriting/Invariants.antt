@@ -1,4 +1,4 @@
-use Rattle.std.proofs.Common.{ℕ, ◌+◌, ◌*◌}
+use Rattle.std.proofs.Common.{◌+◌, ◌*◌}
 use Rattle.ap_rewrite.proofs.rewriting.+rewriting.Given as goal
 
 abbrev pub decreases-below : goal.decreases-below

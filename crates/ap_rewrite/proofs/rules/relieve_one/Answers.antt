@@ -1,4 +1,4 @@
-use Rattle.std.proofs.Common.{ℕ, Option, Some, sym, ap, ◌∙◌}
+use Rattle.std.proofs.Common.{Option, Some, sym, ap, ◌∙◌}
 use Rattle.ap_term.specs.Matching.{Pairs, is_bound}
 use Rattle.ap_rewrite.proofs.Ruled.{passed}
 use Rattle.ap_rewrite.proofs.rules.relieve_one.Goals as goal

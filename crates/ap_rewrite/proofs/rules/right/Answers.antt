@@ -1,5 +1,4 @@
-use Rattle.std.proofs.Common.{◌≡◌, ◌∙◌, nat_le, IfSome, Option, refl, sym, ap, subst}
-use Rattle.std.specs.Option.{option_map}
+use Rattle.std.proofs.Common.{◌∙◌, nat_le, IfSome, Option, refl, sym, ap, subst}
 use Rattle.ap_term.specs.declared.term.Term.{Term}
 use Rattle.ap_term.specs.Terms.{term_size, subst_of}
 use Rattle.ap_kernel.specs.declared.objects.Equiv.{Equiv}

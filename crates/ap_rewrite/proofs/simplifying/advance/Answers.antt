@@ -1,7 +1,7 @@
 use Rattle.std.proofs.Common.{◌<◌, length, List, subst}
 use Rattle.ap_term.specs.declared.term.Term.{Term}
 use Rattle.ap_rewrite.specs.Answering.{defs_in, setting_of}
-use Rattle.ap_rewrite.proofs.Simplified.{first_there, first_is, first_known, joins, step_from, step_out, step_some}
+use Rattle.ap_rewrite.proofs.Simplified.{first_there, first_is, first_known, joins, step_from}
 use Rattle.ap_rewrite.proofs.simplifying.advance.Goals as goal
 
 pub first_left-requires : goal.first_left-requires

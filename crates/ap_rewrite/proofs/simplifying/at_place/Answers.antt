@@ -2,7 +2,6 @@ use Rattle.std.proofs.Common.{◌≡◌, ◌∙◌, List, Some, slice_get, get_o
 use Rattle.std.proofs.lemmas.Option.{slice_get_read}
 use Rattle.ap_term.specs.declared.term.Term.{Term}
 use Rattle.ap_world.specs.Facts.{KnownFacts}
-use Rattle.ap_kernel.specs.declared.objects.Sequent.{Sequent}
 use Rattle.ap_kernel.specs.Reductions.{others, all_false}
 use Rattle.ap_kernel.proofs.Reduced.{others_false_known}
 use Rattle.ap_rewrite.specs.Answering.{defs_in, setting_of}

@@ -1,4 +1,4 @@
-use Rattle.ap_rewrite.proofs.Simplified.{left_one, left_split, left_out}
+use Rattle.ap_rewrite.proofs.Simplified.{left_one, left_split}
 use Rattle.ap_rewrite.proofs.simplifying.simplify.Goals as goal
 
 pub split_left-requires-clause-one : goal.split_left-requires-clause-one

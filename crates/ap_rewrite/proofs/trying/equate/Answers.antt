@@ -1,5 +1,4 @@
-use Rattle.std.proofs.Common.{Some, None, sym, ap, ◌∙◌}
-use Rattle.ap_term.specs.declared.term.Term.{Term}
+use Rattle.std.proofs.Common.{ap}
 use Rattle.ap_rewrite.specs.Rewriting.{led}
 use Rattle.ap_rewrite.specs.Answering.{setting_of, inner_of, seen_at}
 use Rattle.ap_rewrite.proofs.Froms.{from_own}
