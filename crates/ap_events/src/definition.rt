@@ -245,6 +245,22 @@ fn prepared(alloc: Global, w: &World, name: &Symbol, body: &Term) -> Result<Made
     Ok(Made { name, mask, text })
 }
 
+/// Prepares a function in the world of a ruled one, which is sound.
+fn prepared_in(alloc: Global, w: &Ruled, name: &Symbol, body: &Term) -> Result<Made, NoMemory>
+    requires functions { HasFunctions (function_of w.now.entries) }
+    requires free { has_name w.now.entries name.now ≡ false }
+    requires known { IsTrue (known (function_of w.now.entries) body.now) }
+    ensures sound { Sound w.now.entries }
+    ensures name { IfOk result (λ p. p.name ≡ name.now) }
+    ensures mask { IfOk result (λ p. p.mask ≡ record { 0 = kept_types w.now name.now body.now }) }
+    ensures holds { IfOk result (λ p. (e : Env) (v : V) → HasValue (function_of w.now.entries) body.now e v → Has p.mask v) }
+    ensures text { IfOk result (λ p. p.text ≡ event_text (codes "DEFUN") name.now [] (codes " admitted")) }
+{
+    let world = w.world();
+    world.is_sound();
+    prepared(alloc, world, name, body)
+}
+
 /// The function that a translated definition makes.
 fn function(alloc: Global, name: Symbol, mask: Mask, translated: Translated) -> Function
     ensures { result ≡ function_with name mask translated }
@@ -289,8 +305,7 @@ fn admit(
     ensures step { IfOk result (λ e. step_in e ≡ added_definition w name.now translated) }
     ensures follows { IfOk result (λ e. Follows w e) }
 {
-    w.world().is_sound();
-    let made = prepared(alloc, w.world(), name, &translated.body)?;
+    let made = prepared_in(alloc, &w, name, &translated.body)?;
     let function = function(alloc, made.name, made.mask, translated);
     add(alloc, w, function, made.text)
 }

@@ -146,7 +146,7 @@ fn first_world(alloc: Global) -> Result<Ruled, NoMemory>
 
 /// The world behind the events, where they print what is wanted.
 fn worked(alloc: Global, printed: &mut Bytes) -> Result<Ruled, NoMemory> {
-    let Some(limits) = Limits::new(1000, 10) else {
+    let Some(limits) = Limits::new(10000, 10) else {
         return Err(AllocError);
     };
     let Ok(list) = forms(alloc, EVENTS.as_bytes()) else {

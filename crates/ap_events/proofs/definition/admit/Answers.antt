@@ -8,4 +8,4 @@ pub add-requires-clause-sound : goal.add-requires-clause-sound
 add-requires-clause-sound c =
     let made = c.in_ok-made.ensures in
     subst (λ f. Sound (c.args.w.entries ++ entry.Function f ∷ [])) (sym c.function-function.ensures)
-    (sound_definition c.args.w.entries c.args.name.now _ _ c.args.translated c.is_sound.ensures c.requires.functions c.requires.free c.requires.distinct c.requires.speaks c.requires.known made.name made.holds)
+    (sound_definition c.args.w.entries c.args.name.now _ _ c.args.translated c.prepared_in.ensures.sound c.requires.functions c.requires.free c.requires.distinct c.requires.speaks c.requires.known made.name made.holds)
