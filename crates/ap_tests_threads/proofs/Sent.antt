@@ -27,6 +27,7 @@ use Rattle.ap_rules.specs.contracts.table.Groups as groups
 use Rattle.ap_rules.specs.contracts.table.RuleIndex as index
 use Rattle.ap_rules.specs.contracts.carrying.Carrier as carrier
 use Rattle.ap_rules.specs.contracts.worlds.Ruled as ruled
+use Rattle.ap_rules.specs.contracts.worlds.Ruled.TheInside as ruled_inside
 use Rattle.ap_walk.specs.contracts.act.Process as process
 use Rattle.ap_strategy.specs.contracts.plan.Plan as plan
 use Rattle.ap_strategy.specs.contracts.plan.Settings as settings
@@ -156,9 +157,8 @@ carrier_send t = declared_send carrier.the_type (index_send t, (seq_send _ symbo
 
 ruled_send : IsSend term.the_row → IsSend value.the_row → IsSend ruled.the_row
 ruled_send t v =
-    let w = world_send t v in
-    let c = carrier_send t in
-    search (sendable, crosses) depth 60 fits 100000
+    let i : IsSend ruled_inside.the_row = declared_send ruled_inside.the_type (world_send t v, (carrier_send t, tt)) in
+    search (sendable, crosses) depth 40
 
 rule_sync : IsSync term.the_row → IsSync rule.the_row
 rule_sync t = declared_sync rule.the_type (symbol_sync, (search (sendable, crosses) depth 40, (search (sendable, crosses) depth 40, (t, (t, (seq_sync _ t, tt))))))
@@ -177,9 +177,8 @@ carrier_sync t = declared_sync carrier.the_type (index_sync t, (seq_sync _ symbo
 
 ruled_sync : IsSync term.the_row → IsSync value.the_row → IsSync ruled.the_row
 ruled_sync t v =
-    let w = world_sync t v in
-    let c = carrier_sync t in
-    search (sendable, crosses) depth 60 fits 100000
+    let i : IsSync ruled_inside.the_row = declared_sync ruled_inside.the_type (world_sync t v, (carrier_sync t, tt)) in
+    search (sendable, crosses) depth 40
 
 plan_send : IsSend term.the_row → IsSend value.the_row → IsSend plan.the_row
 plan_send t v = declared_send plan.the_type (ruled_send t v, (search (sendable, crosses) depth 40, tt))
