@@ -21,6 +21,13 @@ use Rattle.ap_world.specs.contracts.runes.Disabled as disabled
 use Rattle.ap_world.specs.contracts.theory.Rune as rune
 use Rattle.ap_world.specs.contracts.theory.Theory as theory
 use Rattle.ap_world.specs.contracts.world.World as world
+use Rattle.ap_rules.specs.contracts.rule.RewriteRule as rule
+use Rattle.ap_rules.specs.contracts.group.Group as group
+use Rattle.ap_rules.specs.contracts.table.Groups as groups
+use Rattle.ap_rules.specs.contracts.table.RuleIndex as index
+use Rattle.ap_rules.specs.contracts.carrying.Carrier as carrier
+use Rattle.ap_rules.specs.contracts.worlds.Ruled as ruled
+use Rattle.ap_rules.specs.contracts.worlds.Ruled.TheInside as ruled_inside
 use Rattle.ap_walk.specs.contracts.act.Process as process
 use Rattle.ap_strategy.specs.contracts.plan.Plan as plan
 use Rattle.ap_strategy.specs.contracts.plan.Settings as settings
@@ -133,11 +140,51 @@ places_sync = search (sendable, crosses, symbol_sync, seq_sync) depth 40 fits 10
 pub world_sync : IsSync term.the_row → IsSync value.the_row → IsSync world.the_row
 world_sync t v = let e = entry_sync t v in search (sendable, crosses, names_sync, places_sync, theory_sync) depth 60 fits 100000
 
+rule_send : IsSend term.the_row → IsSend rule.the_row
+rule_send t = declared_send rule.the_type (symbol_send, (search (sendable, crosses) depth 40, (search (sendable, crosses) depth 40, (t, (t, (seq_send _ t, tt))))))
+
+group_send : IsSend term.the_row → IsSend group.the_row
+group_send t = let r = rule_send t in search (sendable, crosses) depth 40 fits 100000
+
+groups_send : IsSend term.the_row → IsSend groups.the_row
+groups_send t = let g = group_send t in search (sendable, crosses, symbol_send) depth 40 fits 100000
+
+index_send : IsSend term.the_row → IsSend index.the_row
+index_send t = declared_send index.the_type (groups_send t, tt)
+
+carrier_send : IsSend term.the_row → IsSend carrier.the_row
+carrier_send t = declared_send carrier.the_type (index_send t, (seq_send _ symbol_send, (search (sendable, crosses, seq_send) depth 40 fits 100000, tt)))
+
+ruled_send : IsSend term.the_row → IsSend value.the_row → IsSend ruled.the_row
+ruled_send t v =
+    let i : IsSend ruled_inside.the_row = declared_send ruled_inside.the_type (world_send t v, (carrier_send t, tt)) in
+    search (sendable, crosses) depth 40
+
+rule_sync : IsSync term.the_row → IsSync rule.the_row
+rule_sync t = declared_sync rule.the_type (symbol_sync, (search (sendable, crosses) depth 40, (search (sendable, crosses) depth 40, (t, (t, (seq_sync _ t, tt))))))
+
+group_sync : IsSync term.the_row → IsSync group.the_row
+group_sync t = let r = rule_sync t in search (sendable, crosses) depth 40 fits 100000
+
+groups_sync : IsSync term.the_row → IsSync groups.the_row
+groups_sync t = let g = group_sync t in search (sendable, crosses, symbol_sync) depth 40 fits 100000
+
+index_sync : IsSync term.the_row → IsSync index.the_row
+index_sync t = declared_sync index.the_type (groups_sync t, tt)
+
+carrier_sync : IsSync term.the_row → IsSync carrier.the_row
+carrier_sync t = declared_sync carrier.the_type (index_sync t, (seq_sync _ symbol_sync, (search (sendable, crosses, seq_sync) depth 40 fits 100000, tt)))
+
+ruled_sync : IsSync term.the_row → IsSync value.the_row → IsSync ruled.the_row
+ruled_sync t v =
+    let i : IsSync ruled_inside.the_row = declared_sync ruled_inside.the_type (world_sync t v, (carrier_sync t, tt)) in
+    search (sendable, crosses) depth 40
+
 plan_send : IsSend term.the_row → IsSend value.the_row → IsSend plan.the_row
-plan_send t v = declared_send plan.the_type (world_send t v, (search (sendable, crosses) depth 40, tt))
+plan_send t v = declared_send plan.the_type (ruled_send t v, (search (sendable, crosses) depth 40, tt))
 
 pub plan_sync : IsSync term.the_row → IsSync value.the_row → IsSync plan.the_row
-plan_sync t v = declared_sync plan.the_type (world_sync t v, (search (sendable, crosses) depth 40, tt))
+plan_sync t v = declared_sync plan.the_type (ruled_sync t v, (search (sendable, crosses) depth 40, tt))
 
 pub settings_send : IsSend term.the_row → IsSend settings.the_row
 settings_send t = let p : IsSend process.the_row = search (sendable, crosses) depth 40 in
