@@ -12,11 +12,15 @@ fn pair(alloc: Global, a: u8, b: u8) -> Result<Term, NoMemory> {
     Ok(Term::Quote(Value::cons(alloc, first, rest)?))
 }
 
-/// A word: a digit is a constant, two digits beside a point a constant cons, a word behind `'` a constant
+/// A word: a number of one or two digits is a constant, two digits beside a point a constant cons, a word behind `'` a constant
 /// symbol, another word a variable.
 fn word(alloc: Global, text: &[u8]) -> Result<Term, NoMemory> {
     match text {
         [digit] if digit.is_ascii_digit() => Ok(Term::Quote(Value::Int(i128::from(*digit) - 48))),
+        [tens, ones] if tens.is_ascii_digit() && ones.is_ascii_digit() => {
+            let number = (i128::from(*tens) - 48) * 10 + (i128::from(*ones) - 48);
+            Ok(Term::Quote(Value::Int(number)))
+        }
         [a, b'.', b] => pair(alloc, *a, *b),
         [b'\'', name @ ..] => Ok(Term::Quote(Value::Sym(acl2(alloc, name)?))),
         _ => Ok(Term::Var(acl2(alloc, text)?)),
