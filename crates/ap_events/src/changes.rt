@@ -5,7 +5,7 @@ ghost use Rattle.ap_world.specs.World.{Shown};
 ghost use Rattle.ap_translate.specs.declared.fault.TransKind.TheVariants as kinds;
 ghost use Rattle.ap_events.specs.Texts.{theory_line, refused_as, translation_text};
 ghost use Rattle.ap_events.specs.Ends.{step_in, Follows};
-ghost use Rattle.ap_events.specs.Changes.{as_changed, both_lists, changes_by, changes_of, kind_of, known_rune, rune_by, item_by, item_runes, all_runes, changed_theory, theory_ended, without_name, disabled};
+ghost use Rattle.ap_events.specs.Changes.{as_changed, both_lists, changes_by, changes_of, kind_of, known_rune, rune_by, item_runes, all_runes, changed_theory, theory_ended, without_name, disabled};
 
 use crate::end::RuledEnd;
 use crate::forms::{is_keyword, is_symbol, items, symbol};

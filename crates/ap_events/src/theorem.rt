@@ -211,7 +211,6 @@ fn classified(
 }
 
 /// The term that a theorem's form is.
-#[tactic(auto, using(crate::proofs::Defining::macro_functions))]
 fn translated(alloc: Global, w: &Ruled, form: &Form) -> Result<Term, TransError>
     requires functions { HasFunctions (function_of w.now.entries) }
     ensures made { Gives result (translated w.now.entries None form.now) }
