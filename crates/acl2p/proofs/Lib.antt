@@ -2,3 +2,4 @@ pub mod Grammars
 pub mod Numbers
 pub mod Showing
 pub mod Starting
+pub mod Commanding
