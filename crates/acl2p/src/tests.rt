@@ -375,7 +375,7 @@ x:y => Read error 12 BadPackage at 20
 (defthm e nil :rule-classes nil) => DEFTHM E / Goal simplify 1 / Goal' empty / Checkpoints before induction / Goal': NIL / DEFTHM E refused 8.2 EmptyClause
 (defthm h2 (if (equal (equal x y) (equal z w)) (equal u v) nil) :rule-classes nil) => DEFTHM H2 / Goal simplify 2 / Subgoal 2 push *1 / Subgoal 1 push *2 / Revert / *1 noscheme / Checkpoints before induction / Subgoal 2: (OR (NOT (EQUAL (EQUAL X Y) (EQUAL Z W))) (EQUAL U V)) / Subgoal 1: (EQUAL (EQUAL X Y) (EQUAL Z W)) / DEFTHM H2 refused 8.1 NoScheme
 (defthm a (if x y z) :rule-classes nil) => DEFTHM A / Goal simplify 2 / Subgoal 2 push *1 / Subgoal 1 push *2 / Revert / *1 noscheme / Checkpoints before induction / Subgoal 2: (OR (NOT X) Y) / Subgoal 1: (OR X Z) / DEFTHM A refused 8.1 NoScheme
-(defthm a (implies (equal x (car y)) (consp (cons x z))) :rule-classes nil) => DEFTHM A / Goal simplify 1 / Goal' simplify 0 / DEFTHM A proved"##;
+(defthm a (implies (equal x (car y)) (consp x)) :rule-classes nil) => DEFTHM A / Goal simplify 1 / Goal' push *1 / *1 noscheme / Checkpoints before induction / Goal': (CONSP (CAR Y)) / DEFTHM A refused 8.1 NoScheme"##;
 
 /// What is admitted: events behind a book's first line, and the lines that they print.
 const ADMITTED: &str = r##"(defun f (x) x) => DEFUN F / DEFUN F admitted
@@ -397,7 +397,8 @@ const ADMITTED: &str = r##"(defun f (x) x) => DEFUN F / DEFUN F admitted
 (defthm a (equal `x `x) :rule-classes nil) => DEFTHM A / Goal simplify 0 / DEFTHM A proved
 (defthm s (implies (equal x y) (equal y x)) :rule-classes nil) => DEFTHM S / Goal simplify 1 / Goal' simplify 0 / DEFTHM S proved
 (defthm a (implies (and p q) (or q r)) :rule-classes nil) => DEFTHM A / Goal simplify 0 / DEFTHM A proved
-(defthm a (if x (equal x x) (not x)) :rule-classes nil) => DEFTHM A / Goal simplify 0 / DEFTHM A proved"##;
+(defthm a (if x (equal x x) (not x)) :rule-classes nil) => DEFTHM A / Goal simplify 0 / DEFTHM A proved
+(defthm a (implies (equal x (car y)) (consp (cons x z))) :rule-classes nil) => DEFTHM A / Goal simplify 1 / Goal' simplify 0 / DEFTHM A proved"##;
 
 /// Names that are taken: a primitive's, a function's and a rule's of the ground world.
 const TAKEN: [&str; 4] = ["COERCE", "NOT", "MAKE-CHARACTER-LIST", "COERCE-INVERSE"];
@@ -451,7 +452,7 @@ fn each_fault_and_refusal_is_printed(rt: HostRuntime) -> Result<(), Fail> {
 
 #[test]
 fn what_is_admitted_is_printed(rt: HostRuntime) -> Result<(), Fail> {
-    prints_each(&rt, rt.alloc(), ADMITTED, "Book b certified\n", 20)
+    prints_each(&rt, rt.alloc(), ADMITTED, "Book b certified\n", 21)
 }
 
 #[test]
