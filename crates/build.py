@@ -59,7 +59,7 @@ def built(name):
 def build():
     uses = dependencies()
     waiting, running, done, most = list(uses), {}, set(), jobs()
-    say(f"proving what changed, {most} crates at a time; the first time takes up to half an hour")
+    say(f"proving what changed, {most} crates at a time; the first time takes an hour or more")
     while waiting or running:
         for name in [it for it in waiting if done.issuperset(uses[it])]:
             if len(running) < most:
