@@ -14,3 +14,4 @@ pub mod PartsFound
 pub mod ApplyingStands
 pub mod LinearStands
 pub mod NegationsStand
+pub mod Hinted

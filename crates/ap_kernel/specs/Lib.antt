@@ -13,3 +13,4 @@ pub mod Opening
 pub mod Applying
 pub mod Laws
 pub mod Linear
+pub mod Hinting

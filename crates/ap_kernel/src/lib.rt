@@ -45,8 +45,10 @@
 //! | [`split_if`] | its two cases, for an `if` within a literal | the literals, for each case |
 //! | [`tidy`] | its plain form, or no clause where that holds by itself | the literals that are kept |
 //! | [`use_equality`] | the clause with a variable replaced that a literal solves | the other literals |
+//! | [`cases`] | a case for each of some terms, and the case where none of them holds | the literals, for each case |
+//! | [`use_fact`] | the clause with the negated instance of a theorem before it | the literals |
 //! | `fertilise`, `generalise`, `eliminate` | what the processes of these names leave | not built yet |
-//! | `use_fact`, `cases`, `induct` | what these hints and inductions leave | not built yet |
+//! | `induct` | what an induction leaves | not built yet |
 //!
 //! A reduction owns both its clause, which is moved, and those that it leads to: so literals that stand in
 //! both are copied once.
@@ -72,6 +74,7 @@ mod choices;
 mod constants;
 mod equations;
 mod facts;
+mod hints;
 mod linear;
 mod literals;
 mod negations;
@@ -101,6 +104,7 @@ pub use constants::{
 };
 pub use equations::{cons_equal, equal_term, equation_leads, truth_term};
 pub use facts::by_fact;
+pub use hints::{cases, use_fact};
 pub use linear::{LinearOracle, both_not_less, by_certificate, is_comparison};
 pub use literals::{drop_literal, put_at, rewrite_literal};
 pub use negations::double_not;
