@@ -1,2 +1,0 @@
-pub mod Induction
-pub mod Row

@@ -14,3 +14,17 @@ pub mod PartsFound
 pub mod ApplyingStands
 pub mod LinearStands
 pub mod NegationsStand
+pub mod Swapped
+pub mod Hinted
+pub mod Generalised
+pub mod Eliminated
+pub mod Fertilised
+pub mod Mentioned
+pub mod Induct
+pub mod InductBy
+pub mod Varying
+pub mod Moving
+pub mod InductRow
+pub mod Candidate
+pub mod Inducting
+pub mod InductFollows
