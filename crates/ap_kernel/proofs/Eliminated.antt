@@ -21,7 +21,7 @@ use Rattle.ap_kernel.specs.Reductions.{KnownClause, Follows}
 use Rattle.ap_kernel.specs.Solving.{occurs_in}
 use Rattle.ap_kernel.proofs.Reduced.{any_left, any_right, any_either, each_append, each_parts}
 use Rattle.ap_kernel.specs.Eliminating.{consp_term, taken_apart, reduced, without_first, elim_goals, eliminated}
-use Rattle.ap_kernel.proofs.Swapped.{SameAt, PairsMean, any_swapped, each_swapped, New, each_new, new_apart, at_self, at_other}
+use Rattle.ap_kernel.proofs.PartsSwapped.{SameAt, PairsMean, any_swapped, each_swapped, New, each_new, new_apart, at_self, at_other}
 
 -- a cons is the cons of its parts
 cons_again : (w : V) → is_cons w ≡ true → w ≡ cons (car_of w) (cdr_of w)

@@ -26,7 +26,7 @@ use Rattle.ap_kernel.proofs.Reduced.{any_put, any_others, any_at, each_put, to_o
 use Rattle.ap_kernel.proofs.Splitting.{then_some}
 use Rattle.ap_kernel.specs.Swapping.{swapped, is_part}
 use Rattle.ap_kernel.specs.Fertilising.{is_constant_shape, sides_of, no_constants, negated_sides, side_replaced, literal_fertilised, fertilised, fertilised_by, fertilise_made}
-use Rattle.ap_kernel.proofs.Swapped.{swapped_value, known_swapped}
+use Rattle.ap_kernel.proofs.PartsSwapped.{swapped_value, known_swapped}
 
 -- the sides are those of the literal
 sides_are : (u : Term) (q : Term × Term) → sides_of (shape_of u) ≡ Some q → u ≡ equal_of q.0 q.1

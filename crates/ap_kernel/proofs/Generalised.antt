@@ -31,7 +31,7 @@ use Rattle.ap_kernel.specs.Swapping.{swapped}
 use Rattle.ap_kernel.specs.Generalising.{lies_within, tried, within_types, fits, first_fitting, asked, restriction, generalised}
 use Rattle.ap_kernel.proofs.ChoicesStand.{known_not}
 use Rattle.ap_kernel.proofs.Reduced.{any_either, each_append}
-use Rattle.ap_kernel.proofs.Swapped.{SameAt, any_swapped, each_swapped, New, each_new, new_apart, at_self, at_other}
+use Rattle.ap_kernel.proofs.PartsSwapped.{SameAt, any_swapped, each_swapped, New, each_new, new_apart, at_self, at_other}
 
 -- the function of the ground world that is spoken of
 has_true_listp : (D : Defs) → HasFunctions D → D true_listp_name ≡ Some true_listp_function

@@ -20,7 +20,7 @@ use Rattle.ap_world.proofs.Negations.{HasNot, past_tests}
 use Rattle.ap_world.proofs.Falling.{nat_of, IsNat, less_is}
 use Rattle.ap_world.proofs.Cases.{Adds}
 use Rattle.ap_world.proofs.Taken.{TakenBy, taken}
-use Rattle.ap_kernel.proofs.Induct.{Descends, induct_core}
+use Rattle.ap_kernel.proofs.InductCore.{Descends, induct_core}
 
 -- the replacement moves the measure of the actuals to that of the call
 abbrev pub Moves : List Symbol → List Term → Moving → List Term → List Term → Type 0

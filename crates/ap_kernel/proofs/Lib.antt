@@ -14,13 +14,13 @@ pub mod PartsFound
 pub mod ApplyingStands
 pub mod LinearStands
 pub mod NegationsStand
-pub mod Swapped
+pub mod PartsSwapped
 pub mod Hinted
 pub mod Generalised
 pub mod Eliminated
 pub mod Fertilised
 pub mod Mentioned
-pub mod Induct
+pub mod InductCore
 pub mod InductBy
 pub mod Varying
 pub mod Moving
@@ -28,3 +28,4 @@ pub mod InductRow
 pub mod Candidate
 pub mod Inducting
 pub mod InductFollows
+pub mod Listed

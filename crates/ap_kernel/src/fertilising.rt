@@ -12,7 +12,7 @@ use crate::equations::equal_term;
 use crate::literals::{put_at, to_one};
 use crate::reductions::Reduction;
 use crate::shapes::{ShapeRef, shape_of};
-use crate::swapping::{is_part, swapped};
+use crate::swapping::{contains, swapped};
 use ap_list::{NoMemory, Seq};
 use ap_term::{Clause, Term, copy_term};
 use ap_world::World;
@@ -68,12 +68,12 @@ fn side_replaced(
 ) -> Result<Option<Term>, NoMemory>
     ensures { IfOk result (λ o. o ≡ side_replaced (a.now, b.now) (l.now, r.now)) }
 {
-    if is_part(b, r) {
+    if contains(r, b) {
         let right = with_other(alloc, b, a, r)?;
         let left = copy_term(alloc, l)?;
         return Ok(Some(equal_term(alloc, left, right)?));
     }
-    if is_part(a, l) {
+    if contains(l, a) {
         let left = with_other(alloc, a, b, l)?;
         let right = copy_term(alloc, r)?;
         return Ok(Some(equal_term(alloc, left, right)?));

@@ -83,7 +83,7 @@ fn choices(alloc: Global, lists: &[Seq<Term>]) -> Result<Seq<Seq<Term>>, NoMemor
 
 /// A variable's name; that of another term is `nil`.
 #[tactic(auto, unfolding(ap_world::specs::Names::nil_name))]
-fn variable_of(alloc: Global, t: &Term) -> Result<Symbol, NoMemory>
+pub fn variable_of(alloc: Global, t: &Term) -> Result<Symbol, NoMemory>
     ensures { IfOk result (λ x. x ≡ variable_of t.now) }
 {
     match t {
@@ -273,7 +273,7 @@ pub fn induct(
     w: &World,
     c: Clause,
     f: &Symbol,
-    actuals: &Seq<Term>,
+    actuals: &[Term],
 ) -> Result<Reduction, NoMemory>
     requires functions { HasFunctions (function_of w.now.entries) }
     requires clause { KnownClause (function_of w.now.entries) c }
@@ -284,7 +284,7 @@ pub fn induct(
 {
     w.is_sound();
     w.has_distinct_names();
-    let Some(goals) = induction_by(alloc, w, &c, f, actuals.as_slice())? else {
+    let Some(goals) = induction_by(alloc, w, &c, f, actuals)? else {
         unreachable!()
     };
     Ok(Reduction::made(c, goals))

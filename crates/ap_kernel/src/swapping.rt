@@ -58,9 +58,9 @@ pub fn swapped_all(
     Ok(out)
 }
 
-/// Whether a term is another or a part of it; constants have no parts. Takes no memory.
+/// Whether the second term is the first one or a part of it; constants have no parts. Takes no memory.
 #[cycle(finding)]
-pub fn is_part(t: &Term, u: &Term) -> bool
+pub fn contains(u: &Term, t: &Term) -> bool
     ensures { result ≡ is_part t.now u.now }
 {
     if is_same(t, u) {
@@ -69,17 +69,17 @@ pub fn is_part(t: &Term, u: &Term) -> bool
     match u {
         Term::Var(_) => false,
         Term::Quote(_) => false,
-        Term::Call(_, us) => is_part_in(t, us.as_slice()),
+        Term::Call(_, us) => some_contains(us.as_slice(), t),
     }
 }
 
-/// Whether a term is one of some terms or a part of one. Takes no memory.
+/// Whether one of some terms contains a term. Takes no memory.
 #[cycle(finding)]
-pub fn is_part_in(t: &Term, us: &[Term]) -> bool
+pub fn some_contains(us: &[Term], t: &Term) -> bool
     ensures { result ≡ any_true (map (is_part t.now) us.now) }
 {
     for u in us {
-        if is_part(t, u) {
+        if contains(u, t) {
             return true;
         }
     }

@@ -4,5 +4,5 @@ use Rattle.ap_kernel.specs.Swapping.{is_part}
 use Rattle.ap_kernel.proofs.swapping.+finding.Given as goal
 
 -- those that are left decide
-abbrev pub invariant-is_part_in-loop-u : goal.invariant-is_part_in-loop-u
-invariant-is_part_in-loop-u l = any_true (map (is_part l.t) (drop l.u-index l.us)) ≡ any_true (map (is_part l.t) l.us)
+abbrev pub invariant-some_contains-loop-u : goal.invariant-some_contains-loop-u
+invariant-some_contains-loop-u l = any_true (map (is_part l.t) (drop l.u-index l.us)) ≡ any_true (map (is_part l.t) l.us)

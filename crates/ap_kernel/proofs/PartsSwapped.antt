@@ -1,5 +1,5 @@
 -- What a term with parts replaced means, and that it is known; variables that are new.
-use Rattle.std.proofs.Common.{◌≡◌, Bool, true, false, cond, ◌||◌, List, [], ◌∷◌, map, Some, unwrap_or, inl, inr, refl, ap, sym, ◌∙◌, subst}
+use Rattle.std.proofs.Common.{◌≡◌, Bool, true, false, cond, ◌||◌, List, [], ◌∷◌, map, Option, Some, None, unwrap_or, inl, inr, refl, ap, sym, ◌∙◌, subst}
 use Rattle.std.proofs.Math.ListN.{length-map}
 use Rattle.ap_list.specs.Lists.{Each, lookup_by}
 use Rattle.ap_value.specs.declared.symbol.Symbol.{Symbol}
@@ -57,6 +57,33 @@ is_part_is t = term_ind (λ u. is_part t u ≡ (term_eq t u || parts_in t (out-T
     ∙ ap (λ ws. term_eq t (Call f ws) || any_true (map (λ (p : Term × Bool). p.1) (map (λ u. (u, is_part t u)) us))) (first_parts (is_part t) us)
     ∙ ap (λ bs. term_eq t (Call f us) || any_true bs) (second_parts (is_part t) us)
     ∙ ap (λ y. term_eq t (Call f us) || parts_in t y) (sym (outs-Call f us)))
+
+pub part_itself : (t u : Term) → term_eq t u ≡ true → true ≡ is_part t u
+part_itself t u h = sym (is_part_is t u ∙ ap (λ b. b || parts_in t (out-Term u)) h)
+
+pub part_of_var : (t u : Term) (x : Symbol) → u ≡ Var x → term_eq t u ≡ false → false ≡ is_part t u
+part_of_var t u x is h = sym (is_part_is t u ∙ ap (λ b. b || parts_in t (out-Term u)) h ∙ ap (λ w. parts_in t (out-Term w)) is ∙ ap (parts_in t) (outs-Var x))
+
+pub part_of_quote : (t u : Term) (q : Value) → u ≡ Quote q → term_eq t u ≡ false → false ≡ is_part t u
+part_of_quote t u q is h = sym (is_part_is t u ∙ ap (λ b. b || parts_in t (out-Term u)) h ∙ ap (λ w. parts_in t (out-Term w)) is ∙ ap (parts_in t) (outs-Quote q))
+
+pub part_of_call : (t u : Term) (f : Symbol) (us : List Term) (b : Bool) → u ≡ Call f us → term_eq t u ≡ false → b ≡ any_true (map (is_part t) us) → b ≡ is_part t u
+part_of_call t u f us b is h e = e ∙ sym (is_part_is t u ∙ ap (λ b. b || parts_in t (out-Term u)) h ∙ ap (λ w. parts_in t (out-Term w)) is ∙ ap (parts_in t) (outs-Call f us))
+
+pub swapped_there : (s : List (Term × Term)) (u w : Term) → lookup_by term_eq s u ≡ Some w → swapped s u ≡ w
+swapped_there s u w h = swapped_is s u ∙ ap (λ o. unwrap_or o (within s (out-Term u))) h
+
+kept_by : (s : List (Term × Term)) (u : Term) (y : Term-F Term) → out-Term u ≡ y → lookup_by term_eq s u ≡ None → swapped s u ≡ within s y
+kept_by s u y is h = swapped_is s u ∙ ap (λ o. unwrap_or o (within s (out-Term u))) h ∙ ap (within s) is
+
+pub var_kept : (s : List (Term × Term)) (u : Term) (x : Symbol) → u ≡ Var x → lookup_by term_eq s u ≡ None → swapped s u ≡ u
+var_kept s u x is h = kept_by s u (Term-F.Var x) (ap out-Term is ∙ outs-Var x) h ∙ sym is
+
+pub quote_kept : (s : List (Term × Term)) (u : Term) (q : Value) → u ≡ Quote q → lookup_by term_eq s u ≡ None → swapped s u ≡ u
+quote_kept s u q is h = kept_by s u (Term-F.Quote q) (ap out-Term is ∙ outs-Quote q) h ∙ sym is
+
+pub call_kept : (s : List (Term × Term)) (u : Term) (f : Symbol) (ts : List Term) → u ≡ Call f ts → lookup_by term_eq s u ≡ None → swapped s u ≡ Call f (map (swapped s) ts)
+call_kept s u f ts is h = kept_by s u (Term-F.Call f ts) (ap out-Term is ∙ outs-Call f ts) h
 
 -- a variable that occurs in a literal occurs in the clause
 occurs_self : (x : Symbol) → occurs x (Var x) ≡ true
