@@ -6,14 +6,14 @@ ghost use Rattle.ap_world.specs.Names.{list_name};
 ghost use Rattle.ap_world.specs.Units.{nil_constant, truth_constant};
 
 use ap_list::Text;
-use ap_value::{Value, named, same};
+use ap_value::{Fixed, Value, named, same};
 
 /// The symbol `nil`. Takes no memory.
 #[tactic(auto, unfolding(ap_world::specs::Names::nil_name))]
 pub(crate) fn nil_value() -> Value
     ensures { result ≡ nil_constant }
 {
-    Value::Sym(named(b"NIL"))
+    Value::Sym(named(Fixed::Nil))
 }
 
 /// `t` or `nil`. Takes no memory.
@@ -22,7 +22,7 @@ pub(crate) fn truth_value(holds: bool) -> Value
     ensures { result ≡ truth_constant holds }
 {
     if holds {
-        Value::Sym(named(b"T"))
+        Value::Sym(named(Fixed::T))
     } else {
         nil_value()
     }

@@ -15,7 +15,7 @@ pub use boxed::Boxed;
 pub use seq::Seq;
 pub use shared::Shared;
 pub use shared_seq::SharedSeq;
-pub use text::Text;
+pub use text::{Fixed, Text};
 
 /// Want of memory: the one answer whose cause nothing states.
 pub type NoMemory = std::alloc::AllocError;

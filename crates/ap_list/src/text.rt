@@ -5,15 +5,50 @@ use crate::shared_seq::SharedSeq;
 use std::alloc::{AllocError, Global};
 use std::marker::Model;
 
+/// A name that the program itself has: a text of one takes no memory.
+#[derive(Clone, Copy, Debug)]
+pub enum Fixed {
+    Nil,
+    T,
+    If,
+    Not,
+    Equal,
+    Less,
+    Implies,
+    Natp,
+    Acl2Count,
+}
+
+impl Fixed {
+    ghost use Rattle.ap_list.specs.Texts.{fixed_bytes};
+
+    /// The bytes of the name. Takes no memory.
+    fn bytes(self) -> &'static [u8]
+        ensures { result.now ≡ fixed_bytes self }
+    {
+        match self {
+            Fixed::Nil => b"NIL",
+            Fixed::T => b"T",
+            Fixed::If => b"IF",
+            Fixed::Not => b"NOT",
+            Fixed::Equal => b"EQUAL",
+            Fixed::Less => b"<",
+            Fixed::Implies => b"IMPLIES",
+            Fixed::Natp => b"NATP",
+            Fixed::Acl2Count => b"ACL2-COUNT",
+        }
+    }
+}
+
 /// Where the bytes of a text lie: in the program itself, or in memory that copies share.
 #[derive(Debug, Drop)]
 enum Held {
-    Fixed(&'static [u8]),
+    Fixed(Fixed),
     Shared(SharedSeq<u8>),
 }
 
-/// A list of bytes that copies share: a symbol's name, a string's codes. One that the program itself has, as
-/// the name of a primitive, takes no memory. Contracts see the bytes.
+/// A list of bytes that copies share: a symbol's name, a string's codes. One that the program itself has takes no
+/// memory; it is told by a number, so that no type that holds texts holds a reference. Contracts see the bytes.
 #[derive(Debug)]
 pub struct Text {
     held: Held,
@@ -39,12 +74,14 @@ impl Model for Text {
 }
 
 impl Text {
+    ghost use Rattle.ap_list.specs.Texts.{fixed_bytes};
+
     /// A text that the program itself has. Takes no memory.
-    pub fn fixed(bytes: &'static [u8]) -> Text
-        ensures { result ≡ bytes.now }
+    pub fn fixed(name: Fixed) -> Text
+        ensures { result ≡ fixed_bytes name }
     {
         Text {
-            held: Held::Fixed(bytes),
+            held: Held::Fixed(name),
         }
     }
 
@@ -61,7 +98,7 @@ impl Text {
         ensures { result.now ≡ self.now }
     {
         match &self.held {
-            Held::Fixed(bytes) => bytes,
+            Held::Fixed(name) => name.bytes(),
             Held::Shared(bytes) => bytes.as_slice(),
         }
     }
@@ -86,7 +123,7 @@ impl Text {
         ensures { IfOk result (λ t. t ≡ self.now) }
     {
         let held = match &self.held {
-            Held::Fixed(bytes) => Held::Fixed(bytes),
+            Held::Fixed(name) => Held::Fixed(*name),
             Held::Shared(bytes) => Held::Shared(bytes.share()?),
         };
         Ok(Text { held })

@@ -13,7 +13,7 @@ use crate::cases::is_unnested;
 use ap_kernel::is_symbol;
 use ap_list::{NoMemory, Seq};
 use ap_term::{Term, copy_terms};
-use ap_value::{Symbol, copy_symbol, named};
+use ap_value::{Fixed, Symbol, copy_symbol, named};
 use ap_world::{Case, Defun, Measure, World};
 use std::alloc::{AllocError, Global};
 
@@ -164,7 +164,7 @@ fn count_term(alloc: Global, x: &Symbol) -> Result<Term, NoMemory>
 {
     let mut arguments = Seq::new(alloc);
     arguments.push(Term::Var(copy_symbol(alloc, x)?))?;
-    Term::call(alloc, named(b"ACL2-COUNT"), arguments)
+    Term::call(alloc, named(Fixed::Acl2Count), arguments)
 }
 
 /// The measure that is the count of a formal.

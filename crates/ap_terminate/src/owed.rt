@@ -10,7 +10,7 @@ use ap_clausify::flat;
 use ap_kernel::{equal_term, if_term, nil_term, pairs_of, subst_all, t_term};
 use ap_list::{NoMemory, Seq};
 use ap_term::{Clause, Term, copy_term};
-use ap_value::{Symbol, named};
+use ap_value::{Fixed, Symbol, named};
 use ap_world::{Case, Defun, Measure};
 use std::alloc::Global;
 
@@ -31,7 +31,7 @@ fn natp_term(alloc: Global, u: &Term) -> Result<Term, NoMemory>
 {
     let mut arguments = Seq::new(alloc);
     arguments.push(copy_term(alloc, u)?)?;
-    Term::call(alloc, named(b"NATP"), arguments)
+    Term::call(alloc, named(Fixed::Natp), arguments)
 }
 
 /// `(< a b)`
@@ -39,7 +39,7 @@ fn natp_term(alloc: Global, u: &Term) -> Result<Term, NoMemory>
 fn less_term(alloc: Global, a: &Term, b: &Term) -> Result<Term, NoMemory>
     ensures { IfOk result (λ r. r ≡ two less_name a.now b.now) }
 {
-    let head = named(b"<");
+    let head = named(Fixed::Less);
     pair_call(alloc, head, copy_term(alloc, a)?, copy_term(alloc, b)?)
 }
 
@@ -48,7 +48,7 @@ fn less_term(alloc: Global, a: &Term, b: &Term) -> Result<Term, NoMemory>
 fn implies_term(alloc: Global, h: Term, c: Term) -> Result<Term, NoMemory>
     ensures { IfOk result (λ r. r ≡ two implies_name h c) }
 {
-    let head = named(b"IMPLIES");
+    let head = named(Fixed::Implies);
     pair_call(alloc, head, h, c)
 }
 

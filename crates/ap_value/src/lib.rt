@@ -5,7 +5,7 @@
 mod symbol;
 mod value;
 
-pub use ap_list::{Boxed, Bytes, NoMemory, Seq, Shared, Text};
+pub use ap_list::{Boxed, Bytes, Fixed, NoMemory, Seq, Shared, Text};
 pub use symbol::{
     BookName, Symbol, acl2, copy_bytes, copy_symbol, is_named, named, same_symbol, same_text,
 };

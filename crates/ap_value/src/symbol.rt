@@ -1,7 +1,8 @@
 ghost use Rattle.std.specs.Prelude.{◌≡◌, ◌<◌, ◌↔◌, ℕ, IsTrue, IfOk, slice_index, map};
+ghost use Rattle.ap_list.specs.Texts.{fixed_bytes};
 ghost use Rattle.ap_value.specs.Values.{acl2, byte_of, symbol_eq};
 
-use ap_list::{Bytes, NoMemory, Text};
+use ap_list::{Bytes, Fixed, NoMemory, Text};
 use std::alloc::Global;
 
 /// A symbol of the package `KEYWORD`, or else of `ACL2`, by its name as it is read: `car` has the name
@@ -79,10 +80,9 @@ pub fn acl2(alloc: Global, name: &[u8]) -> Result<Symbol, NoMemory>
     })
 }
 
-/// The symbol of package `ACL2` with a name that the program itself has, as those of the primitives. Takes no
-/// memory.
-pub fn named(name: &'static [u8]) -> Symbol
-    ensures { result ≡ acl2 name.now }
+/// The symbol of package `ACL2` with a name that the program itself has. Takes no memory.
+pub fn named(name: Fixed) -> Symbol
+    ensures { result ≡ acl2 (fixed_bytes name) }
 {
     Symbol {
         keyword: false,
