@@ -139,7 +139,13 @@ fn replaced_by(
         return Ok(None);
     };
     let names = led_names(alloc, function, measure.0.as_slice(), actuals)?;
-    if !is_candidate(alloc, function, measure.0.as_slice(), names.as_slice(), actuals)? {
+    if !is_candidate(
+        alloc,
+        function,
+        measure.0.as_slice(),
+        names.as_slice(),
+        actuals,
+    )? {
         return Ok(None);
     }
     if !are_few(literals, function.cases.as_slice()) {

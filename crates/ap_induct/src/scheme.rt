@@ -22,11 +22,7 @@ pub struct Scheme {
 }
 
 /// The calls that are looked at: a hint's call alone, or those in the literals.
-fn looked_at(
-    alloc: Global,
-    literals: &[Term],
-    hint: Option<&Term>,
-) -> Result<Seq<Term>, NoMemory>
+fn looked_at(alloc: Global, literals: &[Term], hint: Option<&Term>) -> Result<Seq<Term>, NoMemory>
     ensures { IfOk result (λ us. us ≡ looked_at literals.now (option_copied hint.entry)) }
 {
     let mut out = Seq::new(alloc);

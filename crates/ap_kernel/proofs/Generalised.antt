@@ -1,5 +1,5 @@
 -- Generalization reduces: give the new variable the term's value.
-use Rattle.std.proofs.Common.{◌≡◌, ◌≢◌, ℕ, nat_eq, Bool, true, false, cond, List, [], ◌∷◌, ◌++◌, map, Option, Some, None, ◌⊎◌, inl, inr, refl, ap, sym, ◌∙◌, subst, eqb-true}
+use Rattle.std.proofs.Common.{◌≡◌, ◌≢◌, ℕ, ◌+◌, Bool, true, false, cond, List, [], ◌∷◌, ◌++◌, map, Option, Some, None, ◌⊎◌, inl, inr, refl, ap, sym, ◌∙◌, subst, eqb-true}
 use Rattle.std.specs.Int.Bits.{bit_and}
 use Rattle.std.specs.Int.{bit_at}
 use Rattle.ap_list.specs.Lists.{Each}
@@ -12,7 +12,7 @@ use Rattle.ap_world.specs.declared.entry.Mask.{Mask}
 use Rattle.ap_world.specs.Names.{integerp_name, true_listp_name, consp_name, symbolp_name, stringp_name, characterp_name}
 use Rattle.ap_world.specs.Primitives.{nil, truth}
 use Rattle.ap_world.specs.Meaning.{Env, value_at, Defs, Total}
-use Rattle.ap_world.specs.Types.{type_of}
+use Rattle.ap_world.specs.Types.{type_of, zero_bit, positive_bit, negative_bit, nil_bit, t_bit, symbol_bit, proper_bit, improper_bit, string_bit, character_bit}
 use Rattle.ap_world.specs.Kinds.{without}
 use Rattle.ap_world.specs.Rows.{recognisers, recognised}
 use Rattle.ap_world.specs.Sound.{known, HasFunctions}
@@ -28,7 +28,7 @@ use Rattle.ap_kernel.specs.Masks.{MaskHolds}
 use Rattle.ap_kernel.specs.Reductions.{KnownClause, Follows}
 use Rattle.ap_kernel.specs.Solving.{occurs_in}
 use Rattle.ap_kernel.specs.Swapping.{swapped}
-use Rattle.ap_kernel.specs.Generalising.{lies_within, tried, within_types, fits, first_fitting, asked, restriction, generalised}
+use Rattle.ap_kernel.specs.Generalising.{lies_within, tried, first_fitting, asked, restriction, generalised}
 use Rattle.ap_kernel.proofs.ChoicesStand.{known_not}
 use Rattle.ap_kernel.proofs.Reduced.{any_either, each_append}
 use Rattle.ap_kernel.proofs.PartsSwapped.{SameAt, any_swapped, each_swapped, New, each_new, new_apart, at_self, at_other}
@@ -50,18 +50,55 @@ prim_of_true_listp_known : (D : Defs) → D true_listp_name ≡ Some true_listp_
 unfolding names_open true_listp_function
 prim_of_true_listp_known D here v = simp (here, knowing) refl
 
--- each recogniser that is tried makes a known term
-tried_known : (D : Defs) → HasFunctions D → (v : Symbol) → Each (λ f. known D (Call f (Var v ∷ [])) ≡ true) tried
-tried_known D h v =
-    (simp knowing refl, (prim_of_true_listp_known D (has_true_listp D h) v, (simp knowing refl, (simp knowing refl, (simp knowing refl, (simp knowing refl, tt))))))
+-- a recogniser makes a known term of the variable, and is true of these types
+abbrev Tries : Defs → Symbol → Symbol × ℕ → Type 0
+Tries D v p = (known D (Call p.0 (Var v ∷ [])) ≡ true) × (recognised p.0 ≡ Some p.1)
 
--- what is found first fits, and has what holds of each
-found_fitting : (P : Symbol → Type 0) (m : ℕ) (xs : List Symbol) (b : Symbol) → Each P xs → first_fitting m xs ≡ Some b → P b × (fits m b ≡ true)
-found_fitting P m [] b ps h = cc
-found_fitting P m (x ∷ xs) b ps h = go (fits m x) refl (found_fitting P m xs b ps.1) h
+integers_are : recognised integerp_name ≡ Some (zero_bit + positive_bit + negative_bit)
+unfolding recognised recognisers names_open
+integers_are = refl
+
+lists_are : recognised true_listp_name ≡ Some (nil_bit + proper_bit)
+unfolding recognised recognisers names_open
+lists_are = refl
+
+conses_are : recognised consp_name ≡ Some (proper_bit + improper_bit)
+unfolding recognised recognisers names_open
+conses_are = refl
+
+symbols_are : recognised symbolp_name ≡ Some (nil_bit + t_bit + symbol_bit)
+unfolding recognised recognisers names_open
+symbols_are = refl
+
+strings_are : recognised stringp_name ≡ Some string_bit
+unfolding recognised recognisers names_open
+strings_are = refl
+
+characters_are : recognised characterp_name ≡ Some character_bit
+unfolding recognised recognisers names_open
+characters_are = refl
+
+each_tries : (D : Defs) → HasFunctions D → (v : Symbol) → Each (Tries D v) tried
+unfolding tried
+each_tries D h v = (
+  (simp knowing refl, integers_are),
+  (
+    (prim_of_true_listp_known D (has_true_listp D h) v, lists_are),
+    (
+      (simp knowing refl, conses_are),
+      ((simp knowing refl, symbols_are), ((simp knowing refl, strings_are), ((simp knowing refl, characters_are), tt))),
+    ),
+  ),
+)
+
+-- what is found first has what holds of each, with types that the mask lies within
+found_fitting : (P : Symbol × ℕ → Type 0) (m : ℕ) (xs : List (Symbol × ℕ)) (f : Symbol) → Each P xs → first_fitting m xs ≡ Some f → (r : ℕ) × P (f, r) × (lies_within m r ≡ true)
+found_fitting P m [] f ps h = cc
+found_fitting P m (x ∷ xs) f ps h = go (lies_within m x.1) refl (found_fitting P m xs f ps.1) h
   where
-    go : (c : Bool) → fits m x ≡ c → (first_fitting m xs ≡ Some b → P b × (fits m b ≡ true)) → cond c (Some x) (first_fitting m xs) ≡ Some b → P b × (fits m b ≡ true)
-    go true q later l = let same : x ≡ b = cc in (subst P same ps.0, subst (λ (y : Symbol). fits m y ≡ true) same q)
+    go : (c : Bool) → lies_within m x.1 ≡ c → (first_fitting m xs ≡ Some f → (r : ℕ) × P (f, r) × (lies_within m r ≡ true)) → cond c (Some x.0) (first_fitting m xs) ≡ Some f
+        → (r : ℕ) × P (f, r) × (lies_within m r ≡ true)
+    go true q later l = let same : x.0 ≡ f = cc in (x.1, subst (λ y. P (y, x.1)) same ps.0, q)
     go false q later l = later l
 
 -- a value of a mask within types has one of these
@@ -72,13 +109,6 @@ within_has m r w h has = go (recognises r w) refl
     go true q = refl
     go false q = absurd (apart m (without r) (type_of w) (eqb-true (bit_and m (without r)) 0 h) has (in_without r w (unrecognised_out r w q)))
 
-fits_types : (m : ℕ) (f : Symbol) → fits m f ≡ true → (r : ℕ) × (recognised f ≡ Some r) × (lies_within m r ≡ true)
-fits_types m f h = go (recognised f) refl h
-  where
-    go : (o : Option ℕ) → recognised f ≡ o → within_types m o ≡ true → (r : ℕ) × (recognised f ≡ Some r) × (lies_within m r ≡ true)
-    go None q l = cc
-    go (Some r) q l = (r, q, l)
-
 module _ (D : Defs) (functions : HasFunctions D) (m : ℕ) (v : Symbol) where
   restriction_known : Each (λ u. known D u ≡ true) (restriction m v)
   restriction_known = go (first_fitting m tried) refl
@@ -86,7 +116,8 @@ module _ (D : Defs) (functions : HasFunctions D) (m : ℕ) (v : Symbol) where
       go : (o : Option Symbol) → first_fitting m tried ≡ o → Each (λ u. known D u ≡ true) (asked v o)
       go None q = tt
       go (Some f) q =
-          (known_not D (has_not D functions) (Call f (Var v ∷ [])) (found_fitting (λ f. known D (Call f (Var v ∷ [])) ≡ true) m tried f (tried_known D functions v) q).0, tt)
+          let found = found_fitting (Tries D v) m tried f (each_tries D functions v) q in
+          (known_not D (has_not D functions) (Call f (Var v ∷ [])) found.1.0, tt)
 
   -- where the variable's value has the mask, it is nil
   restriction_nil : (A : Apply) → Models D A → (e : Env) → bit_at m (type_of (value_at e v)) ≡ 1 → AnyTrue A e (restriction m v) → ⊥
@@ -96,10 +127,9 @@ module _ (D : Defs) (functions : HasFunctions D) (m : ℕ) (v : Symbol) where
       go None q h = h
       go (Some f) q (inr h) = h
       go (Some f) q (inl h) =
-          let (k, fit) = found_fitting (λ f. known D (Call f (Var v ∷ [])) ≡ true) m tried f (tried_known D functions v) q in
-          let (r, is, within) = fits_types m f fit in
+          let (r, tries, within) = found_fitting (Tries D v) m tried f (each_tries D functions v) q in
           h (val_not D A ms (has_not D functions) (Call f (Var v ∷ [])) e
-          ∙ ap (λ w. truth (value_eq w nil)) (tests D A ms (has_not D functions) (true_lists_here D functions) f r (recognised_tested f r is) (Var v) e k
+          ∙ ap (λ w. truth (value_eq w nil)) (tests D A ms (has_not D functions) (true_lists_here D functions) f r (recognised_tested f r tries.1) (Var v) e tries.0
           ∙ ap (λ w. truth (recognises r w)) (val_var A v e) ∙ ap truth (within_has m r (value_at e v) within has))
           ∙ ap truth t-not_nil)
 
@@ -139,10 +169,3 @@ generalised_follows D total functions c t v m k kt mask new =
     held A ms e (inr h) =
         any_swapped A e (with_value A t v e) ((t, Var v) ∷ []) (val_var A v (with_value A t v e) ∙ value_new A t v e, tt) c.0
         (value_old A t v e c.0 (each_new v c.0 new)) h
-
--- the recognisers one after another, with the types that each is false of
-pub first_is : (m : ℕ) → first_fitting m tried
-    ≡ cond (nat_eq (bit_and m 1016) 0) (Some integerp_name) (cond (nat_eq (bit_and m 951) 0) (Some true_listp_name) (cond (nat_eq (bit_and m 831) 0) (Some consp_name)
-    (cond (nat_eq (bit_and m 967) 0) (Some symbolp_name) (cond (nat_eq (bit_and m 767) 0) (Some stringp_name) (cond (nat_eq (bit_and m 511) 0) (Some characterp_name) None)))))
-unfolding recognised recognisers names_open
-first_is m = refl

@@ -7,7 +7,7 @@ ghost use Rattle.ap_world.specs.World.{function_of};
 ghost use Rattle.ap_kernel.specs.Standing.{HasGround};
 ghost use Rattle.ap_kernel.specs.Reductions.{KnownClause, Reduces};
 ghost use Rattle.ap_kernel.specs.Solving.{occurs_in};
-ghost use Rattle.ap_kernel.specs.Eliminating.{consp_term, taken_apart, without_first, elim_goals, eliminated};
+ghost use Rattle.ap_kernel.specs.Eliminating.{call_on, consp_term, taken_apart, without_first, elim_goals, eliminated};
 
 use crate::choices::not_term;
 use crate::generalising::call_on;
@@ -16,50 +16,47 @@ use crate::reductions::Reduction;
 use crate::swapping::swapped_all;
 use ap_list::{NoMemory, Seq};
 use ap_term::{Clause, Term, copy_term, copy_terms, is_same};
-use ap_value::{Symbol, copy_symbol, named};
+use ap_value::{Symbol, acl2, copy_symbol};
 use ap_world::World;
 use std::alloc::Global;
 
-/// The symbol `car`. Takes no memory.
+/// `(car v)`
 #[tactic(auto, unfolding(ap_world::specs::Names::car_name))]
-fn car_symbol() -> Symbol
-    ensures { result ≡ car_name }
+fn car_term(alloc: Global, v: &Symbol) -> Result<Term, NoMemory>
+    ensures { IfOk result (λ u. u ≡ call_on car_name v.now) }
 {
-    named(b"CAR")
+    let head = acl2(alloc, b"CAR")?;
+    call_on(alloc, head, v)
 }
 
-/// The symbol `cdr`. Takes no memory.
+/// `(cdr v)`
 #[tactic(auto, unfolding(ap_world::specs::Names::cdr_name))]
-fn cdr_symbol() -> Symbol
-    ensures { result ≡ cdr_name }
+fn cdr_term(alloc: Global, v: &Symbol) -> Result<Term, NoMemory>
+    ensures { IfOk result (λ u. u ≡ call_on cdr_name v.now) }
 {
-    named(b"CDR")
+    let head = acl2(alloc, b"CDR")?;
+    call_on(alloc, head, v)
 }
 
-/// The symbol `cons`. Takes no memory.
-#[tactic(auto, unfolding(ap_world::specs::Names::cons_name))]
-fn cons_symbol() -> Symbol
-    ensures { result ≡ cons_name }
-{
-    named(b"CONS")
-}
-
-/// The symbol `consp`. Takes no memory.
+/// `(consp v)`
 #[tactic(auto, unfolding(ap_world::specs::Names::consp_name))]
-fn consp_symbol() -> Symbol
-    ensures { result ≡ consp_name }
+fn consp_term(alloc: Global, v: &Symbol) -> Result<Term, NoMemory>
+    ensures { IfOk result (λ u. u ≡ consp_term v.now) }
 {
-    named(b"CONSP")
+    let head = acl2(alloc, b"CONSP")?;
+    call_on(alloc, head, v)
 }
 
 /// `(cons a b)` of two variables.
-fn cons_of(alloc: Global, a: &Symbol, b: &Symbol) -> Result<Term, NoMemory>
+#[tactic(auto, unfolding(ap_world::specs::Names::cons_name))]
+fn cons_term(alloc: Global, a: &Symbol, b: &Symbol) -> Result<Term, NoMemory>
     ensures { IfOk result (λ u. u ≡ Call cons_name (Var a.now ∷ Var b.now ∷ [])) }
 {
+    let head = acl2(alloc, b"CONS")?;
     let mut parts = Seq::new(alloc);
     parts.push(Term::Var(copy_symbol(alloc, a)?))?;
     parts.push(Term::Var(copy_symbol(alloc, b)?))?;
-    Term::call(alloc, cons_symbol(), parts)
+    Term::call(alloc, head, parts)
 }
 
 /// What `(car v)`, `(cdr v)` and other `v` become: the first new variable, the second, and their cons.
@@ -71,9 +68,9 @@ fn taken_apart(
 ) -> Result<Seq<(Term, Term)>, NoMemory>
     ensures { IfOk result (λ s. s ≡ taken_apart v.now a b) }
 {
-    let pair = cons_of(alloc, &a, &b)?;
-    let front = call_on(alloc, car_symbol(), v)?;
-    let rest = call_on(alloc, cdr_symbol(), v)?;
+    let pair = cons_term(alloc, &a, &b)?;
+    let front = car_term(alloc, v)?;
+    let rest = cdr_term(alloc, v)?;
     let mut pairs = Seq::new(alloc);
     pairs.push((front, Term::Var(a)))?;
     pairs.push((rest, Term::Var(b)))?;
@@ -96,13 +93,6 @@ fn without_first(alloc: Global, u: &Term, terms: &[Term]) -> Result<Option<Seq<T
         left = rest;
     }
     Ok(None)
-}
-
-/// `(consp v)`
-fn consp_term(alloc: Global, v: &Symbol) -> Result<Term, NoMemory>
-    ensures { IfOk result (λ u. u ≡ consp_term v.now) }
-{
-    call_on(alloc, consp_symbol(), v)
 }
 
 /// The literals that are reduced: those without `(not (consp v))`, where that is one of them.

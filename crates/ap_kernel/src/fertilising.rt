@@ -115,12 +115,7 @@ fn fertilised(
 }
 
 /// What the literal at the second place becomes by the one at the first, if it does.
-fn literal_changed(
-    alloc: Global,
-    c: &Clause,
-    i: usize,
-    j: usize,
-) -> Result<Option<Term>, NoMemory>
+fn literal_changed(alloc: Global, c: &Clause, i: usize, j: usize) -> Result<Option<Term>, NoMemory>
     ensures { IfOk result (λ o. and_then o (λ u. Some (fertilised c.now i j u)) ≡ fertilise_made c.now i j) }
 {
     let Some(hypothesis) = c.0.get(i) else {

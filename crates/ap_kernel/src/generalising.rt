@@ -1,4 +1,6 @@
 ghost use Rattle.std.specs.Prelude.{◌≡◌, ◌++◌, [], ◌∷◌, false, map, IfOk, IsTrue};
+ghost use Rattle.std.specs.Option.{option_map};
+ghost use Rattle.ap_value.specs.Values.{acl2};
 ghost use Rattle.ap_term.specs.declared.term.Term.TheVariants.{Var};
 ghost use Rattle.ap_world.specs.Sound.{known, HasFunctions};
 ghost use Rattle.ap_world.specs.World.{function_of};
@@ -7,7 +9,7 @@ ghost use Rattle.ap_kernel.specs.Reductions.{KnownClause, Reduces};
 ghost use Rattle.ap_kernel.specs.Solving.{occurs_in};
 ghost use Rattle.ap_kernel.specs.Swapping.{swapped};
 ghost use Rattle.ap_kernel.specs.Eliminating.{call_on};
-ghost use Rattle.ap_kernel.specs.Generalising.{tried, first_fitting, restriction, generalised};
+ghost use Rattle.ap_kernel.specs.Generalising.{lies_within, tried, first_fitting, restriction, generalised};
 
 use crate::choices::not_term;
 use crate::literals::to_one;
@@ -15,35 +17,44 @@ use crate::reductions::Reduction;
 use crate::swapping::swapped_all;
 use ap_list::{NoMemory, Seq};
 use ap_term::{Clause, Term, copy_term};
-use ap_value::{Symbol, copy_symbol, named};
+use ap_value::{Symbol, acl2, copy_symbol};
 use ap_world::{Mask, World};
 use std::alloc::Global;
 
-/// The first of six recognisers whose types a mask lies within: `integerp`, `true-listp`, `consp`, `symbolp`,
-/// `stringp`, `characterp`. Takes no memory.
-#[tactic(auto, using(crate::proofs::Generalised::first_is))]
-fn recogniser_of(mask: Mask) -> Option<Symbol>
-    ensures { result ≡ first_fitting mask.0 tried }
+/// Whether each type of the first mask is one of the second. Takes no memory.
+fn lies_within(mask: u16, types: u16) -> bool
+    ensures { result ≡ lies_within mask types }
 {
-    if mask.0 & 1016 == 0 {
-        return Some(named(b"INTEGERP"));
-    }
-    if mask.0 & 951 == 0 {
-        return Some(named(b"TRUE-LISTP"));
-    }
-    if mask.0 & 831 == 0 {
-        return Some(named(b"CONSP"));
-    }
-    if mask.0 & 967 == 0 {
-        return Some(named(b"SYMBOLP"));
-    }
-    if mask.0 & 767 == 0 {
-        return Some(named(b"STRINGP"));
-    }
-    if mask.0 & 511 == 0 {
-        return Some(named(b"CHARACTERP"));
+    mask & (1023 ^ types) == 0
+}
+
+/// The first name of a table whose types a mask lies within. Takes no memory.
+fn first_fitting(mask: u16, table: &[(&'static [u8], u16)]) -> Option<&'static [u8]>
+    ensures { option_map (λ b. acl2 b.now) result ≡ first_fitting mask (map (λ p. (acl2 p.0.now, p.1)) table.now) }
+{
+    for (name, types) in table {
+        if lies_within(mask, *types) {
+            return Some(*name);
+        }
     }
     None
+}
+
+/// The first recogniser, of six in their order, whose types a mask lies within. Takes no memory.
+fn recogniser_of(mask: Mask) -> Option<&'static [u8]>
+    ensures { option_map (λ b. acl2 b.now) result ≡ first_fitting mask.0 tried }
+{
+    first_fitting(
+        mask.0,
+        &[
+            (b"INTEGERP", 1 + 2 + 4),
+            (b"TRUE-LISTP", 8 + 64),
+            (b"CONSP", 64 + 128),
+            (b"SYMBOLP", 8 + 16 + 32),
+            (b"STRINGP", 256),
+            (b"CHARACTERP", 512),
+        ],
+    )
 }
 
 /// The call of a function on a variable.
@@ -60,8 +71,9 @@ fn restriction(alloc: Global, mask: Mask, v: &Symbol) -> Result<Seq<Term>, NoMem
     ensures { IfOk result (λ ts. ts ≡ restriction mask.0 v.now) }
 {
     let mut out = Seq::new(alloc);
-    if let Some(recogniser) = recogniser_of(mask) {
-        let test = call_on(alloc, recogniser, v)?;
+    if let Some(name) = recogniser_of(mask) {
+        let head = acl2(alloc, name)?;
+        let test = call_on(alloc, head, v)?;
         out.push(not_term(alloc, test)?)?;
     }
     Ok(out)

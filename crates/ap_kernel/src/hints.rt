@@ -54,12 +54,7 @@ fn case_clauses(alloc: Global, on: &[Term], literals: &[Term]) -> Result<Seq<Cla
 /// From a clause to one clause for each of some terms, the term's negation before the clause, and last to the
 /// clause with all the terms before it. It copies the literals for each, since the reduction owns all clauses.
 /// See the manual's topic `cases`.
-pub fn cases(
-    alloc: Global,
-    w: &World,
-    c: Clause,
-    on: &Seq<Term>,
-) -> Result<Reduction, NoMemory>
+pub fn cases(alloc: Global, w: &World, c: Clause, on: &Seq<Term>) -> Result<Reduction, NoMemory>
     requires ground { HasGround (function_of w.now.entries) }
     requires clause { KnownClause (function_of w.now.entries) c }
     requires terms { Each (λ u. IsTrue (known (function_of w.now.entries) u)) on.now }

@@ -15,7 +15,7 @@ use crate::reductions::Reduction;
 use crate::splits::negated;
 use ap_list::{NoMemory, Seq};
 use ap_term::{Clause, Subst, Term, copy_term, copy_terms, subst};
-use ap_value::{Symbol, copy_symbol, named};
+use ap_value::{Symbol, acl2, copy_symbol};
 use ap_world::{Case, World};
 use std::alloc::Global;
 
@@ -88,8 +88,8 @@ pub fn variable_of(alloc: Global, t: &Term) -> Result<Symbol, NoMemory>
 {
     match t {
         Term::Var(x) => copy_symbol(alloc, x),
-        Term::Quote(_) => Ok(named(b"NIL")),
-        Term::Call(_, _) => Ok(named(b"NIL")),
+        Term::Quote(_) => acl2(alloc, b"NIL"),
+        Term::Call(_, _) => acl2(alloc, b"NIL"),
     }
 }
 
@@ -99,18 +99,16 @@ fn pairs_of(alloc: Global, places: &[Place]) -> Result<Subst, NoMemory>
 {
     let mut out = Seq::new(alloc);
     for place in places {
-        out.push((copy_symbol(alloc, &place.formal)?, copy_term(alloc, &place.actual)?))?;
+        out.push((
+            copy_symbol(alloc, &place.formal)?,
+            copy_term(alloc, &place.actual)?,
+        ))?;
     }
     Ok(Subst(out))
 }
 
 /// What the variables that are replaced become for a call: its arguments at the actuals.
-fn moved_at(
-    alloc: Global,
-    s: &Subst,
-    places: &[Place],
-    call: &[Term],
-) -> Result<Subst, NoMemory>
+fn moved_at(alloc: Global, s: &Subst, places: &[Place], call: &[Term]) -> Result<Subst, NoMemory>
     ensures { IfOk result (λ z. z.0 ≡ moved_at s.now.0 places.now call.now) }
 {
     let mut left = places;

@@ -62,7 +62,8 @@
 //! [`if_shape`] ask of a term, [`can_open`] and [`is_constant_call`] what [`open_def`] and [`fold`] do,
 //! [`are_relieved`] what [`apply_theorem`] does, [`is_comparison`] what [`by_certificate`] does,
 //! [`is_choice_in`] and [`is_solvable`] what [`split_if`] and [`use_equality`] ask of a literal, and
-//! [`bare_test`] finds the term whose mask [`if_shape`] is handed. A [`TypeOracle`] says which types a term can
+//! [`bare_test`] finds the term whose mask [`if_shape`] is handed. [`occurs_in`] tells whether a variable is new,
+//! [`contains`] whether a term is a part of another, [`is_led`] which formals lead an induction. A [`TypeOracle`] says which types a term can
 //! have, a [`LinearOracle`] finds certificates. [`shape_of`] tells a term by its head, its parts lent; what
 //! terms the rows build, others build by the same calls ([`if_term`], [`not_term`], [`equal_term`],
 //! [`negated`], [`subst`]).
@@ -123,13 +124,13 @@ pub use negations::double_not;
 pub use objects::{Ctx, Equiv, Mode, Sequent};
 pub use opening::{can_open, fold, is_constant_call, open_def};
 pub use parts::{conclusion, conclusion_part, hypotheses, is_iff};
-pub use places::{Place, is_led, mentions};
+pub use places::{is_led, mentions};
 pub use plain::{refl, trans, weaken_mode};
 pub use reductions::{Inference, Reduction};
 pub use relieving::are_relieved;
 pub use shapes::{Head, ShapeRef, head_of, is_equal, is_if, is_implies, is_not, shape_of};
 pub use solving::{is_solvable, occurs_in, use_equality};
 pub use splits::{is_choice_in, negated, split_if};
-pub use swapping::{contains, some_contains, swapped, swapped_all};
+pub use swapping::{contains, some_contains};
 pub use tidying::{is_among, tidy};
 pub use types::{TypeOracle, by_type};

@@ -121,7 +121,13 @@ fn is_in_one(x: &Symbol, terms: &[Term]) -> bool
 
 /// Whether a formal that some call changes has a variable as its actual that no other actual has. Takes no
 /// memory.
-fn follows(function: &Function, measure: &[Term], actuals: &[Term], x: &Symbol, actual: &Term) -> bool
+fn follows(
+    function: &Function,
+    measure: &[Term],
+    actuals: &[Term],
+    x: &Symbol,
+    actual: &Term,
+) -> bool
     ensures { result ≡ follows function.now.formals measure.now function.now.cases actuals.now (x.now, actual.now) }
 {
     if !changes(function.formals.as_slice(), function.cases.as_slice(), x) {

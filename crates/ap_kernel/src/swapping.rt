@@ -26,7 +26,7 @@ fn other_of<'a>(pairs: &'a [(Term, Term)], t: &Term) -> Option<&'a Term>
 /// outermost parts first. The time is linear in the term's size for pairs that are given. What isn't changed
 /// within a call that is, is shared.
 #[cycle(swapping)]
-pub fn swapped(alloc: Global, pairs: &[(Term, Term)], t: &Term) -> Result<Term, NoMemory>
+pub(crate) fn swapped(alloc: Global, pairs: &[(Term, Term)], t: &Term) -> Result<Term, NoMemory>
     ensures { IfOk result (λ u. u ≡ swapped pairs.now t.now) }
 {
     if let Some(by) = other_of(pairs, t) {
@@ -44,7 +44,7 @@ pub fn swapped(alloc: Global, pairs: &[(Term, Term)], t: &Term) -> Result<Term, 
 
 /// The same of each of some terms, in their order.
 #[cycle(swapping)]
-pub fn swapped_all(
+pub(crate) fn swapped_all(
     alloc: Global,
     pairs: &[(Term, Term)],
     ts: &[Term],
