@@ -28,7 +28,7 @@ use ap_rules::Ruled;
 use ap_term::Term;
 use ap_translate::{TransError, TransKind, can_be_bound, translate};
 use ap_types::kept_mask;
-use ap_value::{Symbol, copy_symbol, same_symbol};
+use ap_value::{Symbol, copy_symbol};
 use ap_world::{AddError, Function, Mask, World};
 use std::alloc::{AllocError, Global};
 use std::slice::from_ref;
@@ -149,19 +149,12 @@ fn translated_parts(
     translate_all(alloc, w.world(), definition)
 }
 
-/// Whether two symbols are one, as the definitions test it.
-fn is_same(a: &Symbol, b: &Symbol) -> bool
-    ensures { result ≡ symbol_eq a.now b.now }
-{
-    same_symbol(a, b)
-}
-
 /// Whether a form is the name.
 fn is_the_name(name: &Symbol, form: &Form) -> bool
     ensures { result ≡ (seen_in name.now form.now).named }
 {
     match &form.body {
-        Body::Sym(symbol) => is_same(name, symbol),
+        Body::Sym(symbol) => ap_term::is_symbol(name, symbol),
         _ => false,
     }
 }

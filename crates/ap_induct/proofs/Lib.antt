@@ -1,9 +1,2 @@
-pub mod Induct
-pub mod InductBy
-pub mod Varying
-pub mod Moving
-pub mod InductRow
-pub mod Candidate
-pub mod Inducting
 pub mod Samples
-pub mod Row
+pub mod Chosen

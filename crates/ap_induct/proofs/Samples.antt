@@ -7,7 +7,7 @@ use Rattle.ap_world.specs.Recursion.{count_of}
 use Rattle.ap_world.specs.Ground.{one, two, a, x, y, append_function}
 use Rattle.ap_world.proofs.Equations.{names_open}
 use Rattle.ap_world.proofs.Written.{speaking, instances, recursion, out_var, out_call}
-use Rattle.ap_induct.specs.Induction.{is_candidate, places_of, induction_at}
+use Rattle.ap_kernel.specs.Induction.{is_candidate, places_of, induction_at}
 
 append_cases : append_function.cases ≡ record { tests = one endp_name x ∷ []; calls = [] } ∷ record { tests = one not_name (one endp_name x) ∷ []; calls = (one cdr_name x ∷ y ∷ []) ∷ [] } ∷ []
 unfolding append_function names_open
