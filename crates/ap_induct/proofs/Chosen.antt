@@ -1,10 +1,10 @@
 -- The call that is chosen is a candidate, and a term of the world.
-use Rattle.std.proofs.Common.{◌≡◌, ℕ, nat_le, Bool, true, false, cond, ◌&&◌, List, [], ◌∷◌, map, zip, length, Option, Some, None, refl, ap, sym, ◌∙◌, subst}
+use Rattle.std.proofs.Common.{◌≡◌, ℕ, nat_le, Bool, true, false, cond, ◌&&◌, List, [], ◌∷◌, ◌++◌, map, zip, length, Option, Some, None, refl, ap, sym, ◌∙◌, subst, append_assoc, append-nil}
 use Rattle.std.specs.Option.{option_map, ForSome}
 use Rattle.ap_list.specs.Lists.{Each, joined}
 use Rattle.ap_value.specs.declared.symbol.Symbol.{Symbol}
-use Rattle.ap_value.proofs.Equals.{both}
-use Rattle.ap_term.specs.declared.term.Term.{Term, out-Term, Call}
+use Rattle.ap_value.specs.declared.value.Value.{Value}
+use Rattle.ap_term.specs.declared.term.Term.{Term, out-Term, Var, Quote, Call}
 use Rattle.ap_term.specs.declared.term.Term.TheOpen.{Term-F}
 use Rattle.ap_term.specs.declared.term.Term.TheVariants.{outs-Call}
 use Rattle.ap_term.specs.declared.term.Clause.{Clause}
@@ -27,6 +27,22 @@ pub calls_call : (f : Symbol) (ts : List Term) → calls_of (Call f ts) ≡ Call
 calls_call f ts = para_call calls_step f ts
     ∙ ap (λ us. Call f us ∷ joined (map (λ (p : Term × List Term). p.1) (map (λ u. (u, calls_of u)) ts))) (first_parts calls_of ts)
     ∙ ap (λ zs. Call f ts ∷ joined zs) (second_parts calls_of ts)
+
+-- a call is put before those of its arguments; a variable and a constant have none
+pub calls_pushed : (f : Symbol) (ts lent : List Term) (t copy : Term) (out pushed : List Term) → t ≡ Call f ts → lent ≡ ts → copy ≡ t → pushed ≡ out ++ copy ∷ [] → pushed ++ calls_among lent ≡ out ++ calls_of t
+calls_pushed f ts lent t copy out pushed is same as_is p =
+    ap (λ zs. zs ++ calls_among lent) p
+    ∙ append_assoc out (copy ∷ []) (calls_among lent)
+    ∙ ap (λ z. out ++ (z ∷ calls_among lent)) (as_is ∙ is)
+    ∙ ap (λ us. out ++ (Call f ts ∷ calls_among us)) same
+    ∙ ap (λ zs. out ++ zs) (sym (calls_call f ts))
+    ∙ ap (λ u. out ++ calls_of u) (sym is)
+
+pub no_calls_var : (t : Term) (x : Symbol) (out : List Term) → t ≡ Var x → out ≡ out ++ calls_of t
+no_calls_var t x out is = sym (ap (λ u. out ++ calls_of u) is ∙ ap (λ zs. out ++ zs) (para_var calls_step x) ∙ append-nil out)
+
+pub no_calls_quote : (t : Term) (v : Value) (out : List Term) → t ≡ Quote v → out ≡ out ++ calls_of t
+no_calls_quote t v out is = sym (ap (λ u. out ++ calls_of u) is ∙ ap (λ zs. out ++ zs) (para_quote calls_step v) ∙ append-nil out)
 
 -- the calls in known literals are known
 calls_known : (D : Defs) (u : Term) → known D u ≡ true → Each (λ z. known D z ≡ true) (calls_of u)

@@ -57,7 +57,7 @@ pub fn scheme(
 ) -> Result<Option<Scheme>, NoMemory>
     requires functions { HasFunctions (function_of w.now.entries) }
     requires clause { KnownClause (function_of w.now.entries) c.now }
-    requires hint { ForSome (option_copied hint.entry) (λ u. IsTrue (known (function_of w.now.entries) u)) }
+    requires hint { ForSome (option_copied hint) (λ u. IsTrue (known (function_of w.now.entries) u)) }
     ensures stands { IfOk result (λ o. IfSome o (λ s. Reduces w.now s.reduction)) }
     ensures made { IfOk result (λ o. option_map (λ s. (s.call, s.reduction.says)) o ≡ scheme_of (function_of w.now.entries) theory.now c.now (option_copied hint.entry)) }
 {
