@@ -17,11 +17,10 @@ use Rattle.ap_world.specs.Meaning.{Defs}
 use Rattle.ap_world.specs.Sound.{known}
 use Rattle.ap_world.proofs.Knowing.{known_args, each_true}
 use Rattle.ap_world.proofs.Written.{first_parts, second_parts}
-use Rattle.ap_kernel.specs.declared.reductions.Inference.{Inference}
-use Rattle.ap_kernel.specs.Splits.{and_then}
-use Rattle.ap_kernel.specs.Induction.{led_names, is_candidate, measured_leads, leads_induction, induct_made}
+use Rattle.ap_kernel.specs.Reductions.{KnownClause}
+use Rattle.ap_kernel.specs.Induction.{led_names, is_candidate, measured_leads, leads_induction}
 use Rattle.ap_kernel.proofs.Reduced.{each_append}
-use Rattle.ap_induct.specs.Choosing.{calls_step, calls_of, calls_among, clause_count, replaced_by, function_replaces, replaces, with_names, candidates, score, better, best, best_call, looked_at, chosen, induction_by, scheme_by, scheme_of}
+use Rattle.ap_induct.specs.Choosing.{calls_step, calls_of, calls_among, clause_count, replaced_by, function_replaces, replaces, with_names, candidates, score, better, best, best_call, looked_at, chosen}
 
 pub calls_call : (f : Symbol) (ts : List Term) → calls_of (Call f ts) ≡ Call f ts ∷ calls_among ts
 calls_call f ts = para_call calls_step f ts
@@ -135,13 +134,8 @@ chosen_leads D h ts o f us ks hint e = go (best all all) refl e
           leads = candidate_leads D h (length ts) f us p.1 (ap (replaces D h (length ts)) (sym (outs-Call f us)) ∙ ap (λ z. replaces D h (length ts) (out-Term z)) (sym same) ∙ there);
         }
 
--- where no call is chosen there is no induction, else the one by the chosen call
-pub none_chosen : (D : Defs) (h : ShownTheory) (c : Clause) (o : Option Term) → chosen D h c.0 o ≡ None → scheme_of D h c o ≡ None
-none_chosen D h c o e = ap (λ z. and_then z (scheme_by D c)) e
-
-pub by_chosen : (D : Defs) (h : ShownTheory) (c : Clause) (o : Option Term) (f : Symbol) (us : List Term) (i : Inference) → chosen D h c.0 o ≡ Some (Call f us) → induct_made (D f) c us ≡ Some i
-    → scheme_of D h c o ≡ Some (Call f us, i)
-by_chosen D h c o f us i e made =
-    ap (λ z. and_then z (scheme_by D c)) e
-    ∙ ap (λ y. option_map (λ (i : Inference). (Call f us, i)) (induction_by D c y)) (outs-Call f us)
-    ∙ ap (option_map (λ (i : Inference). (Call f us, i))) made
+-- so the kernel may be asked for the induction by it
+pub chosen_asks : (D : Defs) (h : ShownTheory) (c : Clause) (o : Option Term) (f : Symbol) (us lent literals : List Term) (found : Option Term) (call : Term) → literals ≡ c.0 → found ≡ chosen D h literals o
+    → found ≡ Some call → call ≡ Call f us → lent ≡ us → KnownClause D c → ForSome o (λ u. known D u ≡ true) → IsChosen D f lent
+chosen_asks D h c o f us lent literals found call same is some at args k hint =
+    subst (IsChosen D f) (sym args) (chosen_leads D h c.0 o f us k hint (ap (λ ts. chosen D h ts o) (sym same) ∙ sym is ∙ some ∙ (λ i. Some (at i))))
