@@ -7,6 +7,7 @@ use Rattle.ap_value.proofs.Equals.{both}
 use Rattle.ap_term.specs.declared.term.Term.{Term, out-Term, Call}
 use Rattle.ap_term.specs.declared.term.Term.TheOpen.{Term-F}
 use Rattle.ap_term.specs.declared.term.Term.TheVariants.{outs-Call}
+use Rattle.ap_term.specs.declared.term.Clause.{Clause}
 use Rattle.ap_term.proofs.Induction.{term_ind, para_var, para_quote, para_call}
 use Rattle.ap_world.specs.declared.entry.Measure.{Measure}
 use Rattle.ap_world.specs.declared.entry.Function.{Function}
@@ -16,9 +17,11 @@ use Rattle.ap_world.specs.Meaning.{Defs}
 use Rattle.ap_world.specs.Sound.{known}
 use Rattle.ap_world.proofs.Knowing.{known_args, each_true}
 use Rattle.ap_world.proofs.Written.{first_parts, second_parts}
-use Rattle.ap_kernel.specs.Induction.{led_names, is_candidate, measured_leads, leads_induction}
+use Rattle.ap_kernel.specs.declared.reductions.Inference.{Inference}
+use Rattle.ap_kernel.specs.Splits.{and_then}
+use Rattle.ap_kernel.specs.Induction.{led_names, is_candidate, measured_leads, leads_induction, induct_made}
 use Rattle.ap_kernel.proofs.Reduced.{each_append}
-use Rattle.ap_induct.specs.Choosing.{calls_step, calls_of, calls_among, clause_count, replaced_by, function_replaces, replaces, with_names, candidates, score, better, best, best_call, looked_at, chosen}
+use Rattle.ap_induct.specs.Choosing.{calls_step, calls_of, calls_among, clause_count, replaced_by, function_replaces, replaces, with_names, candidates, score, better, best, best_call, looked_at, chosen, induction_by, scheme_by, scheme_of}
 
 pub calls_call : (f : Symbol) (ts : List Term) → calls_of (Call f ts) ≡ Call f ts ∷ calls_among ts
 calls_call f ts = para_call calls_step f ts
@@ -115,3 +118,14 @@ chosen_leads D h ts o f us ks hint e = go (best all all) refl e
           call = subst (λ z. known D z ≡ true) same k;
           leads = candidate_leads D h (length ts) f us p.1 (ap (replaces D h (length ts)) (sym (outs-Call f us)) ∙ ap (λ z. replaces D h (length ts) (out-Term z)) (sym same) ∙ there);
         }
+
+-- where no call is chosen there is no induction, else the one by the chosen call
+pub none_chosen : (D : Defs) (h : ShownTheory) (c : Clause) (o : Option Term) → chosen D h c.0 o ≡ None → scheme_of D h c o ≡ None
+none_chosen D h c o e = ap (λ z. and_then z (scheme_by D c)) e
+
+pub by_chosen : (D : Defs) (h : ShownTheory) (c : Clause) (o : Option Term) (f : Symbol) (us : List Term) (i : Inference) → chosen D h c.0 o ≡ Some (Call f us) → induct_made (D f) c us ≡ Some i
+    → scheme_of D h c o ≡ Some (Call f us, i)
+by_chosen D h c o f us i e made =
+    ap (λ z. and_then z (scheme_by D c)) e
+    ∙ ap (λ y. option_map (λ (i : Inference). (Call f us, i)) (induction_by D c y)) (outs-Call f us)
+    ∙ ap (option_map (λ (i : Inference). (Call f us, i))) made

@@ -8,18 +8,12 @@ ghost use Rattle.ap_induct.specs.Choosing.{looked_at, chosen, scheme_of};
 
 use crate::candidates::candidates;
 use crate::choosing::{best_call, push_all_calls};
-use ap_kernel::{Reduction, induct};
+use crate::found::Scheme;
+use ap_kernel::induct;
 use ap_list::{NoMemory, Seq};
 use ap_term::{Clause, Term, copy_term, copy_terms};
 use ap_world::{Theory, World};
 use std::alloc::Global;
-
-/// An induction: the call that it goes by, and what the clause is reduced to.
-#[derive(Drop)]
-pub struct Scheme {
-    pub call: Term,
-    pub reduction: Reduction,
-}
 
 /// The calls that are looked at: a hint's call alone, or those in the literals.
 fn looked_at(alloc: Global, literals: &[Term], hint: Option<&Term>) -> Result<Seq<Term>, NoMemory>
