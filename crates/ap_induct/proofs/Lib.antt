@@ -1,3 +1,5 @@
 pub mod Samples
-pub mod Chosen
+pub mod Leading
 pub mod Powers
+pub mod Counted
+pub mod Followed

@@ -17,4 +17,4 @@ pub use ap_kernel::{Clause, Reduction, Term, World};
 pub use ap_list::NoMemory;
 pub use ap_world::Theory;
 pub use found::Scheme;
-pub use schemes::scheme;
+pub use schemes::{chosen, scheme};

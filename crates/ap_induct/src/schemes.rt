@@ -27,8 +27,10 @@ fn looked_at(alloc: Global, literals: &[Term], hint: Option<&Term>) -> Result<Se
     Ok(out)
 }
 
-/// The call that an induction goes by, if there is a candidate.
-fn chosen(
+/// The call that an induction of these literals goes by: the hint's, if it is a candidate, or the first of the
+/// highest score among the calls in the literals. `None` exactly where there is no candidate. The only error is
+/// want of memory.
+pub fn chosen(
     alloc: Global,
     w: &World,
     theory: &Theory,

@@ -1,7 +1,7 @@
 use Rattle.std.proofs.Common.{◌++◌}
 use Rattle.std.proofs.lemmas.Result.{IfOk-equal}
 use Rattle.ap_induct.specs.Choosing.{calls_of, calls_among}
-use Rattle.ap_induct.proofs.Chosen.{calls_pushed, no_calls_var, no_calls_quote}
+use Rattle.ap_induct.proofs.Leading.{calls_pushed, no_calls_var, no_calls_quote}
 use Rattle.ap_induct.proofs.choosing.+calls.Goals as goal
 
 pub push_calls-returns-in_ok-push-in-Call : goal.push_calls-returns-in_ok-push-in-Call

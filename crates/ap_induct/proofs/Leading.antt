@@ -81,6 +81,11 @@ best_holds P qs (q ∷ rest) p hs h = go (best qs rest) refl (λ r e. best_holds
     go None e later l = let same : q ≡ p = cc in subst P same hs.0
     go (Some r) e later l = pick r (nat_le (score qs r.1) (score qs q.1)) (later r e) l
 
+-- the induction of so many literals by the function has at most 1,024 clauses
+abbrev pub has_few : Option Function → ℕ → Bool
+has_few None n = false
+has_few (Some g) n = nat_le (clause_count n g.cases) 1024
+
 module _ (D : Defs) (h : ShownTheory) (n : ℕ) where
   abbrev Leads : Term × List Symbol → Type 0
   Leads p = (replaces D h n (out-Term p.0) ≡ Some p.1) × (known D p.0 ≡ true)
@@ -93,49 +98,53 @@ module _ (D : Defs) (h : ShownTheory) (n : ℕ) where
       one None e = tt
       one (Some xs) e = ((e, ks.0), tt)
 
-  -- a candidate has what the kernel asks of it
-  candidate_leads : (f : Symbol) (ts : List Term) (xs : List Symbol) → replaces D h n (Term-F.Call f ts) ≡ Some xs → leads_induction (D f) ts ≡ true
+  -- a candidate has what the kernel asks of it, and its induction isn't too long
+  candidate_leads : (f : Symbol) (ts : List Term) (xs : List Symbol) → replaces D h n (Term-F.Call f ts) ≡ Some xs → (leads_induction (D f) ts ≡ true) × (has_few (D f) n ≡ true)
   candidate_leads f ts xs e = enabled (is_enabled h (rune_of Induction f)) e
     where
-      pass : (b c : Bool) (ys : List Symbol) → cond (b && c) (Some ys) None ≡ Some xs → b ≡ true
-      pass true c ys l = refl
+      pass : (b c : Bool) (ys : List Symbol) → cond (b && c) (Some ys) None ≡ Some xs → (b ≡ true) × (c ≡ true)
+      pass true true ys l = (refl, refl)
+      pass true false ys l = cc
       pass false c ys l = cc
 
-      measured : (g : Function) (o : Option Measure) → replaced_by g o n ts ≡ Some xs → measured_leads g o ts ≡ true
+      measured : (g : Function) (o : Option Measure) → replaced_by g o n ts ≡ Some xs → (measured_leads g o ts ≡ true) × (has_few (Some g) n ≡ true)
       measured g None l = cc
       measured g (Some m) l = pass (is_candidate g.formals m.0 g.cases ts) (nat_le (clause_count n g.cases) 1024) (led_names g.formals m.0 g.cases (zip g.formals ts)) l
 
-      there : (o : Option Function) → function_replaces o n ts ≡ Some xs → leads_induction o ts ≡ true
+      there : (o : Option Function) → function_replaces o n ts ≡ Some xs → (leads_induction o ts ≡ true) × (has_few o n ≡ true)
       there None l = cc
       there (Some g) l = measured g g.measure l
 
-      enabled : (b : Bool) → cond b (function_replaces (D f) n ts) None ≡ Some xs → leads_induction (D f) ts ≡ true
+      enabled : (b : Bool) → cond b (function_replaces (D f) n ts) None ≡ Some xs → (leads_induction (D f) ts ≡ true) × (has_few (D f) n ≡ true)
       enabled true l = there (D f) l
       enabled false l = cc
 
-pub record IsChosen (D : Defs) (f : Symbol) (us : List Term) : Type 0 where
+pub record IsChosen (D : Defs) (n : ℕ) (f : Symbol) (us : List Term) : Type 0 where
   pub call : known D (Call f us) ≡ true
   pub leads : leads_induction (D f) us ≡ true
+  pub few : has_few (D f) n ≡ true
 
 pub chosen_leads : (D : Defs) (h : ShownTheory) (ts : List Term) (o : Option Term) (f : Symbol) (us : List Term) → Each (λ u. known D u ≡ true) ts → ForSome o (λ u. known D u ≡ true)
-    → chosen D h ts o ≡ Some (Call f us) → IsChosen D f us
+    → chosen D h ts o ≡ Some (Call f us) → IsChosen D (length ts) f us
 chosen_leads D h ts o f us ks hint e = go (best all all) refl e
   where
     all : List (Term × List Symbol)
     all = candidates D h (length ts) (looked_at ts o)
 
-    go : (b : Option (Term × List Symbol)) → best all all ≡ b → option_map (λ (q : Term × List Symbol). q.0) b ≡ Some (Call f us) → IsChosen D f us
+    go : (b : Option (Term × List Symbol)) → best all all ≡ b → option_map (λ (q : Term × List Symbol). q.0) b ≡ Some (Call f us) → IsChosen D (length ts) f us
     go None q l = cc
     go (Some p) q l =
         let same : p.0 ≡ Call f us = cc in
         let (there, k) = best_holds (Leads D h (length ts)) all all p (candidates_lead D h (length ts) (looked_at ts o) (looked_known D ts o ks hint)) q in
+        let (leads, few) = candidate_leads D h (length ts) f us p.1 (ap (replaces D h (length ts)) (sym (outs-Call f us)) ∙ ap (λ z. replaces D h (length ts) (out-Term z)) (sym same) ∙ there) in
         record {
           call = subst (λ z. known D z ≡ true) same k;
-          leads = candidate_leads D h (length ts) f us p.1 (ap (replaces D h (length ts)) (sym (outs-Call f us)) ∙ ap (λ z. replaces D h (length ts) (out-Term z)) (sym same) ∙ there);
+          leads = leads;
+          few = few;
         }
 
 -- so the kernel may be asked for the induction by it
 pub chosen_asks : (D : Defs) (h : ShownTheory) (c : Clause) (o : Option Term) (f : Symbol) (us lent literals : List Term) (found : Option Term) (call : Term) → literals ≡ c.0 → found ≡ chosen D h literals o
-    → found ≡ Some call → call ≡ Call f us → lent ≡ us → KnownClause D c → ForSome o (λ u. known D u ≡ true) → IsChosen D f lent
+    → found ≡ Some call → call ≡ Call f us → lent ≡ us → KnownClause D c → ForSome o (λ u. known D u ≡ true) → IsChosen D (length c.0) f lent
 chosen_asks D h c o f us lent literals found call same is some at args k hint =
-    subst (IsChosen D f) (sym args) (chosen_leads D h c.0 o f us k hint (ap (λ ts. chosen D h ts o) (sym same) ∙ sym is ∙ some ∙ (λ i. Some (at i))))
+    subst (IsChosen D (length c.0) f) (sym args) (chosen_leads D h c.0 o f us k hint (ap (λ ts. chosen D h ts o) (sym same) ∙ sym is ∙ some ∙ (λ i. Some (at i))))
