@@ -1,11 +1,12 @@
 -- The functions as their table writes them are those of the ground world: the cases are those of the bodies.
-use Rattle.std.proofs.Common.{◌≡◌, List, [], ◌∷◌, refl, ap, sym}
+use Rattle.std.proofs.Common.{◌≡◌, List, [], ◌∷◌, ◌++◌, refl, ap, sym}
 use Rattle.std.specs.Prelude.{Result, Ok, Err, IfOk}
 use Rattle.ap_world.specs.declared.entry.Case.{Case}
 use Rattle.ap_term.specs.declared.term.Term.{Term}
 use Rattle.ap_world.specs.declared.entry.Function.{Function}
 use Rattle.ap_world.specs.Names.{a_name, car_name, cdr_name, consp_name, endp_name, equal_name, not_name}
-use Rattle.ap_world.specs.Ground.{one, two, a, x, y, ground_functions, not_function, implies_function, iff_function, atom_function, endp_function, null_function, eq_function, eql_function, numeric_equal_function, acl2_numberp_function, rationalp_function, booleanp_function, fix_function, ifix_function, natp_function, posp_function, nfix_function, zp_function, zip_function, zerop_function, plusp_function, minusp_function, max_function, min_function, abs_function, integer_abs_function, true_listp_function, len_function, length_function, acl2_count_function, append_function, member_equal_function, make_character_list_function}
+use Rattle.ap_world.specs.Ground.{one, two, a, x, y, ground_functions, true_listp_function, len_function, length_function, acl2_count_function, append_function, member_equal_function, make_character_list_function}
+use Rattle.ap_ground.specs.Tabled.{truths_and_equality, recognisers, comparisons, lists}
 use Rattle.ap_ground.proofs.Obligations.{true_listp_cases, len_cases, acl2_count_cases, append_cases, member_equal_cases, make_character_list_cases}
 
 -- what is one of two equal lists is the other
@@ -41,17 +42,10 @@ found = two equal_name a (one car_name x)
 abbrev no : Term → Term
 no u = one not_name u
 
--- the functions, with the cases written out
+-- those of lists, with the cases written out
 abbrev pub written : List Function
 written =
-    not_function ∷ implies_function ∷ iff_function ∷ atom_function
-    ∷ endp_function ∷ null_function ∷ eq_function ∷ eql_function
-    ∷ numeric_equal_function ∷ acl2_numberp_function ∷ rationalp_function ∷ booleanp_function
-    ∷ fix_function ∷ ifix_function ∷ natp_function ∷ posp_function
-    ∷ nfix_function ∷ zp_function ∷ zip_function ∷ zerop_function
-    ∷ plusp_function ∷ minusp_function ∷ max_function ∷ min_function
-    ∷ abs_function ∷ integer_abs_function
-    ∷ of_cases true_listp_function (with (conses ∷ []) ((rest ∷ []) ∷ []) ∷ with (no conses ∷ []) [] ∷ [])
+    of_cases true_listp_function (with (conses ∷ []) ((rest ∷ []) ∷ []) ∷ with (no conses ∷ []) [] ∷ [])
     ∷ of_cases len_function (with (conses ∷ []) ((rest ∷ []) ∷ []) ∷ with (no conses ∷ []) [] ∷ [])
     ∷ length_function
     ∷ of_cases acl2_count_function (with (conses ∷ []) ((one car_name x ∷ []) ∷ (rest ∷ []) ∷ []) ∷ with (no conses ∷ []) [] ∷ [])
@@ -60,8 +54,7 @@ written =
     ∷ of_cases make_character_list_function (with (ends ∷ []) [] ∷ with (no ends ∷ []) ((rest ∷ []) ∷ []) ∷ [])
     ∷ []
 
-pub written_is : written ≡ ground_functions
-unfolding ground_functions
+pub written_is : written ≡ lists
 written_is = rw (
   own_cases true_listp_function _ true_listp_cases,
   own_cases len_function _ len_cases,
@@ -70,3 +63,12 @@ written_is = rw (
   own_cases member_equal_function _ member_equal_cases,
   own_cases make_character_list_function _ make_character_list_cases,
 ) refl
+
+-- the four parts are all
+pub parts_are_all : ((truths_and_equality ++ recognisers) ++ comparisons) ++ lists ≡ ground_functions
+unfolding ground_functions
+parts_are_all = refl
+
+pub joined_parts : (a b c d ab abc all : List Function) → a ≡ truths_and_equality → b ≡ recognisers → c ≡ comparisons → d ≡ lists
+    → ab ≡ a ++ b → abc ≡ ab ++ c → all ≡ abc ++ d → all ≡ ground_functions
+joined_parts a b c d ab abc all ha hb hc hd first second third = rw (third, second, first, ha, hb, hc, hd) parts_are_all

@@ -3,7 +3,7 @@ use Rattle.std.specs.Prelude.{List, [], ◌∷◌, map, Option, Some, None}
 use Rattle.ap_value.specs.Values.{acl2}
 use Rattle.ap_world.specs.Names.{x_name}
 use Rattle.ap_world.specs.Recursion.{count_of}
-use Rattle.ap_world.specs.Ground.{rule}
+use Rattle.ap_world.specs.Ground.{rule, not_function, implies_function, iff_function, atom_function, endp_function, null_function, eq_function, eql_function, numeric_equal_function, acl2_numberp_function, rationalp_function, booleanp_function, fix_function, ifix_function, natp_function, posp_function, nfix_function, zp_function, zip_function, zerop_function, plusp_function, minusp_function, max_function, min_function, abs_function, integer_abs_function, true_listp_function, len_function, length_function, acl2_count_function, append_function, member_equal_function, make_character_list_function}
 use Rattle.ap_world.specs.declared.entry.Case.{Case}
 use Rattle.ap_world.specs.declared.entry.Measure.{Measure}
 use Rattle.ap_world.specs.declared.entry.Function.{Function}
@@ -33,3 +33,23 @@ function_made r = record {
 
 abbrev pub rule_made : RuleRow → Theorem
 rule_made r = rule (acl2 r.name.now) (term_of r.term.now) r.class
+
+-- the functions of the ground world, in four parts
+abbrev pub truths_and_equality : List Function
+truths_and_equality =
+    not_function ∷ implies_function ∷ iff_function ∷ atom_function ∷ endp_function ∷ null_function ∷ eq_function ∷ eql_function ∷ []
+
+abbrev pub recognisers : List Function
+recognisers =
+    numeric_equal_function ∷ acl2_numberp_function ∷ rationalp_function ∷ booleanp_function
+    ∷ fix_function ∷ ifix_function ∷ natp_function ∷ posp_function ∷ []
+
+abbrev pub comparisons : List Function
+comparisons =
+    nfix_function ∷ zp_function ∷ zip_function ∷ zerop_function ∷ plusp_function ∷ minusp_function
+    ∷ max_function ∷ min_function ∷ abs_function ∷ integer_abs_function ∷ []
+
+abbrev pub lists : List Function
+lists =
+    true_listp_function ∷ len_function ∷ length_function ∷ acl2_count_function
+    ∷ append_function ∷ member_equal_function ∷ make_character_list_function ∷ []

@@ -1,11 +1,12 @@
-//! The table of the functions of the ground world. Each that calls itself has the measure `(acl2-count x)`.
+//! The tables of the functions of the ground world, in the order in which these are added. Each that calls itself has
+//! the measure `(acl2-count x)`.
 
 use crate::masks::{ALL_TYPES, INTEGERS, NATURALS, NO_NEGATIVES, TRUE_LISTS, TRUTHS};
 use crate::rows::{CaseRow, Row};
 use crate::written::Word::{Int, One, Sym, Three, Two, Var};
 
-/// The functions, in the order in which they are added.
-pub(crate) const FUNCTIONS: &[Row] = &[
+/// Those of truth values, conses and equality.
+pub(crate) const TRUTHS_AND_EQUALITY: &[Row] = &[
     // `(not p)` is `(if p nil t)`.
     Row {
         name: b"NOT",
@@ -89,6 +90,10 @@ pub(crate) const FUNCTIONS: &[Row] = &[
         cases: &[],
         mask: TRUTHS,
     },
+];
+
+/// Those that tell numbers and truth values, and make an integer of a value.
+pub(crate) const RECOGNISERS: &[Row] = &[
     // `(= x y)` is `(equal x y)`.
     Row {
         name: b"=",
@@ -179,6 +184,10 @@ pub(crate) const FUNCTIONS: &[Row] = &[
         cases: &[],
         mask: TRUTHS,
     },
+];
+
+/// Those that make a natural of a value, and compare numbers.
+pub(crate) const COMPARISONS: &[Row] = &[
     // `(nfix x)` is `(if (natp x) x 0)`.
     Row {
         name: b"NFIX",
@@ -310,6 +319,10 @@ pub(crate) const FUNCTIONS: &[Row] = &[
         cases: &[],
         mask: NATURALS,
     },
+];
+
+/// Those of lists, most of which call themselves.
+pub(crate) const LISTS: &[Row] = &[
     // `(true-listp x)` is `(if (consp x) (true-listp (cdr x)) (equal x nil))`.
     Row {
         name: b"TRUE-LISTP",

@@ -5,19 +5,52 @@ ghost use Rattle.ap_world.specs.Sound.{GoodTheorem};
 ghost use Rattle.ap_world.specs.World.{function_of, has_name, added};
 ghost use Rattle.ap_world.specs.declared.entry.Entry.TheVariants as Entry;
 ghost use Rattle.ap_world.specs.Ground.{ground, ground_functions, ground_rules};
+ghost use Rattle.ap_ground.specs.Tabled.{truths_and_equality, recognisers, comparisons, lists};
 
-use crate::functions::FUNCTIONS;
+use crate::functions::{COMPARISONS, LISTS, RECOGNISERS, TRUTHS_AND_EQUALITY};
 use crate::rows;
 use crate::rules::RULES;
 use ap_list::{NoMemory, Seq};
 use ap_world::{AddError, Function, Theorem, World};
 use std::alloc::{AllocError, Global};
 
-/// The functions, in the order of the table.
+/// The functions of truth values, conses and equality.
+fn truths_and_equality(alloc: Global) -> Result<Seq<Function>, NoMemory>
+    ensures { IfOk result (λ fs. fs ≡ truths_and_equality) }
+{
+    rows::functions(alloc, TRUTHS_AND_EQUALITY)
+}
+
+/// Those that tell numbers and truth values, and make an integer of a value.
+fn recognisers(alloc: Global) -> Result<Seq<Function>, NoMemory>
+    ensures { IfOk result (λ fs. fs ≡ recognisers) }
+{
+    rows::functions(alloc, RECOGNISERS)
+}
+
+/// Those that make a natural of a value, and compare numbers.
+fn comparisons(alloc: Global) -> Result<Seq<Function>, NoMemory>
+    ensures { IfOk result (λ fs. fs ≡ comparisons) }
+{
+    rows::functions(alloc, COMPARISONS)
+}
+
+/// Those of lists.
+fn lists(alloc: Global) -> Result<Seq<Function>, NoMemory>
+    ensures { IfOk result (λ fs. fs ≡ lists) }
+{
+    rows::functions(alloc, LISTS)
+}
+
+/// The functions, in the order of the tables.
 fn functions(alloc: Global) -> Result<Seq<Function>, NoMemory>
     ensures { IfOk result (λ fs. fs ≡ ground_functions) }
 {
-    rows::functions(alloc, FUNCTIONS)
+    let mut all = truths_and_equality(alloc)?;
+    all.append(recognisers(alloc)?)?;
+    all.append(comparisons(alloc)?)?;
+    all.append(lists(alloc)?)?;
+    Ok(all)
 }
 
 /// The rules, oldest first.

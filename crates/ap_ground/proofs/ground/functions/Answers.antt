@@ -1,9 +1,7 @@
-use Rattle.std.proofs.Common.{◌≡◌}
-use Rattle.ap_world.specs.Ground.{ground_functions}
-use Rattle.ap_ground.proofs.Made.{if_is, written, written_is}
-use Rattle.ap_ground.proofs.There.{functions_open}
+use Rattle.ap_ground.proofs.Made.{joined_parts}
 use Rattle.ap_ground.proofs.ground.functions.Goals as goal
 
 pub returns : goal.returns
-unfolding functions_open
-returns c = if_is c.functions.result written ground_functions c.functions.ensures written_is
+returns c =
+    joined_parts _ _ _ _ _ _ _ c.in_ok-all.ensures c.in_ok-recognisers.ensures c.in_ok-comparisons.ensures c.in_ok-lists.ensures
+    c.in_ok-append.ensures.ok c.in_ok-append-2.ensures.ok c.in_ok-append-3.ensures.ok
