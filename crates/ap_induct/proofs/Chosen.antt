@@ -1,12 +1,13 @@
 -- The call that is chosen is a candidate, and a term of the world.
-use Rattle.std.proofs.Common.{◌≡◌, ℕ, nat_le, Bool, true, false, cond, ◌&&◌, List, [], ◌∷◌, map, zip, length, Option, Some, None, refl, ap, sym, ◌∙◌, subst}
+use Rattle.std.proofs.Common.{◌≡◌, ℕ, nat_le, Bool, true, false, cond, ◌&&◌, List, [], ◌∷◌, ◌++◌, map, zip, length, Option, Some, None, refl, ap, sym, ◌∙◌, subst, append_assoc, append-nil}
 use Rattle.std.specs.Option.{option_map, ForSome}
 use Rattle.ap_list.specs.Lists.{Each, joined}
 use Rattle.ap_value.specs.declared.symbol.Symbol.{Symbol}
-use Rattle.ap_value.proofs.Equals.{both}
-use Rattle.ap_term.specs.declared.term.Term.{Term, out-Term, Call}
+use Rattle.ap_value.specs.declared.value.Value.{Value}
+use Rattle.ap_term.specs.declared.term.Term.{Term, out-Term, Var, Quote, Call}
 use Rattle.ap_term.specs.declared.term.Term.TheOpen.{Term-F}
 use Rattle.ap_term.specs.declared.term.Term.TheVariants.{outs-Call}
+use Rattle.ap_term.specs.declared.term.Clause.{Clause}
 use Rattle.ap_term.proofs.Induction.{term_ind, para_var, para_quote, para_call}
 use Rattle.ap_world.specs.declared.entry.Measure.{Measure}
 use Rattle.ap_world.specs.declared.entry.Function.{Function}
@@ -16,6 +17,7 @@ use Rattle.ap_world.specs.Meaning.{Defs}
 use Rattle.ap_world.specs.Sound.{known}
 use Rattle.ap_world.proofs.Knowing.{known_args, each_true}
 use Rattle.ap_world.proofs.Written.{first_parts, second_parts}
+use Rattle.ap_kernel.specs.Reductions.{KnownClause}
 use Rattle.ap_kernel.specs.Induction.{led_names, is_candidate, measured_leads, leads_induction}
 use Rattle.ap_kernel.proofs.Reduced.{each_append}
 use Rattle.ap_induct.specs.Choosing.{calls_step, calls_of, calls_among, clause_count, replaced_by, function_replaces, replaces, with_names, candidates, score, better, best, best_call, looked_at, chosen}
@@ -24,6 +26,22 @@ pub calls_call : (f : Symbol) (ts : List Term) → calls_of (Call f ts) ≡ Call
 calls_call f ts = para_call calls_step f ts
     ∙ ap (λ us. Call f us ∷ joined (map (λ (p : Term × List Term). p.1) (map (λ u. (u, calls_of u)) ts))) (first_parts calls_of ts)
     ∙ ap (λ zs. Call f ts ∷ joined zs) (second_parts calls_of ts)
+
+-- a call is put before those of its arguments; a variable and a constant have none
+pub calls_pushed : (f : Symbol) (ts lent : List Term) (t copy : Term) (out pushed : List Term) → t ≡ Call f ts → lent ≡ ts → copy ≡ t → pushed ≡ out ++ copy ∷ [] → pushed ++ calls_among lent ≡ out ++ calls_of t
+calls_pushed f ts lent t copy out pushed is same as_is p =
+    ap (λ zs. zs ++ calls_among lent) p
+    ∙ append_assoc out (copy ∷ []) (calls_among lent)
+    ∙ ap (λ z. out ++ (z ∷ calls_among lent)) (as_is ∙ is)
+    ∙ ap (λ us. out ++ (Call f ts ∷ calls_among us)) same
+    ∙ ap (λ zs. out ++ zs) (sym (calls_call f ts))
+    ∙ ap (λ u. out ++ calls_of u) (sym is)
+
+pub no_calls_var : (t : Term) (x : Symbol) (out : List Term) → t ≡ Var x → out ≡ out ++ calls_of t
+no_calls_var t x out is = sym (ap (λ u. out ++ calls_of u) is ∙ ap (λ zs. out ++ zs) (para_var calls_step x) ∙ append-nil out)
+
+pub no_calls_quote : (t : Term) (v : Value) (out : List Term) → t ≡ Quote v → out ≡ out ++ calls_of t
+no_calls_quote t v out is = sym (ap (λ u. out ++ calls_of u) is ∙ ap (λ zs. out ++ zs) (para_quote calls_step v) ∙ append-nil out)
 
 -- the calls in known literals are known
 calls_known : (D : Defs) (u : Term) → known D u ≡ true → Each (λ z. known D z ≡ true) (calls_of u)
@@ -115,3 +133,9 @@ chosen_leads D h ts o f us ks hint e = go (best all all) refl e
           call = subst (λ z. known D z ≡ true) same k;
           leads = candidate_leads D h (length ts) f us p.1 (ap (replaces D h (length ts)) (sym (outs-Call f us)) ∙ ap (λ z. replaces D h (length ts) (out-Term z)) (sym same) ∙ there);
         }
+
+-- so the kernel may be asked for the induction by it
+pub chosen_asks : (D : Defs) (h : ShownTheory) (c : Clause) (o : Option Term) (f : Symbol) (us lent literals : List Term) (found : Option Term) (call : Term) → literals ≡ c.0 → found ≡ chosen D h literals o
+    → found ≡ Some call → call ≡ Call f us → lent ≡ us → KnownClause D c → ForSome o (λ u. known D u ≡ true) → IsChosen D f lent
+chosen_asks D h c o f us lent literals found call same is some at args k hint =
+    subst (IsChosen D f) (sym args) (chosen_leads D h c.0 o f us k hint (ap (λ ts. chosen D h ts o) (sym same) ∙ sym is ∙ some ∙ (λ i. Some (at i))))

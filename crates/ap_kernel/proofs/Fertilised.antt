@@ -1,5 +1,6 @@
 -- Fertilization reduces: where the hypothesis is nil, it holds already; else its sides have one value.
-use Rattle.std.proofs.Common.{◌≡◌, ◌≢◌, ℕ, Bool, true, false, cond, ◌||◌, List, [], ◌∷◌, Option, Some, None, slice_get, ◌⊎◌, inl, inr, refl, ap, sym, ◌∙◌, subst}
+use Rattle.std.proofs.Common.{◌≡◌, ◌≢◌, ℕ, ◌<◌, Bool, true, false, cond, ◌||◌, List, [], ◌∷◌, length, Option, Some, None, IsTrue, is_some, slice_get, ◌⊎◌, inl, inr, refl, ap, sym, ◌∙◌, subst}
+use Rattle.std.proofs.lemmas.Option.{slice_get_within}
 use Rattle.ap_list.specs.Lists.{Each}
 use Rattle.ap_value.specs.Values.{value_eq}
 use Rattle.ap_value.proofs.Equals.{value_eq-true}
@@ -108,6 +109,18 @@ literal_known D p u w first second k h =
         let is : equal_of (swapped ((p.0, p.1) ∷ []) q.0) q.1 ≡ w = cc in
         subst (λ z. known D z ≡ true) is (known_equal D (swapped ((p.0, p.1) ∷ []) q.0) q.1 (known_swapped D ((p.0, p.1) ∷ []) (second, tt) q.0 k) l)
     go q k l false false m = cc
+
+-- where fertilization applies, the literal that is changed stands in the clause
+pub changed_stands : (c : Clause) (i j : ℕ) → IsTrue (is_some (fertilise_made c i j)) → j < length c.0
+changed_stands c i j h = go (fertilise_made c i j) refl h
+  where
+    go : (o : Option Inference) → fertilise_made c i j ≡ o → is_some o ≡ true → j < length c.0
+    go None q k = cc
+    go (Some r) q k =
+        let (p, hypothesis, rest) = then_some (and_then (slice_get c.0 i) (λ u. negated_sides (shape_of u))) (fertilised_by c i j) r q in
+        let (w, literal, made) = then_some (and_then (slice_get c.0 j) (literal_fertilised p)) (λ u. Some (fertilised c i j u)) r rest in
+        let (g, at_j, new) = then_some (slice_get c.0 j) (literal_fertilised p) w literal in
+        slice_get_within c.0 j g at_j
 
 pub fertilised_follows : (D : Defs) → Total D → HasGround D → (c : Clause) (i j : ℕ) (r : Inference) → KnownClause D c → fertilise_made c i j ≡ Some r → Follows D r
 fertilised_follows D total ground c i j r k h =

@@ -1,5 +1,5 @@
 -- The kernel's row, at places: where these are good for each call, the induction's clauses prove the clause.
-use Rattle.std.proofs.Common.{◌≡◌, true, List, [], map, zip, length, Some, None, refl, subst}
+use Rattle.std.proofs.Common.{◌≡◌, true, List, [], map, zip, length, Some, None, refl, sym, subst}
 use Rattle.ap_list.specs.Lists.{Each, all_true, is_distinct}
 use Rattle.ap_value.specs.Values.{symbol_eq}
 use Rattle.ap_term.specs.declared.term.Term.{Term}

@@ -1,4 +1,4 @@
-ghost use Rattle.std.specs.Prelude.{◌≡◌, IfOk, map, nat_eq, zip};
+ghost use Rattle.std.specs.Prelude.{◌≡◌, [], IfOk, map, nat_eq, zip};
 ghost use Rattle.ap_list.specs.Lists.{is_among};
 ghost use Rattle.ap_value.specs.Values.{symbol_eq};
 ghost use Rattle.ap_term.specs.declared.term.Term.TheVariants.{Var};

@@ -2,8 +2,11 @@ use Rattle.std.proofs.Common.{◌≡◌, Some, refl, rules}
 use Rattle.ap_world.specs.World.{function_of}
 use Rattle.ap_kernel.specs.Fertilising.{fertilise_made}
 use Rattle.ap_kernel.proofs.Reduced.{reduces_by}
-use Rattle.ap_kernel.proofs.Fertilised.{fertilised_follows}
+use Rattle.ap_kernel.proofs.Fertilised.{changed_stands, fertilised_follows}
 use Rattle.ap_kernel.proofs.fertilising.fertilise.Goals as goal
+
+pub fertilised-requires-clause-second : goal.fertilised-requires-clause-second
+fertilised-requires-clause-second c = rw c.as_slice.ensures (changed_stands c.args.c c.args.i c.args.j c.requires.applies)
 
 pub returns-clause-stands : goal.returns-clause-stands
 returns-clause-stands c =

@@ -8,18 +8,12 @@ ghost use Rattle.ap_induct.specs.Choosing.{looked_at, chosen, scheme_of};
 
 use crate::candidates::candidates;
 use crate::choosing::{best_call, push_all_calls};
-use ap_kernel::{Reduction, induct};
+use crate::found::Scheme;
+use ap_kernel::induct;
 use ap_list::{NoMemory, Seq};
 use ap_term::{Clause, Term, copy_term, copy_terms};
 use ap_world::{Theory, World};
 use std::alloc::Global;
-
-/// An induction: the call that it goes by, and what the clause is reduced to.
-#[derive(Drop)]
-pub struct Scheme {
-    pub call: Term,
-    pub reduction: Reduction,
-}
 
 /// The calls that are looked at: a hint's call alone, or those in the literals.
 fn looked_at(alloc: Global, literals: &[Term], hint: Option<&Term>) -> Result<Seq<Term>, NoMemory>
@@ -63,7 +57,7 @@ pub fn scheme(
 ) -> Result<Option<Scheme>, NoMemory>
     requires functions { HasFunctions (function_of w.now.entries) }
     requires clause { KnownClause (function_of w.now.entries) c.now }
-    requires hint { ForSome (option_copied hint.entry) (λ u. IsTrue (known (function_of w.now.entries) u)) }
+    requires hint { ForSome (option_copied hint) (λ u. IsTrue (known (function_of w.now.entries) u)) }
     ensures stands { IfOk result (λ o. IfSome o (λ s. Reduces w.now s.reduction)) }
     ensures made { IfOk result (λ o. option_map (λ s. (s.call, s.reduction.says)) o ≡ scheme_of (function_of w.now.entries) theory.now c.now (option_copied hint.entry)) }
 {
