@@ -7,7 +7,6 @@ use Rattle.ap_induct.specs.declared.found.Scheme.{Scheme}
 use Rattle.ap_induct.specs.Choosing.{scheme_of}
 use Rattle.ap_induct.proofs.Followed.{scheme_few}
 use Rattle.ap_strategy.specs.Goals.{defs_of}
-use Rattle.ap_strategy.specs.Ranks.{ranked}
 use Rattle.ap_strategy.proofs.stepping.cases.Goals as goal
 
 pub returns-clause-few : goal.returns-clause-few
