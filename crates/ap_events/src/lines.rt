@@ -64,12 +64,7 @@ fn put_call(alloc: Global, text: &mut Bytes, call: &Option<Term>) -> Result<(), 
 }
 
 /// Adds `induct`, the number of cases of a goal's induction, and the call that it goes by.
-fn put_induct(
-    alloc: Global,
-    text: &mut Bytes,
-    task: &Task<'_>,
-    cases: u32,
-) -> Result<(), NoMemory>
+fn put_induct(alloc: Global, text: &mut Bytes, task: &Task<'_>, cases: u32) -> Result<(), NoMemory>
     ensures { OnOk result (text.new ≡ text.old ++ induct_text task.now cases) }
 {
     put_counted(text, b"induct ", cases)?;

@@ -90,9 +90,10 @@ given (Some y) P h x q = let same : y ≡ x = cc in subst P same h
 pub scheme_follows : (W : List Entry) → Sound W → are_distinct W ≡ true → HasFunctions (function_of W) → (h : ShownTheory) (c : Clause) (o : Option Term) (p : Term × Inference) → KnownClause (function_of W) c
     → IfSome o (λ u. known (function_of W) u ≡ true) → scheme_of (function_of W) h c o ≡ Some p → (p.1.from ≡ c) × Follows (function_of W) p.1
 scheme_follows W sound distinct functions h c o p k hint e =
-    let s = scheme_is (function_of W) h c o p k (given o (λ u. known (function_of W) u ≡ true) hint) e in
-    ((made_is (function_of W s.symbol) c s.actuals p.1 s.made).start,
-    made_follows W sound distinct functions s.symbol s.actuals c p.1 s.chosen.call s.chosen.leads k s.made)
+    let s = scheme_is (function_of W) h c o p k (given o (λ u. known (function_of W) u ≡ true) hint) e in (
+      (made_is (function_of W s.symbol) c s.actuals p.1 s.made).start,
+      made_follows W sound distinct functions s.symbol s.actuals c p.1 s.chosen.call s.chosen.leads k s.made,
+    )
 
 pub scheme_few : (D : Defs) (h : ShownTheory) (c : Clause) (o : Option Term) (p : Term × Inference) → KnownClause D c → IfSome o (λ u. known D u ≡ true) → scheme_of D h c o ≡ Some p → length p.1.to ≤ 1024
 scheme_few D h c o p k hint e =
