@@ -1,6 +1,6 @@
 use Rattle.std.specs.Option.{option_copied}
 use Rattle.ap_world.specs.World.{function_of}
-use Rattle.ap_induct.proofs.Chosen.{IsChosen, chosen_asks}
+use Rattle.ap_induct.proofs.Chosen.{chosen_asks}
 use Rattle.ap_induct.proofs.schemes.scheme.Goals as goal
 
 pub induct-requires-clause-call : goal.induct-requires-clause-call
