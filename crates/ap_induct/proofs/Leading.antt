@@ -20,7 +20,7 @@ use Rattle.ap_world.proofs.Written.{first_parts, second_parts}
 use Rattle.ap_kernel.specs.Reductions.{KnownClause}
 use Rattle.ap_kernel.specs.Induction.{led_names, is_candidate, measured_leads, leads_induction}
 use Rattle.ap_kernel.proofs.Reduced.{each_append}
-use Rattle.ap_induct.specs.Choosing.{calls_step, calls_of, calls_among, clause_count, replaced_by, function_replaces, replaces, with_names, candidates, score, better, best, best_call, looked_at, chosen}
+use Rattle.ap_induct.specs.Choosing.{calls_step, calls_of, calls_among, clause_count, replaced_by, function_replaces, replaces, with_names, candidates, score, better, best, looked_at, chosen}
 
 pub calls_call : (f : Symbol) (ts : List Term) → calls_of (Call f ts) ≡ Call f ts ∷ calls_among ts
 calls_call f ts = para_call calls_step f ts

@@ -1,5 +1,5 @@
 -- Which call of a clause an induction goes by: the candidates, their scores, the choice.
-use Rattle.std.specs.Prelude.{ℕ, ◌+◌, ◌^◌, nat_le, Bool, cond, ◌&&◌, List, [], ◌∷◌, map, zip, length, Option, Some, None}
+use Rattle.std.specs.Prelude.{ℕ, ◌^◌, nat_le, Bool, cond, ◌&&◌, List, [], ◌∷◌, map, zip, length, Option, Some, None}
 use Rattle.std.specs.Option.{option_map}
 use Rattle.ap_list.specs.Lists.{joined, sum_of, is_within}
 use Rattle.ap_value.specs.declared.symbol.Symbol.{Symbol}
