@@ -9,3 +9,5 @@ pub mod After
 pub mod Ordering
 pub mod Joining
 pub mod Scanning
+pub mod Showing
+pub mod Dropping

@@ -1,5 +1,5 @@
 -- A result closes the nodes above it, as far as they can be closed.
-use Rattle.std.proofs.Common.{◌≡◌, ◌≢◌, ℕ, zero, suc, ◌+◌, ◌≤◌, ◌<◌, List, [], ◌∷◌, ◌++◌, Option, Some, None, length, refl, sym, ap, subst, ◌∙◌, arith, inl, inr, ◌⊎◌}
+use Rattle.std.proofs.Common.{◌≡◌, ◌≢◌, ℕ, zero, suc, ◌+◌, ◌<◌, List, Option, Some, None, length, refl, sym, ap, subst, ◌∙◌, arith, inl, inr}
 use Rattle.std.specs.List.{slice_get}
 use Rattle.ap_list.specs.Lists.{Each}
 use Rattle.ap_walk.specs.declared.act.Stepped.{Stepped}
@@ -9,9 +9,8 @@ use Rattle.ap_walk.specs.Visits.{Tells, out_children}
 use Rattle.ap_walk.specs.Walks.{full}
 use Rattle.ap_word.specs.Stops.{nothing_counted}
 use Rattle.ap_table.specs.Core.{Phase, Node, free, claimed, expanded, put, closed, dropped, numbers_of, kept, phase_walk, walks_of, set_phase, above, parent_of, on_closed, children, joined_walk, kept_of, close_with, close_phase, close_node, close_up, put_node}
-use Rattle.ap_table.specs.declared.link.Link.{Link}
-use Rattle.ap_table.specs.Sound.{Family, IsClaimed, PhaseSound, NodeSound, SoundBut, Sound}
-use Rattle.ap_table.proofs.Closing.{AreFull, closed_is_whole}
+use Rattle.ap_table.specs.Sound.{PhaseSound, SoundBut, Sound}
+use Rattle.ap_table.proofs.Closing.{closed_is_whole}
 use Rattle.ap_table.proofs.Keeping.{same_or_not, some_is, get_same, Moves, family_stays, walks_same, are_full, sound_done}
 
 module _ {T : Type 0} (step : T → Stepped T) (depth : T → ℕ) (rule : Rule) where

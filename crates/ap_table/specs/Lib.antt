@@ -3,3 +3,5 @@ pub mod Sound
 pub mod Laws
 pub mod Order
 pub mod Pieces
+pub mod Shown
+pub mod Calls

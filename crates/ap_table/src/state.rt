@@ -1,0 +1,103 @@
+ghost use Rattle.std.specs.Prelude.{◌≡◌, ℕ, ◌≤◌, List, [], ◌∷◌, ◌++◌, length, IfOk, IsTrue, ◌↔◌};
+
+use crate::link::License;
+use crate::making::{
+    fresh_nodes, grow, has_room, is_job, is_licensed, same_rule, set_expanded, set_stage,
+};
+use crate::stored::{Entry, Grown, Job, Stage, Stored, Taken};
+use ap_list::Seq;
+use ap_walk::{Out, Rule, Step, Stepped};
+use std::alloc::Global;
+use std::marker::Model;
+
+/// A goal table, with the list of the steps that were taken. Its nodes are what these steps leave, and each
+/// step was allowed.
+#[derive(Drop)]
+pub struct TableState<S: Step> {
+    root: S::Task,
+    rule: Rule,
+    nodes: Vec<Stored<S::Task>>,
+    history: Vec<Entry>,
+}
+
+impl<S: Step> Model for TableState<S> {
+    ghost use Rattle.std.specs.Prelude.{vec_capacity};
+    ghost use Rattle.ap_table.specs.Shown.{Run, IsTable};
+
+    ghost Value = { Run S.Task };
+
+    ghost view = { λ s. record { root = s.root; rule = s.rule; history = s.history.items } };
+
+    ghost invariant = { λ s. IsTable S.step_of S.depth (record { root = s.root; rule = s.rule; history = s.history.items }) s.nodes.items (vec_capacity s.history) };
+}
+
+impl<S: Step> TableState<S> {
+    ghost use Rattle.ap_walk.specs.Visits.{out_children};
+    ghost use Rattle.ap_table.specs.Calls.{Grows, Drops};
+
+    /// Puts the children of a job's task into the table. A stranger is a job that isn't the table's, or one
+    /// whose node has three families above it, or there would be more than 1,000,000 nodes. What is handed
+    /// in comes back where nothing is changed.
+    pub fn expand_step(
+        &mut self,
+        alloc: Global,
+        step: &S,
+        job: Job<S::Task>,
+        stepped: Stepped<S::Task>,
+    ) -> Grown<S::Task>
+        requires stepped { stepped ≡ S.step_of job.task }
+        requires many { 2 ≤ length (out_children stepped.out) }
+        ensures { Grows S.step_of S.depth self.old self.new job stepped result }
+    {
+        if !same_rule(self.rule, job.rule) {
+            return Grown::Stranger(job, stepped);
+        }
+        if !is_job(step, &self.nodes, &job) {
+            return Grown::Stranger(job, stepped);
+        }
+        let Out::Split(children) = &stepped.out else {
+            return Grown::Stranger(job, stepped);
+        };
+        let count = children.len();
+        let i = job.node as usize;
+        if !has_room(&self.nodes, i, count) {
+            return Grown::Stranger(job, stepped);
+        }
+        let path = self.nodes[i].path.as_slice();
+        let Ok(more) = fresh_nodes(alloc, step, children.as_slice(), job.node, path) else {
+            return Grown::NoMemory(job, stepped);
+        };
+        let first = self.nodes.len() as u32;
+        let Ok(()) = grow(&mut self.nodes, &mut self.history, more) else {
+            return Grown::NoMemory(job, stepped);
+        };
+        let family = job.node;
+        set_expanded(&mut self.nodes, i, first, count as u32);
+        self.history.push_reserved(Entry::Expanded(family));
+        Grown::Family {
+            family,
+            first,
+            count: count as u32,
+        }
+    }
+
+    /// Drops a job's node. A stranger is a job that isn't the table's, or the licence isn't one for its node.
+    pub fn drop_step(&mut self, step: &S, job: Job<S::Task>, license: License) -> Taken<S::Task>
+        ensures { Drops S.step_of S.depth self.old self.new job license result }
+    {
+        if !same_rule(self.rule, job.rule) {
+            return Taken::Stranger(job);
+        }
+        if !is_job(step, &self.nodes, &job) {
+            return Taken::Stranger(job);
+        }
+        let i = job.node as usize;
+        if !is_licensed(&self.nodes, i, license) {
+            return Taken::Stranger(job);
+        }
+        set_stage(&mut self.nodes, i, Stage::Dropped(license));
+        self.history
+            .push_reserved(Entry::Dropped(job.node, license));
+        Taken::Kept
+    }
+}
