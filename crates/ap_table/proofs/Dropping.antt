@@ -1,5 +1,5 @@
 -- What the kept nodes tell of where a family stops, and that a drop keeps the table.
-use Rattle.std.proofs.Common.{◌≡◌, ℕ, ◌+◌, ◌≤◌, ◌<◌, Bool, true, false, ◌||◌, nat_le, cond, List, [], ◌∷◌, Option, Some, None, refl, sym, ap, subst, ◌∙◌, arith, inl, inr, ◌⊎◌, length-append}
+use Rattle.std.proofs.Common.{◌≡◌, ℕ, ◌+◌, ◌≤◌, ◌<◌, Bool, true, false, ◌||◌, nat_le, cond, List, [], ◌∷◌, Option, Some, None, refl, sym, ap, subst, ◌∙◌, arith, inl, inr, ◌⊎◌}
 use Rattle.std.proofs.lemmas.Bool.Decides.{nat_tests}
 use Rattle.std.specs.List.{slice_get}
 use Rattle.ap_list.specs.Lists.{AnyOf}
@@ -14,22 +14,18 @@ use Rattle.ap_walk.specs.Laws.{StopsAt}
 use Rattle.ap_walk.proofs.Stops.{cut_stops}
 use Rattle.ap_walk.proofs.Bounds.{zero_open}
 use Rattle.ap_table.specs.declared.link.License.{License}
-use Rattle.ap_table.specs.declared.stored.Entry.TheVariants as entry
 use Rattle.ap_table.specs.declared.stored.Stored.{Stored}
-use Rattle.ap_table.specs.declared.stored.Stage.TheVariants as stage
 use Rattle.ap_word.specs.declared.family.Counted.{Counted}
 use Rattle.ap_word.specs.declared.family.Numbers.{Numbers}
 use Rattle.ap_word.specs.Stops.{NONE, nothing_counted, reaches, stops, add, known_from}
-use Rattle.ap_table.specs.Core.{Node, dropped, drop, set_phase, numbers_of, is_stopped, counted_of, counts_of, children, Stops, known_of, root, replay_from}
-use Rattle.ap_table.specs.Sound.{Names, Licensed, Family, Sound, CanDrop, AreAllowed}
-use Rattle.ap_table.specs.Shown.{Run, turns, SumShows, alter, stage_room, Shows, AllShow, nodes_of, IsTable}
-use Rattle.ap_table.specs.Calls.{longer}
+use Rattle.ap_table.specs.Core.{Node, numbers_of, is_stopped, counted_of, counts_of, children, Stops, known_of}
+use Rattle.ap_table.specs.Sound.{Names, Licensed, Family, Sound}
+use Rattle.ap_table.specs.Shown.{SumShows, Shows, AllShow}
 use Rattle.ap_word.proofs.Stopping.{stops_later}
 use Rattle.ap_table.proofs.Closing.{AreFull}
 use Rattle.ap_table.proofs.Keeping.{some_is}
 use Rattle.ap_table.proofs.Known.{known_true}
-use Rattle.ap_table.proofs.Replay.{replay_more, allowed_more}
-use Rattle.ap_table.proofs.Showing.{shown_at, claimed_node, room_alter, length_alter, show_alter, turns_more}
+use Rattle.ap_table.proofs.Showing.{shown_at}
 
 or_right : (a b c : Bool) → c ≡ true → (a || b || c) ≡ true
 or_right true b c e = refl
@@ -141,32 +137,3 @@ module _ {T : Type 0} (step : T → Stepped T) (depth : T → ℕ) where
   -- the family's word makes a licence
   pub licensed_word : (rule : Rule) (ns : List (Node T)) (n : Node T) (l : License) → Sound step depth rule ns → l.index < 4294967296 → AnyOf (Names l) n.path → ((m : Node T) × (slice_get ns l.family ≡ Some m) × (m.word ≤ l.index)) → Licensed step depth rule ns n.path l
   licensed_word rule ns n l s small names m = (names, (m.0, m.1, word_stops rule m.0.task m.0.word l.index (omega arith) m.2 (s l.family m.0 m.1).word))
-
-  -- a drop keeps the table
-  pub dropped_table : (r : Run T) (cs : List (Stored T)) (capacity k : ℕ) (c : Stored T) (l : License) → IsTable step depth r cs capacity → slice_get cs k ≡ Some c → c.stage ≡ stage.Claimed
-      → ((n : Node T) → slice_get (nodes_of step depth r) k ≡ Some n → Licensed step depth r.rule (nodes_of step depth r) n.path l)
-      → IsTable step depth (longer r (entry.Dropped k l)) (alter cs k (λ x. record x { stage = stage.Dropped l })) capacity
-  dropped_table r cs capacity k c l t at is licensed =
-      let ns = nodes_of step depth r in
-      let n = claimed_node step depth cs ns k c t.shows at is in
-      let es = turns r.history in
-      let f : Stored T → Stored T = λ x. record x { stage = stage.Dropped l } in
-      let g : Node T → Node T = λ m. record m { phase = dropped l } in
-      let more : nodes_of step depth (longer r (entry.Dropped k l)) ≡ set_phase ns k (dropped l) =
-      ap (replay_from step depth r.rule (root r.root)) (turns_more r.history (entry.Dropped k l)) ∙ replay_more step depth r.rule (root r.root) es (drop k l) in
-      let can : CanDrop step depth r.rule ns (Some n.0) l = (n.2, licensed n.0 n.1) in
-      let rs = room_alter cs k c f at in
-      let four : stage_room c.stage ≡ 4 = ap stage_room is in
-      let len = length-append r.history (entry.Dropped k l ∷ []) in
-      let had = t.room in
-      let res = t.reserved in
-      let few' = t.few in
-      let ll = length_alter cs k f in
-      record {
-        shows = subst (AllShow step (alter cs k f)) (sym more) (show_alter step cs ns k c n.0 f g t.shows at n.1 (record { task = n.3; path = n.4; first = (shown_same cs ns k c n.0 t.shows at n.1).first; word = (shown_same cs ns k c n.0 t.shows at n.1).word; stage = refl }));
-        allowed = subst (AreAllowed step depth r.rule (root r.root)) (sym (turns_more r.history (entry.Dropped k l)))
-            (allowed_more step depth r.rule (root r.root) es (drop k l) t.allowed (subst (λ o. CanDrop step depth r.rule ns o l) (sym n.1) can));
-        room = omega arith;
-        reserved = omega arith;
-        few = omega arith;
-      }

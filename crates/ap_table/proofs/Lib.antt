@@ -11,3 +11,5 @@ pub mod Joining
 pub mod Scanning
 pub mod Showing
 pub mod Dropping
+pub mod Standing
+pub mod Moving

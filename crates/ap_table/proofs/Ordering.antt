@@ -32,10 +32,10 @@ before_next : (p : List ℕ) (i j : ℕ) → i < j → Before (p ++ i ∷ []) (p
 before_next [] i j h = inl h
 before_next (x ∷ xs) i j h = inr (refl, before_next xs i j h)
 
-not_eq : (j k : ℕ) → j ≢ k → nat_eq j k ≡ false
+pub not_eq : (j k : ℕ) → j ≢ k → nat_eq j k ≡ false
 not_eq j k d = grind (arith, nat_tests)
 
-eq_case : (j k : ℕ) → ((nat_eq j k ≡ true) × (j ≡ k)) ⊎ ((nat_eq j k ≡ false) × (j ≢ k))
+pub eq_case : (j k : ℕ) → ((nat_eq j k ≡ true) × (j ≡ k)) ⊎ ((nat_eq j k ≡ false) × (j ≢ k))
 eq_case j k =
     elim (same_or_not j k) [
       | inl e ↦ inl (grind (arith, nat_tests), e)

@@ -1,8 +1,7 @@
 -- What the kept nodes show, and single steps on them.
-use Rattle.std.proofs.Common.{◌≡◌, ℕ, zero, suc, ◌+◌, ◌*◌, ◌≤◌, ◌<◌, nat_lt, IsTrue, List, [], ◌∷◌, ◌++◌, Some, length, take, get_or, set, refl, sym, ap, subst, ◌∙◌, arith, inl, inr, length-append}
+use Rattle.std.proofs.Common.{◌≡◌, ℕ, zero, suc, ◌+◌, ◌*◌, ◌≤◌, ◌<◌, nat_lt, IsTrue, List, [], ◌∷◌, ◌++◌, Some, length, take, get_or, set, refl, sym, ap, subst, ◌∙◌, arith, inl, inr}
 use Rattle.std.proofs.lemmas.Bool.Decides.{nat_tests}
 use Rattle.std.specs.List.{slice_get}
-use Rattle.ap_walk.specs.declared.rule.Rule.{Rule}
 use Rattle.ap_walk.specs.declared.act.Stepped.{Stepped}
 use Rattle.ap_walk.specs.Visits.{out_children}
 use Rattle.ap_table.specs.declared.link.Link.{Link}
@@ -10,15 +9,12 @@ use Rattle.ap_table.specs.declared.stored.Stored.{Stored}
 use Rattle.ap_table.specs.declared.stored.Stage.{Stage}
 use Rattle.ap_table.specs.declared.stored.Stage.TheVariants as stage
 use Rattle.ap_table.specs.declared.stored.Entry.{Entry}
-use Rattle.ap_table.specs.declared.stored.Entry.TheVariants as entry
-use Rattle.ap_table.specs.Core.{Phase, Node, free, claimed, expanded, put, closed, dropped, expand, change, new_nodes, expand_node, root, replay_from, apply}
+use Rattle.ap_table.specs.Core.{Phase, Node, free, claimed, expanded, put, closed, dropped, change, new_nodes}
 use Rattle.ap_list.specs.Lists.{AnyOf}
 use Rattle.ap_table.specs.declared.link.License.{License}
-use Rattle.ap_table.specs.Sound.{Names, AreAllowed, CanExpand}
-use Rattle.ap_table.specs.Shown.{Run, turn_of, turns, StageShows, alter, stage_room, rooms, fresh, Shows, AllShow, nodes_of, IsTable}
-use Rattle.ap_table.specs.Calls.{longer}
+use Rattle.ap_table.specs.Sound.{Names}
+use Rattle.ap_table.specs.Shown.{turn_of, turns, StageShows, alter, stage_room, rooms, fresh, Shows, AllShow}
 use Rattle.ap_word.specs.Stops.{NONE}
-use Rattle.ap_table.proofs.Replay.{replay_more, allowed_more}
 
 pub get_at : {A : Type 0} (xs : List A) (k : ℕ) (x : A) → k < length xs → x ≡ get_or xs k x → slice_get xs k ≡ Some x
 get_at [] k x h e = absurd (omega arith)
@@ -168,50 +164,6 @@ module _ {T : Type 0} (step : T → Stepped T) (depth : T → ℕ) where
       let c = kept_at step cs ns i n a at in
       let w = length (out_children (step n.task).out) in
       (c.0, c.1, claimed_stage n.task c.0.count w c.0.stage (subst (StageShows n.task c.0.count w c.0.stage) is c.2.stage), c.2.task, c.2.path)
-
-  expand_is : (ns : List (Node T)) (k : ℕ) (n : Node T) (rule : Rule) → slice_get ns k ≡ Some n → apply step depth rule ns (expand k) ≡ expand_node step depth rule ns k (Some n)
-  expand_is ns k n rule at = ap (expand_node step depth rule ns k) at
-
-  -- an expansion keeps the table
-  pub expanded_table : (r : Run T) (cs : List (Stored T)) (capacity k first count : ℕ) (c : Stored T) (ts : List T) → IsTable step depth r cs (capacity) → slice_get cs k ≡ Some c → c.stage ≡ stage.Claimed → ts ≡ out_children (step c.task).out → 2 ≤ length ts → length c.path < 3 → length cs + length ts ≤ 1000000 → first ≡ length cs → count ≡ length ts
-      → (capacity' : ℕ) → 5 * (length cs + length ts) ≤ capacity'
-      → IsTable step depth (longer r (entry.Expanded k)) (alter (cs ++ fresh k c.path 0 ts) k (λ x. record x { first = first; count = count; stage = stage.Expanded; word = NONE })) capacity'
-  expanded_table r cs capacity k first count c ts t at is tsis two deep few fe ce capacity' big =
-      let ns = nodes_of step depth r in
-      let n = claimed_node cs ns k c t.shows at is in
-      let es = turns r.history in
-      let f : Stored T → Stored T = λ x. record x { first = first; count = count; stage = stage.Expanded; word = NONE } in
-      let g : Node T → Node T = λ m. record m { first = length ns; phase = expanded; word = NONE } in
-      let same : ts ≡ out_children (step n.0.task).out = tsis ∙ ap (λ y. out_children (step y).out) n.3 in
-      let shows : AllShow step (alter cs k f ++ fresh k c.path 0 ts) (change ns k g ++ new_nodes k n.0.path 0 (out_children (step n.0.task).out)) =
-      show_append step (alter cs k f) (fresh k c.path 0 ts) (change ns k g) (new_nodes k n.0.path 0 (out_children (step n.0.task).out))
-      (show_alter step cs ns k c n.0 f g t.shows at n.1
-      (record { task = n.3; path = n.4; first = fe ∙ show_length step cs ns t.shows; word = refl; stage = ce ∙ ap length same }))
-      (subst (λ p. AllShow step (fresh k c.path 0 ts) (new_nodes k p 0 (out_children (step n.0.task).out))) n.4
-      (subst (λ (l : List T). AllShow step (fresh k c.path 0 ts) (new_nodes k c.path 0 l)) same (show_fresh step k c.path 0 ts))) in
-      let more : nodes_of step depth (longer r (entry.Expanded k)) ≡ change ns k g ++ new_nodes k n.0.path 0 (out_children (step n.0.task).out) =
-      ap (replay_from step depth r.rule (root r.root)) (turns_more r.history (entry.Expanded k))
-      ∙ (replay_more step depth r.rule (root r.root) es (expand k) ∙ expand_is ns k n.0 r.rule n.1) in
-      let left = alter_left cs (fresh k c.path 0 ts) k f (below_length cs k c at) in
-      let can : CanExpand step depth r.rule (Some n.0) = (n.2, subst (λ (l : List T). 2 ≤ length l) same two, subst (λ p. length p < 3) n.4 deep) in
-      let rs = room_alter cs k c f at in
-      let four : stage_room c.stage ≡ 4 = ap stage_room is in
-      let len = length-append r.history (entry.Expanded k ∷ []) in
-      let had = t.room in
-      let ra = room_append (alter cs k f) (fresh k c.path 0 ts) in
-      let rf = room_fresh k c.path 0 ts in
-      let lf = length_fresh k c.path 0 ts in
-      let la = length-append (alter cs k f) (fresh k c.path 0 ts) in
-      let ll = length_alter cs k f in
-      subst (λ (l : List (Stored T)). IsTable step depth (longer r (entry.Expanded k)) l capacity') (sym left)
-      (record {
-        shows = subst (AllShow step (alter cs k f ++ fresh k c.path 0 ts)) (sym more) shows;
-        allowed = subst (AreAllowed step depth r.rule (root r.root)) (sym (turns_more r.history (entry.Expanded k)))
-            (allowed_more step depth r.rule (root r.root) es (expand k) t.allowed (subst (CanExpand step depth r.rule) (sym n.1) can));
-        room = omega arith;
-        reserved = omega arith;
-        few = omega arith;
-      })
 
   -- the job of a kept node is that of the node it shows
   pub job_shown : (cs : List (Stored T)) (ns : List (Node T)) (k : ℕ) (t : T) → AllShow step cs ns → ((c : Stored T) × (slice_get cs k ≡ Some c) × (c.stage ≡ stage.Claimed) × (t ≡ c.task)) → (n : Node T) × (slice_get ns k ≡ Some n) × (n.phase ≡ claimed) × (t ≡ n.task)

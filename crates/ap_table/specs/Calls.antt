@@ -1,25 +1,44 @@
 -- What each call does to the table.
-use Rattle.std.specs.Prelude.{◌≡◌, ℕ, ◌+◌, ◌≤◌, ◌<◌, [], ◌∷◌, ◌++◌, length, Some}
+use Rattle.std.specs.Prelude.{◌≡◌, ◌≢◌, ℕ, ◌+◌, ◌≤◌, ◌<◌, List, [], ◌∷◌, ◌++◌, length, Some}
 use Rattle.std.specs.List.{slice_get}
 use Rattle.ap_list.specs.Lists.{AnyOf}
 use Rattle.ap_walk.specs.declared.act.Stepped.{Stepped}
+use Rattle.ap_walk.specs.declared.rule.Rule.{Rule}
 use Rattle.ap_walk.specs.Visits.{out_children}
 use Rattle.ap_table.specs.declared.link.License.{License}
 use Rattle.ap_table.specs.declared.stored.Entry.{Entry}
 use Rattle.ap_table.specs.declared.stored.Entry.TheVariants as entry
 use Rattle.ap_table.specs.declared.stored.Job.{Job}
+use Rattle.ap_table.specs.declared.stored.Claim.{Claim}
+use Rattle.ap_table.specs.declared.stored.Claim.TheVariants as claim
 use Rattle.ap_table.specs.declared.stored.Grown.{Grown}
 use Rattle.ap_table.specs.declared.stored.Grown.TheVariants as grown
 use Rattle.ap_table.specs.declared.stored.Taken.{Taken}
 use Rattle.ap_table.specs.declared.stored.Taken.TheVariants as taken
-use Rattle.ap_table.specs.Core.{Node, claimed}
+use Rattle.ap_table.specs.Core.{Node, free, claimed, phase_walk}
+use Rattle.ap_walk.specs.declared.mark.Walked.{Walked}
+use Rattle.ap_table.specs.Order.{IsFirst}
 use Rattle.ap_table.specs.Sound.{Names}
 use Rattle.ap_table.specs.Shown.{Run, nodes_of}
+
+-- no node is free
+abbrev pub NoneFree : {T : Type 0} → List (Node T) → Type 0
+NoneFree ns = (k : ℕ) (n : Node _) → slice_get ns k ≡ Some n → n.phase ≢ free
 
 abbrev pub longer : {T : Type 0} → Run T → Entry → Run T
 longer r e = record r { history = r.history ++ e ∷ [] }
 
 module _ {T : Type 0} (step : T → Stepped T) (depth : T → ℕ) where
+  -- Found takes the first free node, and Nothing is where none is free
+  abbrev pub Claims : Run T → Run T → Claim T → Type 0
+  Claims old new (claim.Found job) =
+      (new ≡ longer old (entry.Claimed job.node)) × (job.rule ≡ old.rule) × ((first : IsFirst (nodes_of step depth old) job.node) × (job.task ≡ first.node.task))
+  Claims old new claim.Nothing = (new ≡ old) × NoneFree (nodes_of step depth old)
+
+  -- the root is done, and its task and the table's rule are these
+  abbrev pub IsRootDone : Run T → T → Rule → Type 0
+  IsRootDone r t rule = ((n : Node T) × (w : Walked T) × (slice_get (nodes_of step depth r) 0 ≡ Some n) × (phase_walk n.phase ≡ Some w)) × (r.root ≡ t) × (r.rule ≡ rule)
+
   -- the job is that of a claimed node
   abbrev pub IsJob : Run T → Job T → Type 0
   IsJob r job = (job.rule ≡ r.rule) × ((n : Node T) × (slice_get (nodes_of step depth r) job.node ≡ Some n) × (n.phase ≡ claimed) × (job.task ≡ n.task))

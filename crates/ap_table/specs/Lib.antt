@@ -4,4 +4,5 @@ pub mod Laws
 pub mod Order
 pub mod Pieces
 pub mod Shown
+pub mod Live
 pub mod Calls

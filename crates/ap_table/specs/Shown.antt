@@ -15,6 +15,7 @@ use Rattle.ap_table.specs.declared.stored.Stage.TheVariants as stage
 use Rattle.ap_word.specs.Stops.{NONE}
 use Rattle.ap_table.specs.Core.{Phase, Node, free, claimed, expanded, put, closed, dropped, Turn, claim, expand, finish, drop, mark, root, replay_from}
 use Rattle.ap_table.specs.Sound.{AreAllowed}
+use Rattle.ap_table.specs.Order.{IsOrder}
 
 -- what contracts see of a table
 pub record Run (T : Type 0) : Type 0 where
@@ -64,6 +65,10 @@ module _ {T : Type 0} where
   rooms [] = 0
   rooms (c ∷ cs) = stage_room c.stage + rooms cs
 
+  -- the root, as a kept node
+  abbrev pub kept_root : T → Stored T
+  kept_root t = record { task = t; path = []; first = 0; count = 0; stage = stage.Free t; word = NONE }
+
   -- the children of a node, as new kept nodes
   unfoldable pub fresh : ℕ → List Link → ℕ → List T → List (Stored T)
   fresh k path place [] = []
@@ -88,8 +93,10 @@ module _ {T : Type 0} (step : T → Stepped T) (depth : T → ℕ) where
   abbrev pub nodes_of : Run T → List (Node T)
   nodes_of r = replay_from step depth r.rule (root r.root) (turns r.history)
 
-  pub record IsTable (r : Run T) (nodes : List (Stored T)) (capacity : ℕ) : Type 0 where
+  -- live is the list of the free and claimed nodes, capacity that of the history
+  pub record IsTable (r : Run T) (nodes : List (Stored T)) (live : List ℕ) (capacity : ℕ) : Type 0 where
     pub shows : AllShow step nodes (nodes_of r)
+    pub order : IsOrder (nodes_of r) live
     pub allowed : AreAllowed step depth r.rule (root r.root) (turns r.history)
     pub room : length r.history + rooms nodes ≤ 5 * length nodes
     pub reserved : 5 * length nodes ≤ capacity

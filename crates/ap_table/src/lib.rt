@@ -9,6 +9,7 @@
 
 mod laws;
 mod link;
+mod live;
 mod making;
 mod state;
 mod stored;
@@ -18,5 +19,5 @@ pub use laws::{
     pieces_make_the_walk, stopped_walks_end,
 };
 pub use link::{License, Link};
-pub use state::TableState;
-pub use stored::{Entry, Grown, Job, Stage, Stored, Taken};
+pub use state::{TableState, first};
+pub use stored::{Claim, Entry, Grown, Job, Stage, Stored, Taken};

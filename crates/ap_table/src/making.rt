@@ -1,11 +1,12 @@
 //! Single steps on the kept nodes.
-ghost use Rattle.std.specs.Prelude.{◌≡◌, ℕ, ◌+◌, ◌*◌, ◌<◌, ◌≤◌, ◌↔◌, ◌∷◌, ◌++◌, List, length, IsTrue, IfOk, OnOk, OnErr, Some, vec_len, vec_capacity};
+ghost use Rattle.std.specs.Prelude.{◌≡◌, true, ℕ, ◌+◌, ◌*◌, ◌<◌, ◌≤◌, ◌↔◌, ◌∷◌, ◌++◌, List, length, IsTrue, IfOk, OnOk, OnErr, Some, vec_len, vec_capacity};
 ghost use Rattle.std.specs.List.{slice_get};
 ghost use Rattle.ap_table.specs.declared.stored.Stored.{Stored};
 ghost use Rattle.ap_table.specs.declared.stored.Stage.TheVariants as stage;
-ghost use Rattle.ap_table.specs.Shown.{alter, fresh};
+ghost use Rattle.ap_table.specs.Shown.{alter, fresh, kept_root};
 ghost use Rattle.ap_word.specs.Stops.{NONE};
 ghost use Rattle.ap_table.specs.Sound.{Names};
+ghost use Rattle.ap_table.specs.Live.{done_at, free_at};
 ghost use Rattle.ap_list.specs.Lists.{AnyOf};
 
 use crate::link::{License, Link};
@@ -13,6 +14,7 @@ use crate::stored::{Entry, Job, Stage, Stored};
 use ap_list::{NoMemory, Seq};
 use ap_walk::{Rule, Step};
 use std::alloc::Global;
+use std::mem;
 
 /// Whether two rules are equal.
 pub(crate) fn same_rule(a: Rule, b: Rule) -> bool
@@ -34,6 +36,53 @@ pub(crate) fn is_job<S: Step>(step: &S, nodes: &Vec<Stored<S::Task>>, job: &Job<
         return false;
     };
     step.same_task(&job.task, &node.task)
+}
+
+/// Claims a free node. Answers its job's copy of the task.
+pub(crate) fn set_claimed<T: Drop>(nodes: &mut Vec<Stored<T>>, i: usize) -> T
+    requires { free_at nodes.old.items i ≡ true }
+    ensures copy { (c : Stored T) → slice_get nodes.old.items i ≡ Some c → c.stage ≡ stage.Free result }
+    ensures nodes { nodes.new.items ≡ alter nodes.old.items i (λ c. record c { stage = stage.Claimed }) }
+{
+    let node = &mut nodes[i];
+    let Stage::Free(copy) = mem::replace(&mut node.stage, Stage::Claimed) else {
+        unreachable!()
+    };
+    copy
+}
+
+/// Whether a node is there and done.
+pub(crate) fn is_done<T>(nodes: &Vec<Stored<T>>, i: usize) -> bool
+    ensures { result ≡ done_at nodes.now.items i }
+{
+    if i >= nodes.len() {
+        return false;
+    }
+    match &nodes[i].stage {
+        Stage::Put(_) => true,
+        Stage::Closed(_) => true,
+        _ => false,
+    }
+}
+
+/// The kept root.
+pub(crate) fn root_node<S: Step>(
+    alloc: Global,
+    step: &S,
+    task: &S::Task,
+) -> Result<Stored<S::Task>, NoMemory>
+    ensures { IfOk result (λ c. c ≡ kept_root task.now) }
+{
+    let copy = step.copy_task(alloc, task)?;
+    let task = step.copy_task(alloc, task)?;
+    Ok(Stored {
+        task,
+        path: Seq::from_vec(Vec::new(alloc)),
+        first: 0,
+        count: 0,
+        stage: Stage::Free(copy),
+        word: u64::MAX,
+    })
 }
 
 /// Whether a node may be expanded into so many children.
@@ -97,9 +146,10 @@ pub(crate) fn fresh_nodes<S: Step>(
     Ok(nodes)
 }
 
-/// Room for the entries of all nodes, and then the new nodes.
+/// Room for the entries of all nodes and for the live ones, and then the new nodes.
 pub(crate) fn grow<T: Drop>(
     nodes: &mut Vec<Stored<T>>,
+    live: &mut Vec<u32>,
     history: &mut Vec<Entry>,
     more: Vec<Stored<T>>,
 ) -> Result<(), NoMemory>
@@ -108,8 +158,11 @@ pub(crate) fn grow<T: Drop>(
     ensures capacity { OnOk result (5 * (length nodes.old.items + length more.items) ≤ vec_capacity history.new) }
     ensures kept { OnErr result ((nodes.new.items ≡ nodes.old.items) × (vec_capacity history.old ≤ vec_capacity history.new)) }
     ensures history { history.new.items ≡ history.old.items }
+    ensures live { live.new.items ≡ live.old.items }
+    ensures spare { OnOk result (length live.new.items + length more.items ≤ vec_capacity live.new) }
 {
     let mut more = more;
+    live.reserve(more.len())?;
     history.reserve(5 * (nodes.len() + more.len()))?;
     nodes.append(&mut more)
 }

@@ -1,11 +1,13 @@
 ghost use Rattle.std.specs.Prelude.{◌≡◌, ℕ, ◌≤◌, List, [], ◌∷◌, ◌++◌, length, IfOk, IsTrue, ◌↔◌};
 
 use crate::link::License;
+use crate::live::{first_free, give_way, take_out};
 use crate::making::{
-    fresh_nodes, grow, has_room, is_job, is_licensed, same_rule, set_expanded, set_stage,
+    fresh_nodes, grow, has_room, is_done, is_job, is_licensed, root_node, same_rule, set_claimed,
+    set_expanded, set_stage,
 };
-use crate::stored::{Entry, Grown, Job, Stage, Stored, Taken};
-use ap_list::Seq;
+use crate::stored::{Claim, Entry, Grown, Job, Stage, Stored, Taken};
+use ap_list::{NoMemory, Seq};
 use ap_walk::{Out, Rule, Step, Stepped};
 use std::alloc::Global;
 use std::marker::Model;
@@ -17,23 +19,78 @@ pub struct TableState<S: Step> {
     root: S::Task,
     rule: Rule,
     nodes: Vec<Stored<S::Task>>,
+    live: Vec<u32>,
     history: Vec<Entry>,
 }
 
 impl<S: Step> Model for TableState<S> {
-    ghost use Rattle.std.specs.Prelude.{vec_capacity};
+    ghost use Rattle.std.specs.Prelude.{vec_capacity, reverse};
     ghost use Rattle.ap_table.specs.Shown.{Run, IsTable};
 
     ghost Value = { Run S.Task };
 
     ghost view = { λ s. record { root = s.root; rule = s.rule; history = s.history.items } };
 
-    ghost invariant = { λ s. IsTable S.step_of S.depth (record { root = s.root; rule = s.rule; history = s.history.items }) s.nodes.items (vec_capacity s.history) };
+    ghost invariant = { λ s. IsTable S.step_of S.depth (record { root = s.root; rule = s.rule; history = s.history.items }) s.nodes.items (reverse s.live.items) (vec_capacity s.history) };
+}
+
+/// A table of one free node, the root, under a rule. The only error is want of memory.
+pub fn first<S: Step>(
+    alloc: Global,
+    step: &S,
+    task: S::Task,
+    rule: Rule,
+) -> Result<TableState<S>, NoMemory>
+    ensures { IfOk result (λ s. s ≡ record { root = task; rule = rule; history = [] }) }
+{
+    let node = root_node(alloc, step, &task)?;
+    let mut nodes = Vec::new(alloc);
+    nodes.push(node)?;
+    let mut live = Vec::new(alloc);
+    live.push(0)?;
+    let mut history = Vec::new(alloc);
+    history.reserve(5)?;
+    Ok(TableState {
+        root: task,
+        rule,
+        nodes,
+        live,
+        history,
+    })
 }
 
 impl<S: Step> TableState<S> {
     ghost use Rattle.ap_walk.specs.Visits.{out_children};
-    ghost use Rattle.ap_table.specs.Calls.{Grows, Drops};
+    ghost use Rattle.ap_table.specs.Calls.{Claims, Grows, Drops, IsRootDone};
+
+    /// Claims the first free node in serial order.
+    pub fn claim_step(&mut self) -> Claim<S::Task>
+        ensures { Claims S.step_of S.depth self.old self.new result }
+    {
+        let Some(node) = first_free(&self.nodes, self.live.as_slice()) else {
+            return Claim::Nothing;
+        };
+        let task = set_claimed(&mut self.nodes, node as usize);
+        self.history.push_reserved(Entry::Claimed(node));
+        Claim::Found(Job {
+            task,
+            rule: self.rule,
+            node,
+        })
+    }
+
+    /// Whether the root is done, and its task and the table's rule are these.
+    pub fn root_done(&self, step: &S, task: &S::Task, rule: Rule) -> bool
+        ensures { IsTrue result ↔ IsRootDone S.step_of S.depth self.now task.now rule }
+    {
+        if !same_rule(self.rule, rule) {
+            return false;
+        }
+        if !step.same_task(&self.root, task) {
+            return false;
+        }
+        is_done(&self.nodes, 0)
+    }
 
     /// Puts the children of a job's task into the table. A stranger is a job that isn't the table's, or one
     /// whose node has three families above it, or there would be more than 1,000,000 nodes. What is handed
@@ -68,11 +125,12 @@ impl<S: Step> TableState<S> {
             return Grown::NoMemory(job, stepped);
         };
         let first = self.nodes.len() as u32;
-        let Ok(()) = grow(&mut self.nodes, &mut self.history, more) else {
+        let Ok(()) = grow(&mut self.nodes, &mut self.live, &mut self.history, more) else {
             return Grown::NoMemory(job, stepped);
         };
         let family = job.node;
         set_expanded(&mut self.nodes, i, first, count as u32);
+        give_way(&mut self.live, family, first, count as u32);
         self.history.push_reserved(Entry::Expanded(family));
         Grown::Family {
             family,
@@ -96,6 +154,7 @@ impl<S: Step> TableState<S> {
             return Taken::Stranger(job);
         }
         set_stage(&mut self.nodes, i, Stage::Dropped(license));
+        take_out(&mut self.live, job.node);
         self.history
             .push_reserved(Entry::Dropped(job.node, license));
         Taken::Kept

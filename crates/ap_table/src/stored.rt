@@ -45,6 +45,13 @@ pub struct Job<T> {
     pub node: u32,
 }
 
+/// The job of the first free node in serial order, or none is free.
+#[derive(Drop)]
+pub enum Claim<T> {
+    Found(Job<T>),
+    Nothing,
+}
+
 /// What an expansion answers: the family, the number of the first child and the number of children; or the
 /// job isn't the table's or there is no room for the children; or there is no memory.
 #[derive(Drop)]

@@ -1,4 +1,4 @@
-use Rattle.std.proofs.Common.{◌≡◌, Some, refl, sym, ap, subst, ◌∙◌, arith}
+use Rattle.std.proofs.Common.{reverse, ◌≡◌, Some, refl, sym, ap, subst, ◌∙◌, arith}
 use Rattle.std.specs.List.{slice_get}
 use Rattle.std.specs.Vec.{vec_capacity}
 use Rattle.ap_list.specs.Lists.{AnyOf}
@@ -9,7 +9,8 @@ use Rattle.ap_table.specs.Calls.{longer, IsJob, IsLicense}
 use Rattle.ap_table.specs.declared.stored.Entry.TheVariants as entry
 use Rattle.ap_table.specs.declared.stored.Stage.TheVariants as stage
 use Rattle.ap_table.proofs.After.{after_sound}
-use Rattle.ap_table.proofs.Dropping.{dropped_table, licensed_word}
+use Rattle.ap_table.proofs.Dropping.{licensed_word}
+use Rattle.ap_table.proofs.Moving.{dropped_table}
 use Rattle.ap_table.proofs.Showing.{some_same, below_length, room_alter, job_shown, job_kept, license_kept, license_shown}
 use Rattle.ap_table.proofs.state.TableState.drop_step.Goals as goal
 
@@ -62,8 +63,8 @@ invariant_of-self g c =
     let j = c.is_job.ensures.0 c.if-not-is_job.false in
     let l = license_shown step i.nodes.items (nodes_of step depth r) c.args.job.node c.args.license c.self.invariant.shows (c.is_licensed.ensures.tells.0 c.if-not-is_licensed.false) in
     let sound = after_sound step depth i.rule g.met.S.Step.tells g.met.S.Step.deeper i.root (turns i.history.items) c.self.invariant.allowed in
-    rw (c.push_reserved.ensures.items, c.push_reserved.ensures.capacity, c.set_stage.ensures)
-    (dropped_table step depth r i.nodes.items (vec_capacity i.history) c.args.job.node j.0 c.args.license c.self.invariant j.1 j.2
+    rw (c.take_out.ensures, c.push_reserved.ensures.items, c.push_reserved.ensures.capacity, c.set_stage.ensures)
+    (dropped_table step depth r i.nodes.items (reverse i.live.items) (vec_capacity i.history) c.args.job.node j.0 c.args.license c.self.invariant j.1 j.2
     (λ n at. licensed_word step depth i.rule (nodes_of step depth r) n c.args.license sound c.is_licensed.ensures.small
     (subst (λ (x : Node g.row.S-Task.Denot). AnyOf (Names c.args.license) x.path) (some_same l.0.0 n (sym l.0.1 ∙ at)) l.0.2) l.1))
 

@@ -1,4 +1,4 @@
-use Rattle.std.proofs.Common.{◌≡◌, ◌<◌, ◌≤◌, ◌+◌, ◌*◌, ◌++◌, ◌∷◌, [], ℕ, Some, refl, sym, ap, subst, ◌∙◌, arith, length, length-append}
+use Rattle.std.proofs.Common.{◌≡◌, ◌<◌, ◌≤◌, ◌+◌, ◌*◌, ◌++◌, ◌∷◌, [], ℕ, Some, refl, sym, ap, subst, ◌∙◌, arith, length, reverse, length-append}
 use Rattle.std.specs.List.{slice_get}
 use Rattle.std.specs.Vec.{vec_capacity}
 use Rattle.ap_walk.specs.Visits.{out_children}
@@ -9,7 +9,8 @@ use Rattle.ap_table.specs.Shown.{Run, nodes_of}
 use Rattle.ap_table.specs.Calls.{longer, IsJob, CanGrow}
 use Rattle.ap_table.specs.declared.stored.Entry.TheVariants as entry
 use Rattle.ap_table.specs.declared.stored.Stored.{Stored}
-use Rattle.ap_table.proofs.Showing.{get_at, some_same, below_length, length_fresh, show_length, job_shown, job_kept, room_kept, expanded_table}
+use Rattle.ap_table.proofs.Showing.{get_at, some_same, below_length, length_fresh, show_length, job_shown, job_kept, room_kept}
+use Rattle.ap_table.proofs.Moving.{expanded_table}
 use Rattle.ap_table.proofs.state.TableState.expand_step.Goals as goal
 
 pub returns-then-not-is_job : goal.returns-then-not-is_job
@@ -61,6 +62,13 @@ set_expanded-requires g c =
     let l : length c.grow.new.nodes.items ≡ length c.self.inside.nodes.items + length c.in-Ok.more.items = ap length c.in-Ok-grow.ensures.nodes ∙ length-append c.self.inside.nodes.items c.in-Ok.more.items in
     omega arith
 
+pub give_way-requires-clause-room : goal.give_way-requires-clause-room
+give_way-requires-clause-room g c =
+    let m : length c.in-Ok.more.items ≡ c.len-count.result =
+    ap length c.in-Ok.ensures ∙ (length_fresh c.args.job.node c.as_slice-path.result.now 0 c.as_slice.result.now ∙ (ap length c.as_slice.ensures ∙ sym c.len-count.ensures)) in
+    let spare = c.in-Ok-grow.ensures.spare in
+    omega arith
+
 pub push_reserved-requires : goal.push_reserved-requires
 push_reserved-requires g c =
     let m : length c.in-Ok.more.items ≡ c.len-count.result =
@@ -90,8 +98,8 @@ invariant_of-self-2 g c =
     let m : length c.in-Ok.more.items ≡ length ts = ap length c.in-Ok.ensures ∙ (length_fresh c.args.job.node c.as_slice-path.result.now 0 c.as_slice.result.now ∙ ap length c.as_slice.ensures) in
     let big : 5 * (length i.nodes.items + length ts) ≤ vec_capacity c.grow.new.history = subst (λ (n : ℕ). 5 * (length i.nodes.items + n) ≤ vec_capacity c.grow.new.history) m c.in-Ok-grow.ensures.capacity in
     let first : c.len-first.result ≡ length i.nodes.items = (let a = c.len-first.ensures in let b = i.nodes.ok.0 in omega arith) in
-    rw (c.push_reserved.ensures.items, c.push_reserved.ensures.capacity, c.set_expanded.ensures, c.in-Ok-grow.ensures.nodes, c.in-Ok-grow.ensures.history, c.in-Ok.ensures, c.as_slice-path.ensures, c.as_slice.ensures)
-    (expanded_table g.S.Step.step_of g.S.Step.depth r i.nodes.items (vec_capacity i.history) c.args.job.node c.len-first.result c.len-count.result x ts c.self.invariant at (sym (ap (λ (z : Stored g.row.S-Task.Denot). z.stage) same) ∙ j.2) tsis two deep few first c.len-count.ensures (vec_capacity c.grow.new.history) big)
+    rw (c.give_way.ensures, c.in-Ok-grow.ensures.live, c.push_reserved.ensures.items, c.push_reserved.ensures.capacity, c.set_expanded.ensures, c.in-Ok-grow.ensures.nodes, c.in-Ok-grow.ensures.history, c.in-Ok.ensures, c.as_slice-path.ensures, c.as_slice.ensures)
+    (expanded_table g.S.Step.step_of g.S.Step.depth r i.nodes.items (reverse i.live.items) (vec_capacity i.history) c.args.job.node c.len-first.result c.len-count.result x ts c.self.invariant at (sym (ap (λ (z : Stored g.row.S-Task.Denot). z.stage) same) ∙ j.2) tsis two deep few first c.len-count.ensures (vec_capacity c.grow.new.history) big)
 
 pub returns : goal.returns
 returns g c =
