@@ -60,6 +60,32 @@ pub ended_counts : (n : Numbers) (s : Counted) → stops n (add s ended) ≡ tru
 unfolding stops
 ended_counts n s = or_first (s.stopped || true) _ _ (or_last s.stopped true refl)
 
+-- what a kept node counts: exactly where its walk goes through, and else only that it ended
+abbrev pub sum_count : Option Tally → Counted
+sum_count None = ended
+sum_count (Some t) = record { pushes = t.pushes; goals = t.goals; stopped = false }
+
+abbrev pub one_counted : Option (Option Tally) → Option Counted
+one_counted None = None
+one_counted (Some x) = Some (sum_count x)
+
+abbrev pub sums_counted : List (Option (Option Tally)) → List (Option Counted)
+sums_counted [] = []
+sums_counted (o ∷ os) = one_counted o ∷ sums_counted os
+
+module _ {T : Type 0} where
+  abbrev pub OneShows : Option (Option Tally) → Option (Walked T) → Type 0
+  OneShows None None = Unit {0}
+  OneShows None (Some w) = ⊥
+  OneShows (Some x) None = ⊥
+  OneShows (Some x) (Some w) = SumShows x w
+
+  abbrev pub SumsShow : List (Option (Option Tally)) → List (Option (Walked T)) → Type 0
+  SumsShow [] [] = Unit {0}
+  SumsShow [] (w ∷ ws) = ⊥
+  SumsShow (o ∷ os) [] = ⊥
+  SumsShow (o ∷ os) (w ∷ ws) = OneShows o w × SumsShow os ws
+
 module _ {T : Type 0} (step : T → Stepped T) (depth : T → ℕ) (rule : Rule) where
   ended_at : (s : Counted) (w : Walked T) (e : End) → w.end ≡ e → (e ≡ End.Through → ⊥) → StopsAt rule w → stops (numbers_of rule) (add s (counted_of w)) ≡ true
   unfolding stops
@@ -71,25 +97,6 @@ module _ {T : Type 0} (step : T → Stepped T) (depth : T → ℕ) (rule : Rule)
   -- a child whose full walk ended stops its family, whatever its numbers
   pub ended_stops : (s : Counted) (w : Walked T) (c : T) → w ≡ full step depth rule c → (w.end ≡ End.Through → ⊥) → stops (numbers_of rule) (add s (counted_of w)) ≡ true
   ended_stops s w c e other = ended_at s w w.end refl other (subst (StopsAt rule) (sym e) (cut_stops rule zero_tally (all_marks step depth c) (zero_open rule)))
-
-  -- what a kept node counts: exactly where its walk goes through, and else only that it ended
-  abbrev pub sum_count : Option Tally → Counted
-  sum_count None = ended
-  sum_count (Some t) = record { pushes = t.pushes; goals = t.goals; stopped = false }
-
-  abbrev pub SumsShow : List (Option (Option Tally)) → List (Option (Walked T)) → Type 0
-  SumsShow [] [] = Unit {0}
-  SumsShow [] (w ∷ ws) = ⊥
-  SumsShow (o ∷ os) [] = ⊥
-  SumsShow (None ∷ os) (None ∷ ws) = SumsShow os ws
-  SumsShow (None ∷ os) (Some w ∷ ws) = ⊥
-  SumsShow (Some x ∷ os) (None ∷ ws) = ⊥
-  SumsShow (Some x ∷ os) (Some w ∷ ws) = SumShows x w × SumsShow os ws
-
-  abbrev pub sums_counted : List (Option (Option Tally)) → List (Option Counted)
-  sums_counted [] = []
-  sums_counted (None ∷ os) = None ∷ sums_counted os
-  sums_counted (Some x ∷ os) = Some (sum_count x) ∷ sums_counted os
 
   through_count : (t : Tally) (w : Walked T) → w.end ≡ End.Through → w.tally ≡ t → counted_of w ≡ sum_count (Some t)
   through_count t w e f =
@@ -104,10 +111,10 @@ module _ {T : Type 0} (step : T → Stepped T) (depth : T → ℕ) (rule : Rule)
   known_same s p cs [] (w ∷ ws) all sh = absurd sh
   known_same s p cs (o ∷ os) [] all sh = absurd sh
   known_same s p [] (o ∷ os) (w ∷ ws) all sh = absurd all
-  known_same s p (c ∷ cs) (None ∷ os) (Some w ∷ ws) all sh = absurd sh
-  known_same s p (c ∷ cs) (Some x ∷ os) (None ∷ ws) all sh = absurd sh
+  known_same s p (c ∷ cs) (None ∷ os) (Some w ∷ ws) all sh = absurd sh.0
+  known_same s p (c ∷ cs) (Some x ∷ os) (None ∷ ws) all sh = absurd sh.0
   known_same s p (c ∷ cs) (None ∷ os) (None ∷ ws) all sh =
-      ap (λ r. cond (stops (numbers_of rule) (add s nothing_counted)) (Some p) r) (known_same (add s nothing_counted) (p + 1) cs os ws all sh)
+      ap (λ r. cond (stops (numbers_of rule) (add s nothing_counted)) (Some p) r) (known_same (add s nothing_counted) (p + 1) cs os ws all sh.1)
   known_same s p (c ∷ cs) (Some None ∷ os) (Some w ∷ ws) all sh =
       rw (ended_counts (numbers_of rule) s, ended_stops s w c all.0 sh.0) refl
   known_same s p (c ∷ cs) (Some (Some t) ∷ os) (Some w ∷ ws) all sh =

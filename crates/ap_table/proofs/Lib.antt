@@ -13,3 +13,10 @@ pub mod Showing
 pub mod Dropping
 pub mod Standing
 pub mod Moving
+pub mod Totals
+pub mod Heard
+pub mod Closes
+pub mod Families
+pub mod Hearing
+pub mod Adding
+pub mod Marked

@@ -1,5 +1,5 @@
 -- Each step keeps the table.
-use Rattle.std.proofs.Common.{◌≡◌, ℕ, ◌+◌, ◌*◌, ◌≤◌, ◌<◌, true, false, List, [], ◌∷◌, ◌++◌, Option, Some, None, length, reverse, refl, sym, ap, ap₂, subst, ◌∙◌, arith, length-append}
+use Rattle.std.proofs.Common.{zero, suc, ◌≡◌, ℕ, ◌+◌, ◌*◌, ◌≤◌, ◌<◌, true, false, List, [], ◌∷◌, ◌++◌, Option, Some, None, length, reverse, refl, sym, ap, ap₂, subst, ◌∙◌, arith, length-append}
 use Rattle.std.specs.List.{slice_get}
 use Rattle.ap_list.specs.Lists.{Each}
 use Rattle.ap_walk.specs.declared.act.Stepped.{Stepped}
@@ -10,6 +10,7 @@ use Rattle.ap_word.specs.Stops.{NONE}
 use Rattle.ap_table.specs.declared.link.License.{License}
 use Rattle.ap_table.specs.declared.stored.Entry.{Entry}
 use Rattle.ap_table.specs.declared.stored.Entry.TheVariants as entry
+use Rattle.ap_table.specs.Sums.{nothing_told}
 use Rattle.ap_table.specs.declared.stored.Stored.{Stored}
 use Rattle.ap_table.specs.declared.stored.Stage.{Stage}
 use Rattle.ap_table.specs.declared.stored.Stage.TheVariants as stage
@@ -17,8 +18,13 @@ use Rattle.ap_table.specs.Core.{Phase, Node, phase_walk, free, claimed, expanded
 use Rattle.ap_table.specs.Sound.{IsFree, Licensed, CanDrop, CanExpand, IsAllowed, AreAllowed}
 use Rattle.ap_table.specs.Order.{numbers, replace, IsOrder, IsFirst, expanded_live, live_after}
 use Rattle.ap_table.specs.Live.{stage_free, kept_free, free_at, stage_done, kept_done, done_at, IsBusy, FirstFree}
-use Rattle.ap_table.specs.Shown.{Run, turn_of, turns, StageShows, alter, stage_room, rooms, fresh, kept_root, Shows, AllShow, nodes_of, IsTable}
+use Rattle.ap_table.specs.Shown.{Run, turn_of, turns, StageShows, alter, stage_room, rooms, fresh, kept_root, Shows, AllShow, NoMore, nodes_of, IsTableBut, IsTable}
 use Rattle.ap_table.specs.Calls.{longer, NoneFree}
+use Rattle.ap_table.specs.declared.link.Link.{Link}
+use Rattle.ap_table.specs.Sums.{stage_sum, HasKids, Placed, Kids, WordsBut}
+use Rattle.ap_table.proofs.Families.{kids_alter, sum_alter}
+use Rattle.ap_table.proofs.Hearing.{words_stage, nomore_alter}
+use Rattle.ap_table.proofs.Adding.{expand_kids, expand_words, expand_puts}
 use Rattle.ap_table.proofs.Keeping.{some_is}
 use Rattle.ap_table.proofs.Replay.{replay_more, allowed_more}
 use Rattle.ap_table.proofs.Ordering.{order_root, order_step, first_is, none_free}
@@ -129,38 +135,60 @@ module _ {T : Type 0} (step : T → Stepped T) where
       let c = kept_at step cs ns k h.0 a h.2 in
       ap kept_done c.1 ∙ done_stage h.0.task c.0.count (length (out_children (step h.0.task).out)) c.0.stage h.0.phase h.1 c.2.stage h.3
 
+-- a stage with no result and no children
+abbrev pub IsQuiet : {T : Type 0} → Stage T → Type 0
+IsQuiet s = (stage_sum s ≡ None) × (HasKids s → ⊥) × ((v : Walked _) → s ≡ stage.Put v → ⊥)
+
+pub quiet_claimed : {T : Type 0} → IsQuiet {T = T} stage.Claimed
+quiet_claimed = (refl, (λ h. h), (λ v h. cc))
+
+quiet_dropped : {T : Type 0} (l : License) → IsQuiet {T = T} (stage.Dropped l)
+quiet_dropped l = (refl, (λ h. h), (λ v h. cc))
+
+quiet_free : {T : Type 0} (s : Stage T) → stage_free s ≡ true → IsQuiet s
+quiet_free (stage.Free x) e = (refl, (λ h. h), (λ v h. cc))
+quiet_free stage.Claimed e = absurd (cc)
+quiet_free stage.Expanded e = absurd (cc)
+quiet_free (stage.Put v) e = absurd (cc)
+quiet_free (stage.Closed s) e = absurd (cc)
+quiet_free (stage.Dropped l) e = absurd (cc)
+
 module _ {T : Type 0} (step : T → Stepped T) (depth : T → ℕ) where
   pub shown_same : (cs : List (Stored T)) (ns : List (Node T)) (k : ℕ) (c : Stored T) (n : Node T) → AllShow step cs ns → slice_get cs k ≡ Some c → slice_get ns k ≡ Some n → Shows step c n
   shown_same cs ns k c n a ec en =
       let x = shown_at step cs ns k c a ec in
       subst (Shows step c) (some_is x.0 n (sym x.1 ∙ en)) x.2
 
-  nodes_more : (r : Run T) (e : Entry) → nodes_of step depth (longer r e) ≡ apply step depth r.rule (nodes_of step depth r) (turn_of e)
+  pub nodes_more : (r : Run T) (e : Entry) → nodes_of step depth (longer r e) ≡ apply step depth r.rule (nodes_of step depth r) (turn_of e)
   nodes_more r e = ap (replay_from step depth r.rule (root r.root)) (turns_more r.history e) ∙ replay_more step depth r.rule (root r.root) (turns r.history) (turn_of e)
 
   -- what one entry more does to all but the kept nodes
-  longer_table : (r : Run T) (cs ds : List (Stored T)) (live : List ℕ) (capacity capacity' : ℕ) (e : Entry) → IsTable step depth r cs live capacity → AllShow step ds (apply step depth r.rule (nodes_of step depth r) (turn_of e))
-      → IsAllowed step depth r.rule (nodes_of step depth r) (turn_of e) → length r.history + 1 + rooms ds ≤ 5 * length ds → 5 * length ds ≤ capacity' → length ds ≤ 1000000
-      → IsTable step depth (longer r e) ds (live_after step depth r.rule (nodes_of step depth r) live (turn_of e)) capacity'
-  longer_table r cs ds live capacity capacity' e t shows allowed room reserved few =
+  pub longer_table : (path others : List Link) (left more : ℕ) (r : Run T) (cs ds : List (Stored T)) (live : List ℕ) (capacity capacity' : ℕ) (e : Entry) → IsTableBut step depth path left r cs live capacity → AllShow step ds (apply step depth r.rule (nodes_of step depth r) (turn_of e))
+      → IsAllowed step depth r.rule (nodes_of step depth r) (turn_of e) → length r.history + 1 + rooms ds + more ≤ 5 * length ds → 5 * length ds ≤ capacity' → length ds ≤ 1000000 → Kids r.rule None ds → WordsBut others ds → NoMore step ds
+      → IsTableBut step depth others more (longer r e) ds (live_after step depth r.rule (nodes_of step depth r) live (turn_of e)) capacity'
+  longer_table path others left more r cs ds live capacity capacity' e t shows allowed room reserved few kids words puts =
       let ns = nodes_of step depth r in
-      let more = nodes_more r e in
+      let is = nodes_more r e in
       let len = length-append r.history (e ∷ []) in
       record {
-        shows = subst (AllShow step ds) (sym more) shows;
-        order = subst (λ ms. IsOrder ms (live_after step depth r.rule ns live (turn_of e))) (sym more) (order_step step depth r.rule ns live (turn_of e) allowed t.order);
+        shows = subst (AllShow step ds) (sym is) shows;
+        order = subst (λ ms. IsOrder ms (live_after step depth r.rule ns live (turn_of e))) (sym is) (order_step step depth r.rule ns live (turn_of e) allowed t.order);
         allowed = subst (AreAllowed step depth r.rule (root r.root)) (sym (turns_more r.history e)) (allowed_more step depth r.rule (root r.root) (turns r.history) (turn_of e) t.allowed allowed);
         room = omega arith;
         reserved = reserved;
         few = few;
+        kids = kids;
+        words = words;
+        puts = puts;
       }
 
-  -- a step that changes one node alone, and takes from its room
-  moved_table : (r : Run T) (cs : List (Stored T)) (live : List ℕ) (capacity k : ℕ) (c : Stored T) (e : Entry) (f : Stored T → Stored T) (g : Node T → Node T) → IsTable step depth r cs live capacity → slice_get cs k ≡ Some c
-      → ((n : Node T) → slice_get (nodes_of step depth r) k ≡ Some n → Shows step c n → Shows step (f c) (g n)) → apply step depth r.rule (nodes_of step depth r) (turn_of e) ≡ change (nodes_of step depth r) k g
-      → IsAllowed step depth r.rule (nodes_of step depth r) (turn_of e) → stage_room (f c).stage + 1 ≤ stage_room c.stage
-      → IsTable step depth (longer r e) (alter cs k f) (live_after step depth r.rule (nodes_of step depth r) live (turn_of e)) capacity
-  moved_table r cs live capacity k c e f g t at becomes is allowed less =
+  -- a step that gives one node another stage, in which it has no result and no children as before
+  moved_table : (r : Run T) (cs : List (Stored T)) (live : List ℕ) (capacity k : ℕ) (c : Stored T) (e : Entry) (s : Stage T) (g : Node T → Node T) → IsTable step depth r cs live capacity → slice_get cs k ≡ Some c
+      → ((n : Node T) → slice_get (nodes_of step depth r) k ≡ Some n → Shows step c n → Shows step (record c { stage = s }) (g n)) → apply step depth r.rule (nodes_of step depth r) (turn_of e) ≡ change (nodes_of step depth r) k g
+      → IsAllowed step depth r.rule (nodes_of step depth r) (turn_of e) → stage_room s + 1 ≤ stage_room c.stage → IsQuiet c.stage → IsQuiet s
+      → IsTable step depth (longer r e) (alter cs k (λ x. record x { stage = s })) (live_after step depth r.rule (nodes_of step depth r) live (turn_of e)) capacity
+  moved_table r cs live capacity k c e s g t at becomes is allowed less was now =
+      let f : Stored T → Stored T = λ x. record x { stage = s } in
       let ns = nodes_of step depth r in
       let n = shown_at step cs ns k c t.shows at in
       let rs = room_alter cs k c f at in
@@ -168,8 +196,11 @@ module _ {T : Type 0} (step : T → Stepped T) (depth : T → ℕ) where
       let res = t.reserved in
       let few' = t.few in
       let ll = length_alter cs k f in
-      longer_table r cs (alter cs k f) live capacity capacity e t
+      longer_table [] [] 0 0 r cs (alter cs k f) live capacity capacity e t
       (subst (AllShow step (alter cs k f)) (sym is) (show_alter step cs ns k c n.0 f g t.shows at n.1 (becomes n.0 n.1 n.2))) allowed (omega arith) (omega arith) (omega arith)
+      (kids_alter r.rule None None cs k c f at (record { first = refl; count = refl; path = refl; told = refl; has = λ h. absurd (now.1 h); back = λ h. absurd (was.1 h) }) (sum_alter cs k c f at (now.0 ∙ sym was.0)) t.kids)
+      (words_stage [] cs k c s at (λ h. absurd (now.1 h)) t.words)
+      (nomore_alter step cs k c f at refl refl (λ v h. absurd (now.2 v h)) t.puts)
 
   free_node : (cs : List (Stored T)) (ns : List (Node T)) (k : ℕ) → AllShow step cs ns → free_at cs k ≡ true → (n : Node T) × (slice_get ns k ≡ Some n) × (n.phase ≡ free)
   free_node cs ns k a e =
@@ -209,9 +240,9 @@ module _ {T : Type 0} (step : T → Stepped T) (depth : T → ℕ) where
   claimed_table r cs live capacity k t e =
       let c = free_there cs k e in
       let n = free_node cs (nodes_of step depth r) k t.shows e in
-      moved_table r cs live capacity k c.0 (entry.Claimed k) (λ x. record x { stage = stage.Claimed }) (λ m. record m { phase = claimed }) t c.1
+      moved_table r cs live capacity k c.0 (entry.Claimed k) stage.Claimed (λ m. record m { phase = claimed }) t c.1
       (λ m at s. record { task = s.task; path = s.path; first = s.first; word = s.word; stage = tt }) refl
-      (subst IsFree (sym n.1) n.2) (claim_room c.0.stage c.2)
+      (subst IsFree (sym n.1) n.2) (claim_room c.0.stage c.2) (quiet_free c.0.stage c.2) quiet_claimed
 
   -- a drop keeps the table
   pub dropped_table : (r : Run T) (cs : List (Stored T)) (live : List ℕ) (capacity k : ℕ) (c : Stored T) (l : License) → IsTable step depth r cs live capacity → slice_get cs k ≡ Some c → c.stage ≡ stage.Claimed
@@ -221,18 +252,18 @@ module _ {T : Type 0} (step : T → Stepped T) (depth : T → ℕ) where
       let n = claimed_node step depth cs (nodes_of step depth r) k c t.shows at is in
       let can : CanDrop step depth r.rule (nodes_of step depth r) (Some n.0) l = (n.2, licensed n.0 n.1) in
       let four : stage_room c.stage ≡ 4 = ap stage_room is in
-      moved_table r cs live capacity k c (entry.Dropped k l) (λ x. record x { stage = stage.Dropped l }) (λ m. record m { phase = dropped l }) t at
+      moved_table r cs live capacity k c (entry.Dropped k l) (stage.Dropped l) (λ m. record m { phase = dropped l }) t at
       (λ m em s. record { task = s.task; path = s.path; first = s.first; word = s.word; stage = refl }) refl
-      (subst (λ o. CanDrop step depth r.rule (nodes_of step depth r) o l) (sym n.1) can) (omega arith)
+      (subst (λ o. CanDrop step depth r.rule (nodes_of step depth r) o l) (sym n.1) can) (omega arith) (subst IsQuiet (sym is) quiet_claimed) (quiet_dropped l)
 
   -- an expansion keeps the table
   pub expanded_table : (r : Run T) (cs : List (Stored T)) (live : List ℕ) (capacity k first count : ℕ) (c : Stored T) (ts : List T) → IsTable step depth r cs live capacity → slice_get cs k ≡ Some c → c.stage ≡ stage.Claimed → ts ≡ out_children (step c.task).out → 2 ≤ length ts → length c.path < 3 → length cs + length ts ≤ 1000000 → first ≡ length cs → count ≡ length ts
       → (capacity' : ℕ) → 5 * (length cs + length ts) ≤ capacity'
-      → IsTable step depth (longer r (entry.Expanded k)) (alter (cs ++ fresh k c.path 0 ts) k (λ x. record x { first = first; count = count; stage = stage.Expanded; word = NONE })) (replace live k (numbers first count)) capacity'
+      → IsTable step depth (longer r (entry.Expanded k)) (alter (cs ++ fresh k c.path 0 ts) k (λ x. record x { first = first; count = count; stage = stage.Expanded; word = NONE; told = nothing_told })) (replace live k (numbers first count)) capacity'
   expanded_table r cs live capacity k first count c ts t at is tsis two deep few fe ce capacity' big =
       let ns = nodes_of step depth r in
       let n = claimed_node step depth cs ns k c t.shows at is in
-      let f : Stored T → Stored T = λ x. record x { first = first; count = count; stage = stage.Expanded; word = NONE } in
+      let f : Stored T → Stored T = λ x. record x { first = first; count = count; stage = stage.Expanded; word = NONE; told = nothing_told } in
       let g : Node T → Node T = λ m. record m { first = length ns; phase = expanded; word = NONE } in
       let same : ts ≡ out_children (step n.0.task).out = tsis ∙ ap (λ y. out_children (step y).out) n.3 in
       let shows : AllShow step (alter cs k f ++ fresh k c.path 0 ts) (expand_node step depth r.rule ns k (Some n.0)) =
@@ -256,9 +287,20 @@ module _ {T : Type 0} (step : T → Stepped T) (depth : T → ℕ) where
       ∙ ap₂ (λ (a b : ℕ). replace live k (numbers a b)) (sym (fe ∙ show_length step cs ns t.shows)) (sym (ce ∙ ap length same)) in
       subst (λ (l : List (Stored T)). IsTable step depth (longer r (entry.Expanded k)) l (replace live k (numbers first count)) capacity') (sym left)
       (subst (λ (l : List ℕ). IsTable step depth (longer r (entry.Expanded k)) (alter cs k f ++ fresh k c.path 0 ts) l capacity') after
-      (longer_table r cs (alter cs k f ++ fresh k c.path 0 ts) live capacity capacity' (entry.Expanded k) t
+      (longer_table [] [] 0 0 r cs (alter cs k f ++ fresh k c.path 0 ts) live capacity capacity' (entry.Expanded k) t
       (subst (AllShow step (alter cs k f ++ fresh k c.path 0 ts)) (sym (ap (expand_node step depth r.rule ns k) n.1)) shows)
-      (subst (CanExpand step depth r.rule) (sym n.1) can) (omega arith) (omega arith) (omega arith)))
+      (subst (CanExpand step depth r.rule) (sym n.1) can) (omega arith) (omega arith) (omega arith)
+          (expand_kids r.rule cs k first count c ts at is fe ce r.rule.limited.0 t.kids) (expand_words r.rule cs k first count c ts at is fe ce t.words) (expand_puts r.rule cs k first count c ts at is fe ce step t.puts)))
+
+  root_is : (t : T) (k : ℕ) (c : Stored T) → slice_get (kept_root t ∷ []) k ≡ Some c → kept_root t ≡ c
+  root_is t zero c e = some_is (kept_root t) c e
+  root_is t (suc k) c e = absurd (cc)
+
+  root_quiet : (t : T) (k : ℕ) (c : Stored T) → slice_get (kept_root t ∷ []) k ≡ Some c → IsQuiet c.stage
+  root_quiet t k c e = subst (λ (x : Stored T). IsQuiet x.stage) (root_is t k c e) (quiet_free (stage.Free t) refl)
+
+  root_path : (t : T) (k : ℕ) (c : Stored T) → slice_get (kept_root t ∷ []) k ≡ Some c → c.path ≡ []
+  root_path t k c e = subst (λ (x : Stored T). x.path ≡ []) (root_is t k c e) refl
 
   -- a new table
   pub first_table : (t : T) (rule : Rule) (capacity : ℕ) → 5 ≤ capacity → IsTable step depth (record { root = t; rule = rule; history = [] }) (kept_root t ∷ []) (0 ∷ []) capacity
@@ -270,4 +312,7 @@ module _ {T : Type 0} (step : T → Stepped T) (depth : T → ℕ) where
     room = omega arith;
     reserved = omega arith;
     few = omega arith;
+    kids = record { family = λ k c e has. absurd ((root_quiet t k c e).1 has); placed = λ k c e. subst (λ (p : List Link). Placed (kept_root t ∷ []) k p) (sym (root_path t k c e)) tt };
+    words = λ k c e has. absurd ((root_quiet t k c e).1 has);
+    puts = λ k c v e put many deep few. (root_quiet t k c e).2 v put;
   }

@@ -5,4 +5,6 @@ pub mod Order
 pub mod Pieces
 pub mod Shown
 pub mod Live
+pub mod Sums
+pub mod Settled
 pub mod Calls

@@ -1,5 +1,6 @@
 -- What the kept nodes stand for.
-use Rattle.std.specs.Prelude.{◌≡◌, ℕ, zero, suc, ◌+◌, ◌*◌, ◌≤◌, List, [], ◌∷◌, length, Option, Some, None}
+use Rattle.std.specs.Prelude.{◌≡◌, ℕ, zero, suc, ◌+◌, ◌*◌, ◌≤◌, ◌<◌, List, [], ◌∷◌, length, Option, Some, None}
+use Rattle.std.specs.List.{slice_get}
 use Rattle.ap_walk.specs.declared.act.Stepped.{Stepped}
 use Rattle.ap_walk.specs.declared.rule.Rule.{Rule}
 use Rattle.ap_walk.specs.declared.rule.Tally.{Tally}
@@ -16,6 +17,7 @@ use Rattle.ap_word.specs.Stops.{NONE}
 use Rattle.ap_table.specs.Core.{Phase, Node, free, claimed, expanded, put, closed, dropped, Turn, claim, expand, finish, drop, mark, root, replay_from}
 use Rattle.ap_table.specs.Sound.{AreAllowed}
 use Rattle.ap_table.specs.Order.{IsOrder}
+use Rattle.ap_table.specs.Sums.{Kids, WordsBut, nothing_told}
 
 -- what contracts see of a table
 pub record Run (T : Type 0) : Type 0 where
@@ -67,12 +69,12 @@ module _ {T : Type 0} where
 
   -- the root, as a kept node
   abbrev pub kept_root : T → Stored T
-  kept_root t = record { task = t; path = []; first = 0; count = 0; stage = stage.Free t; word = NONE }
+  kept_root t = record { task = t; path = []; first = 0; count = 0; stage = stage.Free t; word = NONE; told = nothing_told }
 
   -- the children of a node, as new kept nodes
   unfoldable pub fresh : ℕ → List Link → ℕ → List T → List (Stored T)
   fresh k path place [] = []
-  fresh k path place (c ∷ cs) = record { task = c; path = record { family = k; place = place } ∷ path; first = 0; count = 0; stage = stage.Free c; word = NONE } ∷ fresh k path (place + 1) cs
+  fresh k path place (c ∷ cs) = record { task = c; path = record { family = k; place = place } ∷ path; first = 0; count = 0; stage = stage.Free c; word = NONE; told = nothing_told } ∷ fresh k path (place + 1) cs
 
 module _ {T : Type 0} (step : T → Stepped T) where
   pub record Shows (c : Stored T) (n : Node T) : Type 0 where
@@ -81,6 +83,10 @@ module _ {T : Type 0} (step : T → Stepped T) where
     pub first : c.first ≡ n.first
     pub word : c.word ≡ n.word
     pub stage : StageShows n.task c.count (length (out_children (step n.task).out)) c.stage n.phase
+
+  -- a node that was put can't be expanded any more: it has three families above it, or fewer than two children, or there is no room for these
+  abbrev pub NoMore : List (Stored T) → Type 0
+  NoMore nodes = (k : ℕ) (c : Stored T) (v : Walked T) → slice_get nodes k ≡ Some c → c.stage ≡ stage.Put v → 2 ≤ length (out_children (step c.task).out) → length c.path < 3 → length nodes + length (out_children (step c.task).out) ≤ 1000000 → ⊥
 
   abbrev pub AllShow : List (Stored T) → List (Node T) → Type 0
   AllShow [] [] = Unit {0}
@@ -93,11 +99,18 @@ module _ {T : Type 0} (step : T → Stepped T) (depth : T → ℕ) where
   abbrev pub nodes_of : Run T → List (Node T)
   nodes_of r = replay_from step depth r.rule (root r.root) (turns r.history)
 
-  -- live is the list of the free and claimed nodes, capacity that of the history
-  pub record IsTable (r : Run T) (nodes : List (Stored T)) (live : List ℕ) (capacity : ℕ) : Type 0 where
+  -- live is the list of the free and claimed nodes, capacity that of the history. The words of families on
+  -- a path may still be above their known stops, and so many entries are to come
+  pub record IsTableBut (path : List Link) (left : ℕ) (r : Run T) (nodes : List (Stored T)) (live : List ℕ) (capacity : ℕ) : Type 0 where
     pub shows : AllShow step nodes (nodes_of r)
     pub order : IsOrder (nodes_of r) live
     pub allowed : AreAllowed step depth r.rule (root r.root) (turns r.history)
-    pub room : length r.history + rooms nodes ≤ 5 * length nodes
+    pub room : length r.history + rooms nodes + left ≤ 5 * length nodes
     pub reserved : 5 * length nodes ≤ capacity
     pub few : length nodes ≤ 1000000
+    pub kids : Kids r.rule None nodes
+    pub words : WordsBut path nodes
+    pub puts : NoMore step nodes
+
+  abbrev pub IsTable : Run T → List (Stored T) → List ℕ → ℕ → Type 0
+  IsTable = IsTableBut [] 0

@@ -11,8 +11,11 @@ mod laws;
 mod link;
 mod live;
 mod making;
+mod marking;
+mod settling;
 mod state;
 mod stored;
+mod telling;
 
 pub use laws::{
     closing_is_by_the_known_stop, core_is_sound, known_stops_are_true, live_nodes_stay_in_order,
@@ -20,4 +23,4 @@ pub use laws::{
 };
 pub use link::{License, Link};
 pub use state::{TableState, first};
-pub use stored::{Claim, Entry, Grown, Job, Stage, Stored, Taken};
+pub use stored::{Claim, Entry, Grown, Job, Told, Stage, Stored, Sum, Taken};

@@ -6,9 +6,11 @@ ghost use Rattle.ap_table.specs.declared.stored.Stage.TheVariants as stage;
 ghost use Rattle.ap_table.specs.Shown.{alter, fresh, kept_root};
 ghost use Rattle.ap_word.specs.Stops.{NONE};
 ghost use Rattle.ap_table.specs.Sound.{Names};
+ghost use Rattle.ap_table.specs.Sums.{nothing_told};
 ghost use Rattle.ap_table.specs.Live.{done_at, free_at};
 ghost use Rattle.ap_list.specs.Lists.{AnyOf};
 
+use crate::telling::nothing_told;
 use crate::link::{License, Link};
 use crate::stored::{Entry, Job, Stage, Stored};
 use ap_list::{NoMemory, Seq};
@@ -82,6 +84,7 @@ pub(crate) fn root_node<S: Step>(
         count: 0,
         stage: Stage::Free(copy),
         word: u64::MAX,
+        told: nothing_told(),
     })
 }
 
@@ -141,6 +144,7 @@ pub(crate) fn fresh_nodes<S: Step>(
             count: 0,
             stage: Stage::Free(copy),
             word: u64::MAX,
+            told: nothing_told(),
         })?;
     }
     Ok(nodes)
@@ -170,13 +174,14 @@ pub(crate) fn grow<T: Drop>(
 /// Makes a node expanded.
 pub(crate) fn set_expanded<T: Drop>(nodes: &mut Vec<Stored<T>>, i: usize, first: u32, count: u32)
     requires { i < length nodes.old.items }
-    ensures { nodes.new.items ≡ alter nodes.old.items i (λ c. record c { first = first; count = count; stage = stage.Expanded; word = NONE }) }
+    ensures { nodes.new.items ≡ alter nodes.old.items i (λ c. record c { first = first; count = count; stage = stage.Expanded; word = NONE; told = nothing_told }) }
 {
     let node = &mut nodes[i];
     node.first = first;
     node.count = count;
     node.stage = Stage::Expanded;
     node.word = u64::MAX;
+    node.told = nothing_told();
 }
 
 /// Puts a stage in the place of another.

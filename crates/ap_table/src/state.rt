@@ -6,9 +6,12 @@ use crate::making::{
     fresh_nodes, grow, has_room, is_done, is_job, is_licensed, root_node, same_rule, set_claimed,
     set_expanded, set_stage,
 };
+use crate::marking::{can_expand, mark_one};
+use crate::settling::settle;
 use crate::stored::{Claim, Entry, Grown, Job, Stage, Stored, Taken};
+use crate::telling::through_tally;
 use ap_list::{NoMemory, Seq};
-use ap_walk::{Out, Rule, Step, Stepped};
+use ap_walk::{Out, Rule, Step, Stepped, Walked};
 use std::alloc::Global;
 use std::marker::Model;
 
@@ -61,7 +64,8 @@ pub fn first<S: Step>(
 
 impl<S: Step> TableState<S> {
     ghost use Rattle.ap_walk.specs.Visits.{out_children};
-    ghost use Rattle.ap_table.specs.Calls.{Claims, Grows, Drops, IsRootDone};
+    ghost use Rattle.ap_walk.specs.Walks.{full};
+    ghost use Rattle.ap_table.specs.Calls.{Claims, Grows, Puts, Drops, IsRootDone};
 
     /// Claims the first free node in serial order.
     pub fn claim_step(&mut self) -> Claim<S::Task>
@@ -137,6 +141,39 @@ impl<S: Step> TableState<S> {
             first,
             count: count as u32,
         }
+    }
+
+    /// Puts the walk of a job's task, closes the nodes above that this closes, and marks each family above the
+    /// node that is known to stop then. A stranger is a job that isn't the table's, or one whose node can still
+    /// be expanded.
+    pub fn put_step(
+        &mut self,
+        step: &S,
+        job: Job<S::Task>,
+        walked: Walked<S::Task>,
+    ) -> Taken<S::Task>
+        requires { walked ≡ full S.step_of S.depth job.rule job.task }
+        ensures { Puts S.step_of S.depth self.old self.new job result }
+    {
+        if !same_rule(self.rule, job.rule) {
+            return Taken::Stranger(job);
+        }
+        if !is_job(step, &self.nodes, &job) {
+            return Taken::Stranger(job);
+        }
+        let i = job.node as usize;
+        if can_expand::<S>(self.rule, &self.nodes, i, &walked) {
+            return Taken::Stranger(job);
+        }
+        let sum = through_tally(walked.end, walked.tally);
+        set_stage(&mut self.nodes, i, Stage::Put(walked));
+        settle::<S>(self.rule, &mut self.nodes, i, sum);
+        take_out(&mut self.live, job.node);
+        self.history.push_reserved(Entry::Put(job.node));
+        mark_one(&mut self.nodes, &mut self.history, i, 0);
+        mark_one(&mut self.nodes, &mut self.history, i, 1);
+        mark_one(&mut self.nodes, &mut self.history, i, 2);
+        Taken::Kept
     }
 
     /// Drops a job's node. A stranger is a job that isn't the table's, or the licence isn't one for its node.

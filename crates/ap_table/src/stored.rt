@@ -25,6 +25,24 @@ pub enum Stage<T> {
     Dropped(License),
 }
 
+/// What some siblings count: the pushes and goals of those whose walks go through, and how many ended.
+#[derive(Clone, Copy, Debug)]
+pub struct Sum {
+    pub pushes: u64,
+    pub goals: u64,
+    pub ended: u64,
+}
+
+/// What the finished children of a node tell: the least place by which they stop the family, or `u64::MAX`;
+/// how many from the first on are finished, as far as was looked; and what the children before that stop
+/// come to.
+#[derive(Clone, Copy, Debug)]
+pub struct Told {
+    pub stop: u64,
+    pub front: u32,
+    pub sum: Sum,
+}
+
 /// A node as it is kept: the families above it, its own first. `word` is where its children's family
 /// stops, as far as is marked.
 #[derive(Drop)]
@@ -35,6 +53,7 @@ pub struct Stored<T> {
     pub count: u32,
     pub stage: Stage<T>,
     pub word: u64,
+    pub told: Told,
 }
 
 /// A node to be worked: its task, and the rule of its walk.

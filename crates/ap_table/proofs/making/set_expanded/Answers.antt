@@ -8,4 +8,4 @@ returns g c =
     let xs = c.args.nodes.now.items in
     let x = c.index_mut-node.result.now in
     let at = get_at xs c.args.i x c.requires c.index_mut-node.ensures.value in
-    set_is xs c.args.i x (λ y. record y { first = c.args.first; count = c.args.count; stage = stage.Expanded; word = NONE }) at
+    set_is xs c.args.i x (λ y. record y { first = c.args.first; count = c.args.count; stage = stage.Expanded; word = NONE; told = nothing_told }) at
