@@ -51,9 +51,11 @@ module _ {T : Type 0} where
   fresh_free k path p [] x d e = absurd (cc)
   fresh_free k path p (t ∷ ts) zero d e =
       let c : Stored T = record { task = t; path = record { family = k; place = p } ∷ path; first = 0; count = 0; stage = stage.Free t; word = NONE; told = nothing_told } in
-      let s : c ≡ d = cc in
-      (subst (λ (y : Stored T). y.stage ≡ stage.Free y.task) s refl,
-       sym (ap (λ (y : Stored T). y.path) s) ∙ ap (λ (n : ℕ). (let l : Link = record { family = k; place = n } in l) ∷ path) (let z : p ≡ p + 0 = omega arith in z), omega arith)
+      let s : c ≡ d = cc in (
+        subst (λ (y : Stored T). y.stage ≡ stage.Free y.task) s refl,
+        sym (ap (λ (y : Stored T). y.path) s) ∙ ap (λ (n : ℕ). (let l : Link = record { family = k; place = n } in l) ∷ path) (let z : p ≡ p + 0 = omega arith in z),
+        omega arith,
+      )
   fresh_free k path p (t ∷ ts) (suc x) d e =
       let r = fresh_free k path (p + 1) ts x d e in
       (r.0, r.1 ∙ ap (λ (n : ℕ). (let l : Link = record { family = k; place = n } in l) ∷ path) (let z : p + 1 + x ≡ p + suc x = omega arith in z), (let a = r.2 in omega arith))
@@ -134,25 +136,25 @@ module _ {T : Type 0} where
               elim (split_at (alter cs k f) k c.path ts j d e) [
                 | inr new ↦ absurd (free_kids d.stage d.task new.0 has)
                 | inl old ↦ elim (alter_at cs k j c d f at old) [
-                    | inl y ↦ subst (FamilyKept rule None more) (sym y.1) (record {
-                        told = untold rule (sums_of None more first count) limit (sums_none (alter cs k f) k c.path 0 ts first count (omega arith));
-                        fits = (let x = long in omega arith);
-                      })
-                    | inr n ↦
-                        let o = kids.family j d n.1 has in
-                        let fits = o.fits in
-                        let same : sums_of None more d.first d.count ≡ sums_of None cs d.first d.count =
-                            sums_front (alter cs k f) (fresh k c.path 0 ts) d.first d.count (omega arith) ∙ sums_same None None cs (alter cs k f) d.first d.count (sum_alter cs k c f at (sym (ap stage_sum is))) in
-                        record { told = subst (λ os. IsTold rule os d.told) (sym same) o.told; fits = (let x = long in omega arith) }
-                  ]
+                  | inl y ↦ subst (FamilyKept rule None more) (sym y.1) (record {
+                    told = untold rule (sums_of None more first count) limit (sums_none (alter cs k f) k c.path 0 ts first count (omega arith));
+                    fits = (let x = long in omega arith);
+                  })
+                  | inr n ↦
+                      let o = kids.family j d n.1 has in
+                      let fits = o.fits in
+                      let same : sums_of None more d.first d.count ≡ sums_of None cs d.first d.count =
+                      sums_front (alter cs k f) (fresh k c.path 0 ts) d.first d.count (omega arith) ∙ sums_same None None cs (alter cs k f) d.first d.count (sum_alter cs k c f at (sym (ap stage_sum is))) in
+                      record { told = subst (λ os. IsTold rule os d.told) (sym same) o.told; fits = (let x = long in omega arith) }
+                ]
               ];
           placed = λ j d e.
               elim (split_at (alter cs k f) k c.path ts j d e) [
                 | inr new ↦ subst (Placed more j) (sym new.1.2) (f c, grown_there, tt, (let x = new.1.1 in omega arith), (let x = new.1.3 in omega arith))
                 | inl old ↦ elim (alter_at cs k j c d f at old) [
-                    | inl y ↦ subst (λ (x : List Link). Placed more j x) (sym (ap (λ (z : Stored T). z.path) y.1)) (placed_more j c.path (subst (λ (z : ℕ). Placed cs z c.path) (sym y.0) (kids.placed k c at)))
-                    | inr n ↦ placed_more j d.path (kids.placed j d n.1)
-                  ]
+                  | inl y ↦ subst (λ (x : List Link). Placed more j x) (sym (ap (λ (z : Stored T). z.path) y.1)) (placed_more j c.path (subst (λ (z : ℕ). Placed cs z c.path) (sym y.0) (kids.placed k c at)))
+                  | inr n ↦ placed_more j d.path (kids.placed j d n.1)
+                ]
               ];
         }
 
@@ -161,9 +163,9 @@ module _ {T : Type 0} where
         elim (split_at (alter cs k f) k c.path ts j d e) [
           | inr new ↦ absurd (free_kids d.stage d.task new.0 has)
           | inl old ↦ elim (alter_at cs k j c d f at old) [
-              | inl y ↦ inl (ap (λ (z : Stored T). z.word) y.1 ∙ sym (ap (λ (z : Stored T). z.told.stop) y.1))
-              | inr n ↦ w j d n.1 has
-            ]
+            | inl y ↦ inl (ap (λ (z : Stored T). z.word) y.1 ∙ sym (ap (λ (z : Stored T). z.told.stop) y.1))
+            | inr n ↦ w j d n.1 has
+          ]
         ]
 
     pub expand_puts : (step : T → Stepped T) → NoMore step cs → NoMore step more
@@ -171,7 +173,7 @@ module _ {T : Type 0} where
         elim (split_at (alter cs k f) k c.path ts j d e) [
           | inr new ↦ absurd (let z = sym new.0 ∙ is' in cc)
           | inl old ↦ elim (alter_at cs k j c d f at old) [
-              | inl y ↦ absurd (let z = sym (ap (λ (x : Stored T). x.stage) y.1) ∙ is' in cc)
-              | inr n ↦ held j d v n.1 is' many deep (let x = long in omega arith)
-            ]
+            | inl y ↦ absurd (let z = sym (ap (λ (x : Stored T). x.stage) y.1) ∙ is' in cc)
+            | inr n ↦ held j d v n.1 is' many deep (let x = long in omega arith)
+          ]
         ]

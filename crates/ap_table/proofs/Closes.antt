@@ -232,17 +232,17 @@ module _ {T : Type 0} (step : T → Stepped T) (depth : T → ℕ) (rule : Rule)
       let same : plus one.tally (sum_tally os) ≡ u = ap (λ x. plus x (sum_tally os)) ot ∙ same_tally _ _ _ _ (omega arith) (omega arith) in
       let is = full_is_cut_of_family step depth tells rule deeper t in (
         (λ o.
-          let o' : end_at rule (plus one.tally (sum_tally os)) ≡ End.Through = ap (end_at rule) same ∙ o in
-          let e : mark_end rule v one.tally ≡ End.Through = own_end (is_stop v.act.process) rule v.children one.tally sp.1 (end_less rule one.tally (sum_tally os) o') in
-          let c = children_through step depth rule one.tally cs os a o' in
-          let h = through_back (mark_end rule v one.tally) one go e c in
-          let s = through_step (mark_end rule v one.tally) one go h refl in
-          (ap (λ (w : Walked T). w.end) is ∙ h, ap (λ (w : Walked T). w.tally) is ∙ (s.1 ∙ (children_tally step depth rule one.tally cs os a c ∙ same)))),
+            let o' : end_at rule (plus one.tally (sum_tally os)) ≡ End.Through = ap (end_at rule) same ∙ o in
+            let e : mark_end rule v one.tally ≡ End.Through = own_end (is_stop v.act.process) rule v.children one.tally sp.1 (end_less rule one.tally (sum_tally os) o') in
+            let c = children_through step depth rule one.tally cs os a o' in
+            let h = through_back (mark_end rule v one.tally) one go e c in
+            let s = through_step (mark_end rule v one.tally) one go h refl in
+            (ap (λ (w : Walked T). w.end) is ∙ h, ap (λ (w : Walked T). w.tally) is ∙ (s.1 ∙ (children_tally step depth rule one.tally cs os a c ∙ same)))),
         (λ h.
-          let x = sym (ap (λ (w : Walked T). w.end) is) ∙ h in
-          let s = through_step (mark_end rule v one.tally) one go x refl in
-          let o = through_open rule one.tally (full_marks step depth rule cs) (through_by (is_stop v.act.process) rule v.children one.tally s.0) s.2 in
-          ap (end_at rule) (sym (children_tally step depth rule one.tally cs os a s.2 ∙ same)) ∙ o),
+            let x = sym (ap (λ (w : Walked T). w.end) is) ∙ h in
+            let s = through_step (mark_end rule v one.tally) one go x refl in
+            let o = through_open rule one.tally (full_marks step depth rule cs) (through_by (is_stop v.act.process) rule v.children one.tally s.0) s.2 in
+            ap (end_at rule) (sym (children_tally step depth rule one.tally cs os a s.2 ∙ same)) ∙ o),
       )
 
   is_none : (n : ℕ) → n ≡ NONE → nat_eq n NONE ≡ true

@@ -107,8 +107,8 @@ module _ {T : Type 0} where
   told_moved rule h g cs ds first first' n n' t t' e ef en et k =
       subst (λ (i : ℕ). IsTold rule (sums_of h ds i n') t') (sym ef)
       (subst (λ (i : ℕ). IsTold rule (sums_of h ds first i) t') (sym en)
-        (subst (IsTold rule (sums_of h ds first n)) (sym et)
-          (subst (λ os. IsTold rule os t) (sym (sums_same h g cs ds first n e)) k)))
+      (subst (IsTold rule (sums_of h ds first n)) (sym et)
+      (subst (λ os. IsTold rule os t) (sym (sums_same h g cs ds first n e)) k)))
 
   pub kids_alter : (rule : Rule) (h g : Option ℕ) (cs : List (Stored T)) (k : ℕ) (c : Stored T) (f : Stored T → Stored T) → slice_get cs k ≡ Some c → SameFamily c (f c) → ((j : ℕ) → sum_at h (alter cs k f) j ≡ sum_at g cs j) → Kids rule g cs → Kids rule h (alter cs k f)
   kids_alter rule h g cs k c f at same sums kids = record {
@@ -350,18 +350,18 @@ module _ {T : Type 0} (step : T → Stepped T) (depth : T → ℕ) (rule : Rule)
       elim (cases_lt i x.first) [
         | inl lt ↦ inl lt
         | inr ge ↦ elim (cases_lt i (x.first + x.count)) [
-            | inr out ↦ inr out
-            | inl in' ↦
-                let n = shown_at step cs ns k x r.shows ex in
-                let m = shown_at step cs ns i c r.shows at in
-                let w = length (out_children (step n.0.task).out) in
-                let f = kid_family step depth rule (parent_of (slice_get ns i)) ns k n.0 n.0.task x.count w x.stage n.0.phase n.2.stage has (r.sound k n.0 n.1).phase in
-                let cw = kids_count n.0.task x.count w x.stage n.0.phase n.2.stage has in
-                let first = n.2.first in
-                let y = family_at ns k n.0.path n.0.first 0 (i - x.first) (children step depth rule n.0.task) f (omega arith) in
-                let same : y.0 ≡ m.0 = some_is y.0 m.0 (sym y.1 ∙ (ap (λ (z : ℕ). slice_get ns z) (let z : n.0.first + (i - x.first) ≡ i = omega arith in z) ∙ m.1)) in
-                absurd (d (ap above (m.2.path ∙ (sym (ap (λ (z : Node T). z.path) same) ∙ y.2))))
-          ]
+          | inr out ↦ inr out
+          | inl in' ↦
+              let n = shown_at step cs ns k x r.shows ex in
+              let m = shown_at step cs ns i c r.shows at in
+              let w = length (out_children (step n.0.task).out) in
+              let f = kid_family step depth rule (parent_of (slice_get ns i)) ns k n.0 n.0.task x.count w x.stage n.0.phase n.2.stage has (r.sound k n.0 n.1).phase in
+              let cw = kids_count n.0.task x.count w x.stage n.0.phase n.2.stage has in
+              let first = n.2.first in
+              let y = family_at ns k n.0.path n.0.first 0 (i - x.first) (children step depth rule n.0.task) f (omega arith) in
+              let same : y.0 ≡ m.0 = some_is y.0 m.0 (sym y.1 ∙ (ap (λ (z : ℕ). slice_get ns z) (let z : n.0.first + (i - x.first) ≡ i = omega arith in z) ∙ m.1)) in
+              absurd (d (ap above (m.2.path ∙ (sym (ap (λ (z : Node T). z.path) same) ∙ y.2))))
+        ]
       ]
 
   close_by_phase : (g : ℕ) (ns : List (Node T)) (p : ℕ) (n : Node T) (ph : Phase T) → n.phase ≡ ph → (n.phase ≡ expanded → kept_of step depth rule ns n ≡ None) → close_phase step depth rule ns p n ph ≡ None

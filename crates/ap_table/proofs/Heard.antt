@@ -71,8 +71,8 @@ module _ (rule : Rule) where
   first_stop c b (o ∷ os) p i zero e l lt before at = absurd (omega arith)
   first_stop c b (o ∷ os) p zero (suc zero) e l lt before at =
       let yes : stops (numbers_of rule) (add c (known (one_counted o))) ≡ true =
-          like_stops rule (add c (known (one_counted o))) (also b (weight o)) (like_add c (known (one_counted o)) b (weight o) l (like_one o))
-          ∙ (ap (sum_stops rule) (sym (also_first b o os zero ∙ also_zero (also b (weight o)) os)) ∙ at) in
+      like_stops rule (add c (known (one_counted o))) (also b (weight o)) (like_add c (known (one_counted o)) b (weight o) l (like_one o))
+      ∙ (ap (sum_stops rule) (sym (also_first b o os zero ∙ also_zero (also b (weight o)) os)) ∙ at) in
       ap (λ x. cond x (Some p) (known_from (numbers_of rule) (add c (known (one_counted o))) (p + 1) (sums_counted os))) yes ∙ ap (λ (n : ℕ). Some n) (let z : p ≡ p + 0 = omega arith in z)
   first_stop c b (o ∷ os) p zero (suc (suc j)) e l lt before at = absurd (omega arith)
   first_stop c b (o ∷ os) p (suc i) (suc j) e l lt before at =

@@ -20,3 +20,4 @@ pub mod Families
 pub mod Hearing
 pub mod Adding
 pub mod Marked
+pub mod Splitting

@@ -290,7 +290,7 @@ module _ {T : Type 0} (step : T → Stepped T) (depth : T → ℕ) where
       (longer_table [] [] 0 0 r cs (alter cs k f ++ fresh k c.path 0 ts) live capacity capacity' (entry.Expanded k) t
       (subst (AllShow step (alter cs k f ++ fresh k c.path 0 ts)) (sym (ap (expand_node step depth r.rule ns k) n.1)) shows)
       (subst (CanExpand step depth r.rule) (sym n.1) can) (omega arith) (omega arith) (omega arith)
-          (expand_kids r.rule cs k first count c ts at is fe ce r.rule.limited.0 t.kids) (expand_words r.rule cs k first count c ts at is fe ce t.words) (expand_puts r.rule cs k first count c ts at is fe ce step t.puts)))
+      (expand_kids r.rule cs k first count c ts at is fe ce r.rule.limited.0 t.kids) (expand_words r.rule cs k first count c ts at is fe ce t.words) (expand_puts r.rule cs k first count c ts at is fe ce step t.puts)))
 
   root_is : (t : T) (k : ℕ) (c : Stored T) → slice_get (kept_root t ∷ []) k ≡ Some c → kept_root t ≡ c
   root_is t zero c e = some_is (kept_root t) c e
@@ -315,4 +315,18 @@ module _ {T : Type 0} (step : T → Stepped T) (depth : T → ℕ) where
     kids = record { family = λ k c e has. absurd ((root_quiet t k c e).1 has); placed = λ k c e. subst (λ (p : List Link). Placed (kept_root t ∷ []) k p) (sym (root_path t k c e)) tt };
     words = λ k c e has. absurd ((root_quiet t k c e).1 has);
     puts = λ k c v e put many deep few. (root_quiet t k c e).2 v put;
+  }
+
+  -- with more room for entries
+  pub larger_table : (r : Run T) (cs : List (Stored T)) (live : List ℕ) (capacity larger : ℕ) → IsTable step depth r cs live capacity → capacity ≤ larger → IsTable step depth r cs live larger
+  larger_table r cs live capacity larger t le = record {
+    shows = t.shows;
+    order = t.order;
+    allowed = t.allowed;
+    room = t.room;
+    reserved = (let a = t.reserved in omega arith);
+    few = t.few;
+    kids = t.kids;
+    words = t.words;
+    puts = t.puts;
   }

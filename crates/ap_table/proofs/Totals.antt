@@ -256,11 +256,13 @@ module _ {T : Type 0} where
   each_hidden : (h : ℕ) (nodes : List (Stored T)) (first c : ℕ) → Each InGoals (sums_of None nodes first c) → Each InGoals (sums_of (Some h) nodes first c)
   unfolding sums_of
   each_hidden h nodes first zero e = tt
-  each_hidden h nodes first (suc c) e =
-      (elim (eq_case h first) [
-        | inl y ↦ subst InGoals (sym (sum_same h first nodes y.1)) (omega arith)
-        | inr n ↦ subst InGoals (sym (sum_other h first nodes n.1)) e.0
-      ], each_hidden h nodes (first + 1) c e.1)
+  each_hidden h nodes first (suc c) e = (
+    elim (eq_case h first) [
+      | inl y ↦ subst InGoals (sym (sum_same h first nodes y.1)) (omega arith)
+      | inr n ↦ subst InGoals (sym (sum_other h first nodes n.1)) e.0
+    ],
+    each_hidden h nodes (first + 1) c e.1,
+  )
 
   -- what the siblings tell before one of them is finished, and what they come to then
   module _ (rule : Rule) (h : ℕ) (nodes : List (Stored T)) (first c place : ℕ) (s : Option Tally) (e : h ≡ first + place) (l : place < c) (at : sum_at None nodes h ≡ Some s) where
@@ -314,17 +316,17 @@ module _ {T : Type 0} where
         let ln = length_sums None nodes first c in
         elim which [
           | inl x ↦ record {
-              sum = is ∙ ap (sum_first new) (let y = x.1 in let z = x.0 in let w : u ≡ min stop (length new) = omega arith in w);
-              before = goes;
-              stop = inr ((let y = x.1 in let z = x.0 in omega arith), subst (λ (n : ℕ). sum_stops rule (sum_first new (n + 1)) ≡ true) (sym x.1) (st x.0));
-              front = f;
-            }
+            sum = is ∙ ap (sum_first new) (let y = x.1 in let z = x.0 in let w : u ≡ min stop (length new) = omega arith in w);
+            before = goes;
+            stop = inr ((let y = x.1 in let z = x.0 in omega arith), subst (λ (n : ℕ). sum_stops rule (sum_first new (n + 1)) ≡ true) (sym x.1) (st x.0));
+            front = f;
+          }
           | inr x ↦ record {
-              sum = is ∙ ap (sum_first new) (let y = x.1 in let z = x.0 in let w : u ≡ min stop (length new) = omega arith in w);
-              before = goes;
-              stop = subst (λ (n : ℕ). (n ≡ NONE) ⊎ ((n < length new) × (sum_stops rule (sum_first new (n + 1)) ≡ true))) (sym x.1) (stop_on t.stop k.stop);
-              front = f;
-            }
+            sum = is ∙ ap (sum_first new) (let y = x.1 in let z = x.0 in let w : u ≡ min stop (length new) = omega arith in w);
+            before = goes;
+            stop = subst (λ (n : ℕ). (n ≡ NONE) ⊎ ((n < length new) × (sum_stops rule (sum_first new (n + 1)) ≡ true))) (sym x.1) (stop_on t.stop k.stop);
+            front = f;
+          }
         ]
 
     pub few_pushes : (t : Told) → IsTold rule old t → Each InGoals new → (t.sum.pushes ≤ t.sum.goals) × (t.sum.goals < rule.goal_limit) × (t.sum.ended < 1)

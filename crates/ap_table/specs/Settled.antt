@@ -2,6 +2,7 @@
 use Rattle.std.specs.Prelude.{◌≡◌, ℕ, ◌+◌, ◌≤◌, nat_eq, cond, List, [], ◌∷◌, length, Option, Some, None}
 use Rattle.std.specs.List.{slice_get}
 use Rattle.ap_walk.specs.declared.act.Stepped.{Stepped}
+use Rattle.ap_walk.specs.declared.act.Process.{Process}
 use Rattle.ap_walk.specs.declared.rule.Rule.{Rule}
 use Rattle.ap_walk.specs.declared.rule.Tally.{Tally}
 use Rattle.ap_table.specs.declared.link.Link.{Link}
@@ -13,6 +14,12 @@ use Rattle.ap_table.specs.Core.{Node, parent_of, close_up}
 use Rattle.ap_table.specs.Sound.{SoundBut}
 use Rattle.ap_table.specs.Shown.{alter, AllShow, NoMore, rooms}
 use Rattle.ap_table.specs.Sums.{sum_at, InGoals, Kids, Within, WordsBut}
+
+-- the children that a first mark tells
+abbrev pub split_count : Process → ℕ → ℕ
+split_count Process.Push n = 0
+split_count Process.Stop n = 0
+split_count _ n = n
 
 abbrev pub entry_by : ℕ → ℕ → List Entry
 entry_by f stop = cond (nat_eq stop NONE) [] (entry.Marked f stop ∷ [])

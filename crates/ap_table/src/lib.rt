@@ -23,4 +23,4 @@ pub use laws::{
 };
 pub use link::{License, Link};
 pub use state::{TableState, first};
-pub use stored::{Claim, Entry, Grown, Job, Told, Stage, Stored, Sum, Taken};
+pub use stored::{Claim, Entry, Grown, Job, Stage, Stored, Sum, Taken, Told};

@@ -10,9 +10,9 @@ ghost use Rattle.ap_table.specs.Sums.{nothing_told};
 ghost use Rattle.ap_table.specs.Live.{done_at, free_at};
 ghost use Rattle.ap_list.specs.Lists.{AnyOf};
 
-use crate::telling::nothing_told;
 use crate::link::{License, Link};
-use crate::stored::{Entry, Job, Stage, Stored};
+use crate::stored::{Entry, Job, Stage, Stored, Sum, Told};
+use crate::telling::nothing_told;
 use ap_list::{NoMemory, Seq};
 use ap_walk::{Rule, Step};
 use std::alloc::Global;
@@ -144,7 +144,15 @@ pub(crate) fn fresh_nodes<S: Step>(
             count: 0,
             stage: Stage::Free(copy),
             word: u64::MAX,
-            told: nothing_told(),
+            told: Told {
+                stop: u64::MAX,
+                front: 0,
+                sum: Sum {
+                    pushes: 0,
+                    goals: 0,
+                    ended: 0,
+                },
+            },
         })?;
     }
     Ok(nodes)
@@ -181,7 +189,15 @@ pub(crate) fn set_expanded<T: Drop>(nodes: &mut Vec<Stored<T>>, i: usize, first:
     node.count = count;
     node.stage = Stage::Expanded;
     node.word = u64::MAX;
-    node.told = nothing_told();
+    node.told = Told {
+        stop: u64::MAX,
+        front: 0,
+        sum: Sum {
+                pushes: 0,
+            goals: 0,
+            ended: 0,
+        },
+    };
 }
 
 /// Puts a stage in the place of another.

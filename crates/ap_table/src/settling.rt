@@ -77,7 +77,9 @@ fn settle_one<S: Step>(
     };
     let p = link.family as usize;
     let node = &nodes[p];
-    let told = counted(rule, nodes, node.first, node.count, node.told, link.place, sum);
+    let told = counted(
+        rule, nodes, node.first, node.count, node.told, link.place, sum,
+    );
     let closes = can_close(nodes, p, told);
     set_told(nodes, p, told);
     if !closes {

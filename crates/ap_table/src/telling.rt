@@ -7,7 +7,7 @@ ghost use Rattle.ap_table.specs.Core.{numbers_of};
 ghost use Rattle.ap_table.specs.Laws.{FrontDone};
 ghost use Rattle.ap_table.specs.Sums.{IsTold, sum_at, kept_sum, sums_of, weight, InGoals, sum_first, sum_stops, nothing_told, through_tally};
 
-use crate::stored::{Told, Stage, Stored, Sum};
+use crate::stored::{Stage, Stored, Sum, Told};
 use ap_walk::{End, Rule, Tally};
 
 /// What no finished child tells.

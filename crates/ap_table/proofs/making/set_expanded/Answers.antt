@@ -1,3 +1,4 @@
+use Rattle.ap_table.specs.Sums.{nothing_told}
 use Rattle.ap_table.specs.declared.stored.Stage.TheVariants as stage
 use Rattle.ap_word.specs.Stops.{NONE}
 use Rattle.ap_table.proofs.Showing.{get_at, set_is}

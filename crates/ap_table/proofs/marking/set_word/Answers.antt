@@ -1,5 +1,3 @@
-use Rattle.ap_table.proofs.Marked.{put_table, mark_table}
-use Rattle.std.proofs.Common.{◌≡◌, ◌<◌, arith}
 use Rattle.ap_table.proofs.Showing.{get_at, set_is}
 use Rattle.ap_table.proofs.marking.set_word.Goals as goal
 

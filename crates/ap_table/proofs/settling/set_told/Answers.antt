@@ -1,4 +1,3 @@
-use Rattle.std.proofs.Common.{◌≡◌, ◌<◌, arith}
 use Rattle.ap_table.proofs.Showing.{get_at, set_is}
 use Rattle.ap_table.proofs.settling.set_told.Goals as goal
 

@@ -1,4 +1,4 @@
-use Rattle.std.proofs.Common.{◌≡◌, ◌≤◌, ◌+◌, arith}
+use Rattle.std.proofs.Common.{arith}
 use Rattle.ap_table.proofs.Hearing.{settle_first, settle_last, next_within, next_levels, sum_there}
 use Rattle.ap_table.proofs.settling.settle.Goals as goal
 
@@ -41,4 +41,4 @@ returns g c = λ ns f path r le w within.
     let one = next_levels step depth c.args.rule n.nodes n.fuel path mid low c.in-Some.parent c.in-Some-settle_one.next 1 c.in-Some-settle_one.sum m n.kept n.at (omega (arith, two)) m.kept m.at in
     settle_first step depth c.args.rule path old mid new ns f c.args.i c.in-Some.parent c.in-Some.sum n
     (settle_first step depth c.args.rule path mid low new n.nodes n.fuel c.in-Some.parent c.in-Some-settle_one.next c.in-Some-settle_one.sum m
-      (settle_last step depth c.args.rule m.nodes m.fuel path low new c.in-Some-settle_one.next m.kept m.at one c.settle_one-3.result last))
+    (settle_last step depth c.args.rule m.nodes m.fuel path low new c.in-Some-settle_one.next m.kept m.at one c.settle_one-3.result last))

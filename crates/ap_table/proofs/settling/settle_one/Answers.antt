@@ -1,12 +1,11 @@
-use Rattle.std.proofs.Common.{◌≡◌, ◌≢◌, ◌≤◌, ◌<◌, ◌+◌, ℕ, Some, None, [], true, false, arith, refl, sym, ap, subst, ◌∙◌, length, ◌⊎◌}
+use Rattle.std.proofs.Common.{◌≡◌, ◌≤◌, ◌<◌, ◌+◌, Some, None, arith, sym, ap, subst, ◌∙◌, length, ◌⊎◌}
 use Rattle.std.specs.List.{slice_get}
-use Rattle.ap_list.specs.Lists.{Each}
 use Rattle.ap_table.specs.declared.stored.Stored.{Stored}
-use Rattle.ap_table.specs.Sums.{sum_at, sums_of, InGoals, IsTold}
+use Rattle.ap_table.specs.Sums.{sum_at, sums_of, IsTold}
 use Rattle.ap_table.proofs.Showing.{get_at, below_length, length_alter}
 use Rattle.ap_table.proofs.Totals.{goes_on, told_in_goals}
-use Rattle.ap_table.proofs.Families.{goals_each, get_alter_same}
-use Rattle.ap_table.proofs.Hearing.{At, hears_root, hears_open, hears_shut, path_ends, sum_there, parent_by, same_kept}
+use Rattle.ap_table.proofs.Families.{goals_each}
+use Rattle.ap_table.proofs.Hearing.{hears_root, hears_open, hears_shut, path_ends, sum_there, parent_by, same_kept}
 use Rattle.ap_table.proofs.settling.settle_one.Goals as goal
 
 pub nearest-requires : goal.nearest-requires
@@ -55,9 +54,10 @@ set_told-requires g c =
 pub closed_sum-sum-requires : goal.closed_sum-sum-requires
 closed_sum-sum-requires g c =
     let xs = c.args.nodes.now.items in
-    let x = c.index-node.result.now in
-    (told_in_goals c.args.rule (sums_of None xs x.first x.count) c.counted-told.result c.counted-told.ensures.told (goals_each xs x.first x.count c.requires.1.in_goals),
-      (goes_on c.args.rule c.counted-told.result.sum c.counted-told.ensures.told.before).2)
+    let x = c.index-node.result.now in (
+      told_in_goals c.args.rule (sums_of None xs x.first x.count) c.counted-told.result c.counted-told.ensures.told (goals_each xs x.first x.count c.requires.1.in_goals),
+      (goes_on c.args.rule c.counted-told.result.sum c.counted-told.ensures.told.before).2,
+    )
 
 pub set_stage-requires : goal.set_stage-requires
 set_stage-requires g c =
@@ -78,10 +78,10 @@ returns-then-not-closes g c = λ ns f path r le w within.
     let same = same_kept xs l.family x a.up.above.kept at a.up.above.at in
     rw c.set_told.ensures
     (hears_open g.S.Step.step_of g.S.Step.depth c.args.rule ns xs c.args.i f c.args.sum a.kept l a.rest path d r a.at a.path a.up
-      (subst (λ (y : Stored g.row.S-Task.Denot). IsTold c.args.rule (sums_of None xs y.first y.count) d) same c.counted-told.ensures.told)
-      (subst (λ (y : Stored g.row.S-Task.Denot). d.stop ≤ y.told.stop) same c.counted-told.ensures.falls)
-      (subst (λ (y : Stored g.row.S-Task.Denot). (d.front ≡ y.count) ⊎ (slice_get (sums_of None xs y.first y.count) d.front ≡ Some None)) same c.counted-told.ensures.next)
-      le w (within a.kept a.at) (sym (c.can_close-closes.ensures a.up.above.kept a.up.above.at) ∙ c.if-not-closes.true))
+    (subst (λ (y : Stored g.row.S-Task.Denot). IsTold c.args.rule (sums_of None xs y.first y.count) d) same c.counted-told.ensures.told)
+    (subst (λ (y : Stored g.row.S-Task.Denot). d.stop ≤ y.told.stop) same c.counted-told.ensures.falls)
+    (subst (λ (y : Stored g.row.S-Task.Denot). (d.front ≡ y.count) ⊎ (slice_get (sums_of None xs y.first y.count) d.front ≡ Some None)) same c.counted-told.ensures.next)
+    le w (within a.kept a.at) (sym (c.can_close-closes.ensures a.up.above.kept a.up.above.at) ∙ c.if-not-closes.true))
 
 pub returns : goal.returns
 returns g c = λ ns f path r le w within.
@@ -94,7 +94,7 @@ returns g c = λ ns f path r le w within.
     let same = same_kept xs l.family x a.up.above.kept at a.up.above.at in
     rw (c.set_stage.ensures, c.set_told.ensures, c.closed_sum-sum.ensures)
     (hears_shut g.S.Step.step_of g.S.Step.depth c.args.rule ns xs c.args.i f c.args.sum a.kept l a.rest path d r a.at a.path a.up
-      (subst (λ (y : Stored g.row.S-Task.Denot). IsTold c.args.rule (sums_of None xs y.first y.count) d) same c.counted-told.ensures.told)
-      (subst (λ (y : Stored g.row.S-Task.Denot). d.stop ≤ y.told.stop) same c.counted-told.ensures.falls)
-      (subst (λ (y : Stored g.row.S-Task.Denot). (d.front ≡ y.count) ⊎ (slice_get (sums_of None xs y.first y.count) d.front ≡ Some None)) same c.counted-told.ensures.next)
-      le w (within a.kept a.at) g.met.S.Step.tells g.met.S.Step.deeper (sym (c.can_close-closes.ensures a.up.above.kept a.up.above.at) ∙ c.if-not-closes.false))
+    (subst (λ (y : Stored g.row.S-Task.Denot). IsTold c.args.rule (sums_of None xs y.first y.count) d) same c.counted-told.ensures.told)
+    (subst (λ (y : Stored g.row.S-Task.Denot). d.stop ≤ y.told.stop) same c.counted-told.ensures.falls)
+    (subst (λ (y : Stored g.row.S-Task.Denot). (d.front ≡ y.count) ⊎ (slice_get (sums_of None xs y.first y.count) d.front ≡ Some None)) same c.counted-told.ensures.next)
+    le w (within a.kept a.at) g.met.S.Step.tells g.met.S.Step.deeper (sym (c.can_close-closes.ensures a.up.above.kept a.up.above.at) ∙ c.if-not-closes.false))

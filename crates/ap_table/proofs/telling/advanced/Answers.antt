@@ -1,4 +1,4 @@
-use Rattle.std.proofs.Common.{◌≡◌, ◌≤◌, ◌+◌, Some, None, arith, refl, sym, ap, inr, ◌∙◌}
+use Rattle.std.proofs.Common.{◌+◌, Some, None, arith, refl, sym, ap, inr, ◌∙◌}
 use Rattle.ap_table.proofs.Totals.{sums_get, front_next}
 use Rattle.ap_table.specs.Sums.{sums_of}
 use Rattle.ap_table.proofs.telling.advanced.Goals as goal

@@ -1,6 +1,4 @@
-use Rattle.ap_table.proofs.Families.{told_kids}
-use Rattle.std.proofs.Common.{◌≡◌, ◌≤◌, ◌<◌, ◌+◌, ◌-◌, ℕ, Some, None, min, true, false, arith, refl, sym, ap, subst, ◌∙◌}
-use Rattle.ap_table.specs.Laws.{FrontDone}
+use Rattle.std.proofs.Common.{◌+◌, Some, None, arith, refl, sym, ap, ◌∙◌}
 use Rattle.ap_table.specs.Sums.{sums_of, sum_first}
 use Rattle.ap_table.proofs.Totals.{length_sums, front_short, front_shown, few_pushes, told_behind, sum_after, told_before}
 use Rattle.ap_table.proofs.telling.counted.Goals as goal

@@ -1,4 +1,4 @@
-use Rattle.std.proofs.Common.{◌≡◌, ◌≤◌, ◌<◌, true, false, arith, sym, ◌∙◌}
+use Rattle.std.proofs.Common.{arith, sym, ◌∙◌}
 use Rattle.ap_table.proofs.Totals.{stop_ended, stop_reverts, stop_limit}
 use Rattle.ap_table.proofs.telling.does_stop.Goals as goal
 

@@ -1,4 +1,4 @@
-use Rattle.std.proofs.Common.{◌≡◌, ◌≤◌, ◌<◌, ◌+◌, ◌-◌, ℕ, Some, None, true, false, arith, refl, sym, ap, subst, ◌∙◌}
+use Rattle.std.proofs.Common.{◌≡◌, ◌+◌, ◌-◌, ℕ, Some, None, true, arith, sym, ap, subst, ◌∙◌}
 use Rattle.ap_table.specs.Sums.{sums_of, sum_first, sum_stops}
 use Rattle.ap_table.proofs.Totals.{sums_get, first_less, none_stops}
 use Rattle.ap_table.proofs.telling.lower.Goals as goal
@@ -19,7 +19,7 @@ pub loop-at-preserved : goal.loop-at-preserved
 loop-at-preserved g c =
     let os = sums_of None c.args.nodes.now.items c.args.first c.args.count in
     let step = first_less os c.loop-at.at c.loop-at.sum c.weight-less.result _ (omega (arith, c.loop-at-test.true)) c.loop-at.invariant.sum
-        (sums_get None c.args.nodes.now.items c.args.first c.args.count (c.loop-at.at - 1) (omega (arith, c.loop-at-test.true, c.loop-at.invariant.within, c.requires.within)) ∙ ap (λ o. Some o) (sym c.node_sum.ensures)) c.weight-less.ensures.is in
+    (sums_get None c.args.nodes.now.items c.args.first c.args.count (c.loop-at.at - 1) (omega (arith, c.loop-at-test.true, c.loop-at.invariant.within, c.requires.within)) ∙ ap (λ o. Some o) (sym c.node_sum.ensures)) c.weight-less.ensures.is in
     record {
       within = omega (arith, c.loop-at.invariant.within);
       sum = step.3;

@@ -10,7 +10,7 @@ use Rattle.ap_table.specs.Calls.{longer, IsJob, CanGrow}
 use Rattle.ap_table.specs.declared.stored.Entry.TheVariants as entry
 use Rattle.ap_table.specs.declared.stored.Stored.{Stored}
 use Rattle.ap_table.proofs.Showing.{get_at, some_same, below_length, length_fresh, show_length, job_shown, job_kept, room_kept}
-use Rattle.ap_table.proofs.Moving.{expanded_table}
+use Rattle.ap_table.proofs.Moving.{expanded_table, larger_table}
 use Rattle.ap_table.proofs.state.TableState.expand_step.Goals as goal
 
 pub returns-then-not-is_job : goal.returns-then-not-is_job
@@ -118,3 +118,18 @@ returns g c =
       first ∙ (show_length g.S.Step.step_of i.nodes.items (nodes_of g.S.Step.step_of g.S.Step.depth r) c.self.invariant.shows ∙ ap (λ (x : Run g.row.S-Task.Denot). length (nodes_of g.S.Step.step_of g.S.Step.depth x)) c.self.view_is),
       c.len-count.ensures ∙ sym (ap (λ (o : Out g.row.S-Task.Denot). length (out_children o)) c.in-Split.is),
     )
+
+pub give_way-requires-clause-small : goal.give_way-requires-clause-small
+give_way-requires-clause-small g c =
+    let h = c.has_room.ensures.0 c.if-not-has_room.false in
+    let few = h.3 in
+    let a = c.len-first.ensures in
+    let b = c.self.inside.nodes.ok.0 in
+    omega arith
+
+pub invariant_of-self : goal.invariant_of-self
+invariant_of-self g c =
+    let i = c.self.inside in
+    let r : Run g.row.S-Task.Denot = record { root = i.root; rule = i.rule; history = i.history.items } in
+    let err = c.in_default-grow.ensures in
+    rw (err.history, err.live, err.kept.0) (larger_table g.S.Step.step_of g.S.Step.depth r i.nodes.items (reverse i.live.items) (vec_capacity i.history) (vec_capacity c.grow.new.history) c.self.invariant err.kept.1)
