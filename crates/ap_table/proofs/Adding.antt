@@ -1,23 +1,21 @@
 -- New nodes behind those that are kept.
-use Rattle.std.proofs.Common.{◌≡◌, ◌≢◌, ℕ, zero, suc, ◌+◌, ◌-◌, ◌≤◌, ◌<◌, true, false, min, List, [], ◌∷◌, ◌++◌, Option, Some, None, length, refl, sym, ap, subst, ◌∙◌, arith, inl, inr, ◌⊎◌, length-append}
+use Rattle.std.proofs.Common.{◌≡◌, ◌≢◌, ℕ, zero, suc, ◌+◌, ◌-◌, ◌≤◌, ◌<◌, min, List, [], ◌∷◌, ◌++◌, Option, Some, None, length, refl, sym, ap, subst, ◌∙◌, arith, inl, inr, ◌⊎◌, length-append}
 use Rattle.std.proofs.lemmas.Bool.{cases_lt}
 use Rattle.std.specs.List.{slice_get}
 use Rattle.ap_list.specs.Lists.{Each}
 use Rattle.ap_walk.specs.declared.act.Stepped.{Stepped}
 use Rattle.ap_walk.specs.declared.rule.Rule.{Rule}
 use Rattle.ap_walk.specs.declared.rule.Tally.{Tally}
-use Rattle.ap_walk.specs.declared.mark.Walked.{Walked}
-use Rattle.ap_walk.specs.Visits.{out_children}
 use Rattle.ap_word.specs.Stops.{NONE}
 use Rattle.ap_table.specs.declared.link.Link.{Link}
 use Rattle.ap_table.specs.declared.stored.Stored.{Stored}
 use Rattle.ap_table.specs.declared.stored.Stage.{Stage}
 use Rattle.ap_table.specs.declared.stored.Stage.TheVariants as stage
 use Rattle.ap_table.specs.Shown.{alter, fresh, NoMore}
-use Rattle.ap_table.specs.Sums.{stage_sum, kept_sum, sum_at, sums_of, total, pushes_of, goals_of, ended_of, sum_first, IsTold, HasKids, FamilyKept, Placed, Kids, WordsBut, nothing_told}
+use Rattle.ap_table.specs.Sums.{stage_sum, kept_sum, sum_at, sums_of, total, pushes_of, goals_of, ended_of, IsTold, HasKids, FamilyKept, Placed, Kids, WordsBut, nothing_told}
 use Rattle.ap_table.proofs.Showing.{below_length, length_alter, length_fresh}
 use Rattle.ap_table.proofs.Keeping.{same_or_not}
-use Rattle.ap_table.proofs.Totals.{Sums, same_sum, length_sums, zero_goes_on}
+use Rattle.ap_table.proofs.Totals.{Sums, same_sum, zero_goes_on}
 use Rattle.ap_table.proofs.Families.{get_alter_same, get_alter_other, alter_at, sum_alter, sums_same}
 
 get_below : {A : Type 0} (xs ys : List A) (j : ℕ) → j < length xs → slice_get (xs ++ ys) j ≡ slice_get xs j

@@ -1,5 +1,5 @@
 -- What the children of a node come to is what its walk comes to, where that goes through.
-use Rattle.std.proofs.Common.{◌≡◌, ◌≢◌, ℕ, zero, suc, ◌+◌, ◌≤◌, ◌<◌, Bool, true, false, ◌||◌, ◌&&◌, nat_eq, nat_le, nat_lt, cond, min, take, List, [], ◌∷◌, ◌++◌, length, Option, Some, None, refl, sym, ap, subst, ◌∙◌, arith, inl, inr, ◌⊎◌, if◌then◌else◌}
+use Rattle.std.proofs.Common.{◌≡◌, ◌≢◌, ℕ, zero, suc, ◌+◌, ◌≤◌, ◌<◌, Bool, true, false, ◌&&◌, nat_eq, nat_le, nat_lt, cond, min, take, List, [], ◌∷◌, length, Option, Some, None, refl, sym, ap, subst, ◌∙◌, arith, inl, inr, ◌⊎◌, if◌then◌else◌}
 use Rattle.std.proofs.lemmas.Bool.{cases_lt}
 use Rattle.std.proofs.lemmas.Bool.Decides.{nat_tests}
 use Rattle.ap_list.specs.Lists.{Each}
@@ -12,21 +12,20 @@ use Rattle.ap_walk.specs.declared.rule.End.{End}
 use Rattle.ap_walk.specs.declared.mark.Walked.{Walked}
 use Rattle.ap_walk.specs.Visits.{Visit, Tells, out_children, visit_of}
 use Rattle.ap_walk.specs.Tallies.{zero_tally, can_revert, end_at, is_push, is_stop, tally_by, tally_at, end_by, mark_end}
-use Rattle.ap_walk.specs.Walks.{continued, and_then, one_mark, cut, full, full_marks}
+use Rattle.ap_walk.specs.Walks.{and_then, one_mark, cut, full, full_marks}
 use Rattle.ap_walk.specs.Walks.{all_marks}
 use Rattle.ap_walk.proofs.Ends.{at_most_same}
 use Rattle.ap_walk.proofs.Cuts.{cut_append, cut_again}
 use Rattle.ap_walk.proofs.Trees.{full_is_cut_of_family}
-use Rattle.ap_word.specs.Stops.{NONE, nothing_counted, stops, reaches, sum_to, stops_by}
+use Rattle.ap_word.specs.Stops.{NONE, nothing_counted, reaches, stops_by}
 use Rattle.ap_table.specs.Core.{numbers_of, tallies}
 use Rattle.ap_table.specs.Laws.{FrontDone}
 use Rattle.ap_table.specs.Shown.{SumShows}
-use Rattle.ap_table.specs.declared.stored.Sum.{Sum}
 use Rattle.ap_table.specs.declared.stored.Told.{Told}
-use Rattle.ap_table.specs.Sums.{weight, total, pushes_of, goals_of, ended_of, sum_stops, sum_first, closed_sum, IsTold}
+use Rattle.ap_table.specs.Sums.{total, pushes_of, goals_of, ended_of, sum_first, closed_sum, IsTold}
 use Rattle.ap_table.proofs.Closing.{plus, same_tally, count_all, same_count, through_counts, through_step, through_back, through_by, through_open, short, after_whole, AreFull}
 use Rattle.ap_table.proofs.Known.{stops_at}
-use Rattle.ap_table.proofs.Dropping.{OneShows, SumsShow}
+use Rattle.ap_table.proofs.Dropping.{SumsShow}
 use Rattle.ap_table.proofs.Heard.{not_none}
 use Rattle.ap_table.proofs.Totals.{Sums, front_short, goes_on}
 

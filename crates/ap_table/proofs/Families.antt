@@ -1,36 +1,34 @@
 -- A finished node tells its family, and what can be closed is closed.
-use Rattle.std.proofs.Common.{◌≡◌, ◌≢◌, ℕ, zero, suc, ◌+◌, ◌-◌, ◌≤◌, ◌<◌, Bool, true, false, ◌||◌, ◌&&◌, nat_eq, nat_le, nat_lt, cond, min, List, [], ◌∷◌, ◌++◌, length, Option, Some, None, refl, sym, ap, subst, ◌∙◌, arith, inl, inr, ◌⊎◌}
+use Rattle.std.proofs.Common.{◌≡◌, ◌≢◌, ℕ, zero, suc, ◌+◌, ◌-◌, ◌≤◌, ◌<◌, Bool, true, false, ◌||◌, ◌&&◌, nat_eq, nat_lt, cond, List, [], ◌∷◌, length, Option, Some, None, refl, sym, ap, subst, ◌∙◌, arith, inl, inr, ◌⊎◌}
 use Rattle.std.proofs.lemmas.Bool.{cases_lt}
 use Rattle.std.proofs.lemmas.Bool.Decides.{nat_tests}
 use Rattle.std.specs.List.{slice_get}
-use Rattle.ap_list.specs.Lists.{AnyOf, Each}
+use Rattle.ap_list.specs.Lists.{Each}
 use Rattle.ap_walk.specs.declared.act.Stepped.{Stepped}
 use Rattle.ap_walk.specs.declared.rule.Rule.{Rule}
 use Rattle.ap_walk.specs.declared.rule.Tally.{Tally}
 use Rattle.ap_walk.specs.declared.mark.Walked.{Walked}
 use Rattle.ap_walk.specs.Visits.{Tells, out_children}
-use Rattle.ap_walk.specs.Walks.{full}
-use Rattle.ap_word.specs.Stops.{NONE, nothing_counted, stops_by, known_stop}
+use Rattle.ap_word.specs.Stops.{NONE, stops_by}
 use Rattle.ap_table.specs.declared.link.Link.{Link}
 use Rattle.ap_table.specs.declared.stored.Told.{Told}
 use Rattle.ap_table.specs.declared.stored.Stored.{Stored}
 use Rattle.ap_table.specs.declared.stored.Stage.{Stage}
 use Rattle.ap_table.specs.declared.stored.Stage.TheVariants as stage
-use Rattle.ap_table.specs.Core.{Phase, Node, free, claimed, expanded, put, closed, dropped, numbers_of, above, counts_of, kept, phase_walk, node_walk, walks_of, set_phase, change, parent_of, on_closed, children, tallies, joined_walk, kept_of, known_of, close_with, close_phase, close_node, close_up}
+use Rattle.ap_table.specs.Core.{Phase, Node, free, claimed, expanded, put, closed, dropped, numbers_of, above, walks_of, set_phase, parent_of, on_closed, children, tallies, joined_walk, kept_of, known_of, close_with, close_phase, close_node, close_up}
 use Rattle.ap_table.specs.Sound.{Family, PhaseSound, SoundBut, Up}
 use Rattle.ap_table.specs.Laws.{FrontDone, ClosesBy}
-use Rattle.ap_table.specs.Shown.{SumShows, StageShows, alter, rooms, stage_room, Shows, AllShow}
-use Rattle.ap_table.specs.Sums.{stage_sum, kept_sum, sum_at, sums_of, InGoals, closed_sum, IsTold, OnPath, Within, HasKids, FamilyKept, Placed, Kids, WordsBut, stage_expanded, closes_at}
-use Rattle.ap_table.specs.Settled.{Ready, Settled}
-use Rattle.ap_table.proofs.Closing.{closed_is_whole, AreFull}
-use Rattle.ap_table.proofs.Keeping.{same_or_not, some_is, are_full, get_same}
+use Rattle.ap_table.specs.Shown.{SumShows, StageShows, alter, Shows, AllShow}
+use Rattle.ap_table.specs.Sums.{stage_sum, kept_sum, sum_at, sums_of, InGoals, closed_sum, IsTold, HasKids, FamilyKept, Placed, Kids, stage_expanded, closes_at}
+use Rattle.ap_table.specs.Settled.{Ready}
+use Rattle.ap_table.proofs.Closing.{closed_is_whole}
+use Rattle.ap_table.proofs.Keeping.{same_or_not, some_is, are_full}
 use Rattle.ap_table.proofs.Known.{known_true}
 use Rattle.ap_table.proofs.Scanning.{kept_closes, closes_kept}
-use Rattle.ap_table.proofs.Rising.{closed_sound}
 use Rattle.ap_table.proofs.Ordering.{not_eq, eq_case}
-use Rattle.ap_table.proofs.Showing.{shown_at, kept_at, show_length, show_alter, below_length, room_alter, length_alter}
-use Rattle.ap_table.proofs.Dropping.{OneShows, SumsShow}
-use Rattle.ap_table.proofs.Totals.{Sums, length_sums, sums_get, hidden_out, front_short}
+use Rattle.ap_table.proofs.Showing.{shown_at, length_alter}
+use Rattle.ap_table.proofs.Dropping.{SumsShow}
+use Rattle.ap_table.proofs.Totals.{Sums, length_sums, hidden_out, front_short}
 use Rattle.ap_table.proofs.Heard.{stop_place, not_none, sums_shown, told_known}
 use Rattle.ap_table.proofs.Closes.{closed_shows}
 

@@ -1,5 +1,5 @@
 -- What is kept of the children of a node tells where their family stops.
-use Rattle.std.proofs.Common.{◌≡◌, ℕ, zero, suc, ◌+◌, ◌≤◌, ◌<◌, Bool, true, false, ◌||◌, nat_eq, nat_le, cond, min, List, [], ◌∷◌, length, Option, Some, None, refl, sym, ap, subst, ◌∙◌, arith, inl, inr, ◌⊎◌}
+use Rattle.std.proofs.Common.{◌≡◌, ℕ, zero, suc, ◌+◌, ◌<◌, true, false, ◌||◌, nat_eq, nat_le, cond, min, List, [], ◌∷◌, length, Option, Some, None, refl, sym, ap, subst, ◌∙◌, arith, inl, inr}
 use Rattle.std.proofs.lemmas.Bool.Decides.{nat_tests}
 use Rattle.std.specs.List.{slice_get}
 use Rattle.ap_walk.specs.declared.act.Stepped.{Stepped}
@@ -7,21 +7,19 @@ use Rattle.ap_walk.specs.declared.rule.Rule.{Rule}
 use Rattle.ap_walk.specs.declared.rule.Tally.{Tally}
 use Rattle.ap_walk.specs.declared.rule.End.{End}
 use Rattle.ap_walk.specs.declared.mark.Walked.{Walked}
-use Rattle.ap_walk.specs.Walks.{full}
 use Rattle.ap_word.specs.declared.family.Counted.{Counted}
-use Rattle.ap_word.specs.Stops.{NONE, nothing_counted, stops, reaches, add, known, known_from, known_stop}
-use Rattle.ap_table.specs.Core.{Phase, Node, free, claimed, expanded, put, closed, dropped, numbers_of, counts_of, phase_walk, node_walk, walks_of, children, known_of}
+use Rattle.ap_word.specs.Stops.{NONE, nothing_counted, stops, add, known, known_from, known_stop}
+use Rattle.ap_table.specs.Core.{Phase, Node, free, claimed, expanded, put, closed, dropped, numbers_of, phase_walk, node_walk, walks_of, children, known_of}
 use Rattle.ap_table.specs.Sound.{Family, SoundBut}
 use Rattle.ap_table.specs.declared.stored.Sum.{Sum}
 use Rattle.ap_table.specs.declared.stored.Told.{Told}
 use Rattle.ap_table.specs.declared.stored.Stored.{Stored}
 use Rattle.ap_table.specs.declared.stored.Stage.{Stage}
 use Rattle.ap_table.specs.declared.stored.Stage.TheVariants as stage
-use Rattle.ap_table.specs.Shown.{SumShows, StageShows, Shows, AllShow}
-use Rattle.ap_table.specs.Sums.{through_tally, stage_sum, kept_sum, sum_at, sums_of, weight, total, pushes_of, goals_of, ended_of, sum_stops, sum_first, IsTold}
-use Rattle.ap_table.proofs.Closing.{AreFull}
-use Rattle.ap_table.proofs.Keeping.{some_is, are_full}
-use Rattle.ap_table.proofs.Dropping.{sum_count, one_counted, OneShows, SumsShow, sums_counted, known_same}
+use Rattle.ap_table.specs.Shown.{SumShows, StageShows, AllShow}
+use Rattle.ap_table.specs.Sums.{through_tally, stage_sum, sum_at, sums_of, weight, total, pushes_of, goals_of, ended_of, sum_stops, sum_first, IsTold}
+use Rattle.ap_table.proofs.Keeping.{are_full}
+use Rattle.ap_table.proofs.Dropping.{one_counted, OneShows, SumsShow, sums_counted, known_same}
 use Rattle.ap_table.proofs.Totals.{Sums, same_sum, total_zero, sum_less, length_sums}
 
 -- a place, where there is one

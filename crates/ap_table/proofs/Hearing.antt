@@ -1,7 +1,7 @@
 -- What telling one family does to the kept nodes, and so telling all above a node.
 use Rattle.std.proofs.Common.{◌≡◌, ◌≢◌, ℕ, zero, suc, ◌+◌, ◌≤◌, ◌<◌, Bool, true, false, ◌&&◌, nat_eq, nat_lt, cond, List, [], ◌∷◌, length, Option, Some, None, refl, sym, ap, subst, ◌∙◌, arith, inl, inr, ◌⊎◌}
 use Rattle.std.specs.List.{slice_get}
-use Rattle.ap_list.specs.Lists.{AnyOf, Each}
+use Rattle.ap_list.specs.Lists.{Each}
 use Rattle.ap_walk.specs.declared.act.Stepped.{Stepped}
 use Rattle.ap_walk.specs.declared.rule.Rule.{Rule}
 use Rattle.ap_walk.specs.declared.rule.Tally.{Tally}
@@ -13,16 +13,16 @@ use Rattle.ap_table.specs.declared.stored.Told.{Told}
 use Rattle.ap_table.specs.declared.stored.Stored.{Stored}
 use Rattle.ap_table.specs.declared.stored.Stage.{Stage}
 use Rattle.ap_table.specs.declared.stored.Stage.TheVariants as stage
-use Rattle.ap_table.specs.Core.{Phase, Node, expanded, closed, above, change, set_phase, parent_of, children, joined_walk, close_up}
+use Rattle.ap_table.specs.Core.{Node, expanded, closed, above, set_phase, parent_of, joined_walk, close_up}
 use Rattle.ap_table.specs.Sound.{PhaseSound, SoundBut}
-use Rattle.ap_table.specs.Shown.{SumShows, StageShows, alter, rooms, stage_room, Shows, AllShow, NoMore}
+use Rattle.ap_table.specs.Shown.{alter, rooms, stage_room, Shows, AllShow, NoMore}
 use Rattle.ap_table.specs.Sums.{sum_at, sums_of, InGoals, closed_sum, IsTold, OnPath, Within, HasKids, Kids, WordsBut, stage_sum, kept_sum, stage_expanded, closes_at}
-use Rattle.ap_table.specs.Settled.{Ready, Settled, Next, HearsOne, SettlesOne, Settles}
+use Rattle.ap_table.specs.Settled.{Ready, Settled, Next, HearsOne}
 use Rattle.ap_table.proofs.Keeping.{same_or_not, some_is}
 use Rattle.ap_table.proofs.Rising.{closed_sound}
-use Rattle.ap_table.proofs.Showing.{shown_at, show_alter, below_length, room_alter, length_alter}
-use Rattle.ap_table.proofs.Totals.{Sums, length_sums, sums_get, hidden_out, told_in_goals}
-use Rattle.ap_table.proofs.Families.{get_alter_same, get_alter_other, alter_at, sum_alter, sum_hidden, SameFamily, kids_alter, told_kids, goals_each, closes_true, eq_yes, lt_yes, Kept, Parent, parent_at, other_families, close_stays, close_goes, close_none, known, open_stays, closing, closed_walk}
+use Rattle.ap_table.proofs.Showing.{shown_at, show_alter, room_alter, length_alter}
+use Rattle.ap_table.proofs.Totals.{Sums, length_sums, hidden_out, told_in_goals}
+use Rattle.ap_table.proofs.Families.{get_alter_same, get_alter_other, alter_at, sum_alter, sum_hidden, kids_alter, told_kids, goals_each, closes_true, eq_yes, lt_yes, Parent, parent_at, other_families, close_stays, close_goes, close_none, open_stays, closing, closed_walk}
 
 module _ {T : Type 0} (step : T → Stepped T) where
   pub show_keep : (cs : List (Stored T)) (ns : List (Node T)) (k : ℕ) (f : Stored T → Stored T) → ((x : Stored T) (n : Node T) → Shows step x n → Shows step (f x) n) → AllShow step cs ns → AllShow step (alter cs k f) ns

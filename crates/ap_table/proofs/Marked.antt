@@ -1,18 +1,17 @@
 -- A put keeps the table, and so do its marks.
-use Rattle.std.proofs.Common.{◌≡◌, ◌≢◌, ℕ, zero, suc, ◌+◌, ◌*◌, ◌≤◌, ◌<◌, Bool, true, false, nat_eq, cond, min, drop, List, [], ◌∷◌, ◌++◌, length, Option, Some, None, refl, sym, ap, subst, ◌∙◌, arith, inl, inr, ◌⊎◌, append-nil, ap₂}
+use Rattle.std.proofs.Common.{◌≡◌, ◌≢◌, ℕ, zero, suc, ◌+◌, ◌≤◌, ◌<◌, Bool, true, false, nat_eq, cond, min, drop, List, [], ◌∷◌, ◌++◌, length, Option, Some, None, refl, sym, ap, subst, ◌∙◌, arith, inl, inr, ◌⊎◌, append-nil, ap₂}
 use Rattle.std.proofs.lemmas.Bool.{cases_lt}
 use Rattle.std.proofs.lemmas.Bool.Decides.{nat_tests}
 use Rattle.std.proofs.lemmas.List.{append_assoc}
 use Rattle.std.specs.List.{slice_get}
-use Rattle.ap_list.specs.Lists.{AnyOf, Each}
+use Rattle.ap_list.specs.Lists.{Each}
 use Rattle.ap_walk.specs.declared.act.Stepped.{Stepped}
 use Rattle.ap_walk.specs.declared.rule.Rule.{Rule}
 use Rattle.ap_walk.specs.declared.rule.Tally.{Tally}
-use Rattle.ap_walk.specs.declared.rule.End.{End}
 use Rattle.ap_walk.specs.declared.mark.Walked.{Walked}
 use Rattle.ap_walk.specs.Visits.{Tells, out_children}
-use Rattle.ap_walk.specs.Tallies.{zero_tally, IsOpen}
-use Rattle.ap_walk.specs.Walks.{cut, full, all_marks}
+use Rattle.ap_walk.specs.Tallies.{zero_tally}
+use Rattle.ap_walk.specs.Walks.{full, all_marks}
 use Rattle.ap_walk.specs.Laws.{StopsAt}
 use Rattle.ap_walk.proofs.Stops.{cut_stops}
 use Rattle.ap_walk.proofs.Bounds.{zero_open}
@@ -23,20 +22,20 @@ use Rattle.ap_table.specs.declared.stored.Entry.TheVariants as entry
 use Rattle.ap_table.specs.declared.stored.Stored.{Stored}
 use Rattle.ap_table.specs.declared.stored.Stage.{Stage}
 use Rattle.ap_table.specs.declared.stored.Stage.TheVariants as stage
-use Rattle.ap_table.specs.Core.{Phase, Node, free, claimed, expanded, put, closed, dropped, phase_walk, node_walk, above, change, set_phase, parent_of, children, close_up, put_node, mark, finish, apply, known_of, Stops, root}
+use Rattle.ap_table.specs.Core.{Phase, Node, free, claimed, expanded, put, closed, dropped, phase_walk, node_walk, above, set_phase, parent_of, close_up, put_node, finish, apply, known_of, Stops}
 use Rattle.ap_table.specs.Sound.{HasFamily, IsClaimed, CanMark, PhaseSound, Sound, SoundBut, Up}
 use Rattle.ap_table.specs.Order.{replace}
-use Rattle.ap_table.specs.Shown.{Run, turn_of, turns, StageShows, SumShows, alter, rooms, stage_room, Shows, AllShow, NoMore, nodes_of, IsTableBut, IsTable}
-use Rattle.ap_table.specs.Sums.{through_tally, stage_sum, kept_sum, sum_at, sums_of, InGoals, IsTold, OnPath, Within, HasKids, FamilyKept, Placed, Kids, WordsBut}
+use Rattle.ap_table.specs.Shown.{Run, turns, StageShows, SumShows, alter, stage_room, AllShow, NoMore, nodes_of, IsTableBut, IsTable}
+use Rattle.ap_table.specs.Sums.{through_tally, stage_sum, kept_sum, sum_at, sums_of, InGoals, IsTold, Within, HasKids, Placed, Kids, WordsBut}
 use Rattle.ap_table.specs.Settled.{Ready, Settled, Settles, told_stop, mark_by, mark_nodes, entry_by, mark_list}
 use Rattle.ap_table.specs.Calls.{longer, CanStill, known_at, one_mark, stop_marks}
-use Rattle.ap_table.proofs.Keeping.{same_or_not, some_is, get_same, grown_none, sound_done}
+use Rattle.ap_table.proofs.Keeping.{same_or_not, some_is, get_same, sound_done}
 use Rattle.ap_table.proofs.Known.{known_true}
 use Rattle.ap_table.proofs.Dropping.{OneShows}
 use Rattle.ap_table.proofs.After.{after_sound}
 use Rattle.ap_table.proofs.Replay.{apply_keeps}
 use Rattle.ap_table.proofs.Showing.{shown_at, show_length, kept_at, show_alter, claimed_node, below_length, room_alter, length_alter}
-use Rattle.ap_table.proofs.Moving.{shown_same, longer_table, nodes_more, quiet_claimed}
+use Rattle.ap_table.proofs.Moving.{shown_same, longer_table, nodes_more}
 use Rattle.ap_table.proofs.Totals.{length_sums}
 use Rattle.ap_table.proofs.Heard.{stop_place, not_none, told_known, one_shown}
 use Rattle.ap_table.proofs.Families.{get_alter_same, get_alter_other, alter_at, sum_alter, sum_hidden, kids_alter, kid_family, kids_count}

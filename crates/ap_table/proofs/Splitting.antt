@@ -1,5 +1,5 @@
 -- The first mark of a task's walk tells how many children its step has.
-use Rattle.std.proofs.Common.{◌≡◌, ◌≢◌, ℕ, zero, suc, ◌+◌, ◌≤◌, ◌<◌, min, List, [], ◌∷◌, ◌++◌, length, Option, Some, None, Bool, true, false, refl, sym, ap, subst, ◌∙◌, arith}
+use Rattle.std.proofs.Common.{◌≡◌, ◌≢◌, ℕ, ◌<◌, min, List, [], ◌∷◌, ◌++◌, length, Some, None, Bool, true, false, refl, ap, ◌∙◌}
 use Rattle.std.specs.List.{slice_get}
 use Rattle.ap_list.specs.Lists.{Each}
 use Rattle.ap_walk.specs.declared.act.Stepped.{Stepped}
@@ -11,9 +11,8 @@ use Rattle.ap_walk.specs.declared.rule.Tally.{Tally}
 use Rattle.ap_walk.specs.declared.mark.Walked.{Walked}
 use Rattle.ap_walk.specs.Visits.{Visit, Tells, out_children, child_count, reason_number, visit_of}
 use Rattle.ap_walk.specs.Tallies.{zero_tally, mark_end, tally_at}
-use Rattle.ap_walk.specs.Walks.{continued, and_then, one_mark, cut, full, full_marks}
+use Rattle.ap_walk.specs.Walks.{continued, one_mark, cut, full, full_marks}
 use Rattle.ap_walk.proofs.Trees.{full_is_cut_of_family}
-use Rattle.ap_table.specs.declared.stored.Stored.{Stored}
 use Rattle.ap_table.specs.Settled.{split_count}
 use Rattle.ap_table.proofs.Keeping.{some_is}
 

@@ -1,5 +1,5 @@
 -- Sums over the children of a node.
-use Rattle.std.proofs.Common.{◌≡◌, ◌≢◌, ℕ, zero, suc, ◌+◌, ◌-◌, ◌≤◌, ◌<◌, Bool, true, false, ◌||◌, ◌&&◌, not, nat_eq, nat_le, cond, min, List, [], ◌∷◌, length, Option, Some, None, refl, sym, ap, subst, ◌∙◌, arith, inl, inr, ◌⊎◌}
+use Rattle.std.proofs.Common.{◌≡◌, ◌≢◌, ℕ, zero, suc, ◌+◌, ◌-◌, ◌≤◌, ◌<◌, Bool, true, false, ◌||◌, nat_le, cond, min, List, [], ◌∷◌, length, Option, Some, None, refl, sym, ap, subst, ◌∙◌, arith, inl, inr, ◌⊎◌}
 use Rattle.std.proofs.lemmas.Bool.{cases_lt}
 use Rattle.std.proofs.lemmas.Bool.Decides.{nat_tests}
 use Rattle.std.specs.List.{slice_get}
@@ -13,8 +13,7 @@ use Rattle.ap_table.specs.Laws.{FrontDone}
 use Rattle.ap_table.specs.declared.stored.Sum.{Sum}
 use Rattle.ap_table.specs.declared.stored.Told.{Told}
 use Rattle.ap_table.specs.declared.stored.Stored.{Stored}
-use Rattle.ap_table.specs.Sums.{kept_sum, sum_at, sums_of, weight, total, pushes_of, goals_of, ended_of, sum_stops, sum_first, InGoals, IsTold, nothing_told}
-use Rattle.ap_table.proofs.Keeping.{same_or_not}
+use Rattle.ap_table.specs.Sums.{kept_sum, sum_at, sums_of, weight, total, pushes_of, goals_of, ended_of, sum_stops, sum_first, InGoals, IsTold}
 use Rattle.ap_table.proofs.Ordering.{not_eq, eq_case}
 
 abbrev pub Sums : Type 0

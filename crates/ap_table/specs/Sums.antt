@@ -1,11 +1,10 @@
 -- What the finished children of a node come to, as it is kept.
-use Rattle.std.specs.Prelude.{◌≡◌, ◌≢◌, ℕ, zero, suc, ◌+◌, ◌≤◌, ◌<◌, Bool, true, false, ◌||◌, ◌&&◌, nat_eq, nat_le, nat_lt, cond, min, ◌⊎◌, List, [], ◌∷◌, length, Option, Some, None}
+use Rattle.std.specs.Prelude.{◌≡◌, ℕ, zero, suc, ◌+◌, ◌≤◌, ◌<◌, Bool, true, false, ◌||◌, ◌&&◌, nat_eq, nat_le, nat_lt, cond, min, ◌⊎◌, List, [], ◌∷◌, length, Option, Some, None}
 use Rattle.std.specs.List.{slice_get}
-use Rattle.ap_list.specs.Lists.{AnyOf, Each}
+use Rattle.ap_list.specs.Lists.{AnyOf}
 use Rattle.ap_walk.specs.declared.rule.Rule.{Rule}
 use Rattle.ap_walk.specs.declared.rule.Tally.{Tally}
 use Rattle.ap_walk.specs.declared.rule.End.{End}
-use Rattle.ap_walk.specs.declared.mark.Walked.{Walked}
 use Rattle.ap_word.specs.Stops.{NONE, reaches}
 use Rattle.ap_table.specs.Core.{numbers_of}
 use Rattle.ap_table.specs.Laws.{FrontDone}

@@ -193,7 +193,7 @@ pub(crate) fn set_expanded<T: Drop>(nodes: &mut Vec<Stored<T>>, i: usize, first:
         stop: u64::MAX,
         front: 0,
         sum: Sum {
-                pushes: 0,
+            pushes: 0,
             goals: 0,
             ended: 0,
         },
