@@ -1,5 +1,5 @@
 -- A node whose kept children are finished has its whole walk.
-use Rattle.std.proofs.Common.{◌≡◌, ℕ, zero, suc, ◌+◌, ◌≤◌, ◌<◌, Bool, true, false, cond, ◌&&◌, ◌||◌, not, nat_le, List, [], ◌∷◌, ◌++◌, Option, Some, None, refl, sym, ap, subst, ◌∙◌, arith, append-nil, inl, inr, ◌⊎◌, if◌then◌else◌}
+use Rattle.std.proofs.Common.{◌≡◌, ℕ, ◌+◌, ◌≤◌, ◌<◌, Bool, true, false, cond, ◌&&◌, ◌||◌, nat_le, List, [], ◌∷◌, ◌++◌, Option, Some, None, refl, sym, ap, ◌∙◌, arith, inl, inr, ◌⊎◌, if◌then◌else◌}
 use Rattle.std.proofs.lemmas.Bool.Decides.{nat_tests}
 use Rattle.ap_list.specs.Lists.{Each}
 use Rattle.ap_walk.specs.declared.act.Stepped.{Stepped}
@@ -9,12 +9,11 @@ use Rattle.ap_walk.specs.declared.rule.End.{End}
 use Rattle.ap_walk.specs.declared.mark.Walked.{Walked}
 use Rattle.ap_walk.specs.Visits.{Visit, Tells, out_children, visit_of}
 use Rattle.ap_walk.specs.Tallies.{zero_tally, AtMost, can_revert, end_at, is_push, is_stop, tally_by, tally_at, end_by, mark_end}
-use Rattle.ap_walk.specs.Walks.{continued, and_then, one_mark, cut, full, full_marks, all_marks, join_each}
+use Rattle.ap_walk.specs.Walks.{continued, one_mark, cut, full, full_marks, all_marks}
 use Rattle.ap_walk.proofs.Ends.{at_most_same, at_most_at, earlier_mark}
 use Rattle.ap_walk.proofs.Cuts.{and_then_same, cut_append, cut_again}
 use Rattle.ap_walk.proofs.Trees.{full_is_cut_of_family}
 use Rattle.ap_word.specs.declared.family.Counted.{Counted}
-use Rattle.ap_word.specs.declared.family.Numbers.{Numbers}
 use Rattle.ap_word.specs.Stops.{nothing_counted, reaches, stops, add}
 use Rattle.ap_table.specs.Core.{numbers_of, is_stopped, counted_of, with_kept, kept, marks_of, joined_walk}
 

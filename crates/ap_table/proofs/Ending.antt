@@ -1,5 +1,5 @@
 -- Where no node is free or claimed the root is done.
-use Rattle.std.proofs.Common.{◌≡◌, ◌≢◌, ℕ, zero, suc, ◌+◌, ◌≤◌, ◌<◌, List, [], ◌∷◌, ◌++◌, Option, Some, None, length, refl, sym, ap, subst, ◌∙◌, arith, inl, inr, ◌⊎◌, Bool, true, false, cond}
+use Rattle.std.proofs.Common.{◌≡◌, ◌≢◌, ℕ, zero, suc, ◌+◌, ◌≤◌, ◌<◌, List, [], ◌∷◌, Option, Some, None, length, refl, sym, ap, subst, ◌∙◌, arith, inl, inr, ◌⊎◌, Bool, true, false, cond}
 use Rattle.std.proofs.lemmas.Bool.{cases_lt}
 use Rattle.std.specs.List.{slice_get}
 use Rattle.ap_list.specs.Lists.{AnyOf}
@@ -8,12 +8,11 @@ use Rattle.ap_walk.specs.declared.rule.Rule.{Rule}
 use Rattle.ap_walk.specs.declared.mark.Walked.{Walked}
 use Rattle.ap_walk.specs.Walks.{full}
 use Rattle.ap_word.specs.declared.family.Counted.{Counted}
-use Rattle.ap_word.specs.declared.family.Numbers.{Numbers}
 use Rattle.ap_word.specs.Stops.{nothing_counted, stops, add, sum_to, stops_by}
-use Rattle.ap_table.specs.Core.{Phase, Node, free, claimed, expanded, put, closed, dropped, numbers_of, counted_of, with_kept, kept, phase_walk, node_walk, walks_of, above, children, tallies, Stops, kept_of}
+use Rattle.ap_table.specs.Core.{Phase, Node, free, claimed, expanded, put, closed, dropped, numbers_of, counted_of, with_kept, kept, phase_walk, node_walk, walks_of, above, children, tallies, Stops}
 use Rattle.ap_table.specs.declared.link.Link.{Link}
 use Rattle.ap_table.specs.declared.link.License.{License}
-use Rattle.ap_table.specs.Sound.{Family, Names, StopsAt, Licensed, PhaseSound, NodeSound, SoundBut, Sound}
+use Rattle.ap_table.specs.Sound.{Family, Names, StopsAt, PhaseSound, Sound}
 use Rattle.ap_table.proofs.Keeping.{some_is}
 use Rattle.ap_table.proofs.Growing.{below}
 

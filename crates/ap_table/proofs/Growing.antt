@@ -1,15 +1,14 @@
 -- An expansion keeps the nodes sound.
-use Rattle.std.proofs.Common.{◌≡◌, ◌≢◌, ℕ, zero, suc, ◌+◌, ◌≤◌, ◌<◌, List, [], ◌∷◌, ◌++◌, Option, Some, None, length, refl, sym, ap, subst, ◌∙◌, arith, inl, inr, ◌⊎◌, ◌-◌, length-append, append_assoc}
+use Rattle.std.proofs.Common.{◌≡◌, ℕ, zero, suc, ◌+◌, ◌≤◌, ◌<◌, List, [], ◌∷◌, ◌++◌, Some, None, length, refl, sym, ap, subst, ◌∙◌, arith, inl, inr, ◌-◌, length-append, append_assoc}
 use Rattle.std.proofs.lemmas.Bool.{cases_lt}
 use Rattle.std.specs.List.{slice_get}
 use Rattle.ap_walk.specs.declared.act.Stepped.{Stepped}
 use Rattle.ap_walk.specs.declared.rule.Rule.{Rule}
-use Rattle.ap_walk.specs.declared.mark.Walked.{Walked}
 use Rattle.ap_word.specs.declared.family.Numbers.{Numbers}
 use Rattle.ap_word.specs.Stops.{NONE, nothing_counted}
-use Rattle.ap_table.specs.Core.{Phase, Node, free, claimed, expanded, numbers_of, kept, phase_walk, node_walk, walks_of, change, above, new_nodes, child, children, Stops, kept_of, expand_node}
+use Rattle.ap_table.specs.Core.{Node, free, claimed, expanded, numbers_of, kept, phase_walk, node_walk, walks_of, change, above, new_nodes, child, children, expand_node}
 use Rattle.ap_table.specs.declared.link.Link.{Link}
-use Rattle.ap_table.specs.Sound.{Family, Up, PhaseSound, NodeSound, SoundBut, Sound}
+use Rattle.ap_table.specs.Sound.{Family, Up, PhaseSound, NodeSound, Sound}
 use Rattle.ap_table.proofs.Keeping.{same_or_not, some_is, get_same, get_other, change_length, Moves, grown_none, up_stays, other_sound}
 
 linked : (k : ℕ) (path : List Link) {a b : ℕ} → a ≡ b → (let xs : List Link = record { family = k; place = a } ∷ path in xs) ≡ (let ys : List Link = record { family = k; place = b } ∷ path in ys)

@@ -1,5 +1,5 @@
 -- The pieces of a finished node make its whole walk.
-use Rattle.std.proofs.Common.{◌≡◌, ◌≢◌, ℕ, zero, suc, ◌+◌, ◌≤◌, ◌<◌, Bool, true, false, ◌||◌, List, [], ◌∷◌, ◌++◌, Option, Some, None, length, refl, sym, ap, subst, ◌∙◌, arith, inl, inr, ◌⊎◌}
+use Rattle.std.proofs.Common.{◌≡◌, ℕ, zero, suc, ◌+◌, ◌≤◌, ◌<◌, false, ◌||◌, List, [], ◌∷◌, Option, Some, None, length, refl, sym, ap, ◌∙◌, arith, inl, inr, ◌⊎◌}
 use Rattle.std.specs.List.{slice_get}
 use Rattle.ap_list.specs.Lists.{Each}
 use Rattle.ap_walk.specs.declared.act.Stepped.{Stepped}
@@ -8,7 +8,7 @@ use Rattle.ap_walk.specs.declared.rule.Rule.{Rule}
 use Rattle.ap_walk.specs.declared.rule.End.{End}
 use Rattle.ap_walk.specs.declared.mark.Walked.{Walked}
 use Rattle.ap_walk.specs.Visits.{Visit, Tells, out_children, visit_of}
-use Rattle.ap_walk.specs.Tallies.{zero_tally, AtMost, end_at, is_stop}
+use Rattle.ap_walk.specs.Tallies.{zero_tally, end_at, is_stop}
 use Rattle.ap_walk.specs.Walks.{and_then, one_mark, cut, full, full_marks}
 use Rattle.ap_walk.proofs.Cuts.{and_then_same, cut_append, cut_again}
 use Rattle.ap_walk.proofs.Trees.{full_is_cut_of_family}
@@ -16,7 +16,7 @@ use Rattle.ap_word.specs.declared.family.Counted.{Counted}
 use Rattle.ap_word.specs.Stops.{nothing_counted, stops, add}
 use Rattle.ap_table.specs.Core.{Phase, Node, free, claimed, expanded, put, closed, dropped, numbers_of, is_stopped, counted_of, kept, phase_walk, node_walk, walks_of, above, children}
 use Rattle.ap_table.specs.declared.link.Link.{Link}
-use Rattle.ap_table.specs.Sound.{Family, PhaseSound, NodeSound, Sound}
+use Rattle.ap_table.specs.Sound.{Family, PhaseSound, Sound}
 use Rattle.ap_table.specs.Pieces.{and_more, front, phase_pieces, pieces}
 use Rattle.ap_table.proofs.Closing.{plus, through_by, through_open, kept_step, or_false, no_more, after_whole}
 use Rattle.ap_table.proofs.Growing.{below}

@@ -1,21 +1,19 @@
 -- Each allowed step keeps the nodes sound.
-use Rattle.std.proofs.Common.{◌≡◌, ◌≢◌, ℕ, zero, suc, ◌+◌, ◌≤◌, ◌<◌, List, [], ◌∷◌, ◌++◌, Option, Some, None, length, refl, sym, ap, subst, ◌∙◌, arith, inl, inr, ◌⊎◌, Bool, true, false, cond, min}
+use Rattle.std.proofs.Common.{◌≡◌, ◌≢◌, ℕ, zero, suc, ◌+◌, List, [], ◌∷◌, Option, Some, None, length, refl, sym, ap, subst, ◌∙◌, arith, inl, inr, ◌⊎◌, Bool, true, false, cond, min}
 use Rattle.std.proofs.lemmas.Bool.{cases_lt}
 use Rattle.std.specs.List.{slice_get}
-use Rattle.ap_list.specs.Lists.{Each, AnyOf}
 use Rattle.ap_walk.specs.declared.act.Stepped.{Stepped}
 use Rattle.ap_walk.specs.declared.rule.Rule.{Rule}
 use Rattle.ap_walk.specs.declared.mark.Walked.{Walked}
-use Rattle.ap_walk.specs.Visits.{Tells, out_children}
 use Rattle.ap_walk.specs.Walks.{full}
 use Rattle.ap_word.specs.declared.family.Counted.{Counted}
 use Rattle.ap_word.specs.declared.family.Numbers.{Numbers}
 use Rattle.ap_word.specs.Stops.{NONE, nothing_counted, stops, add}
-use Rattle.ap_table.specs.Core.{Phase, Node, free, claimed, expanded, put, closed, dropped, numbers_of, counted_of, with_kept, kept, phase_walk, node_walk, walks_of, change, set_phase, above, parent_of, on_closed, children, Stops, joined_walk, kept_of, close_with, close_phase, close_node, close_up, put_node}
+use Rattle.ap_table.specs.Core.{Phase, Node, free, claimed, expanded, put, closed, dropped, numbers_of, counted_of, with_kept, kept, phase_walk, node_walk, walks_of, change, set_phase, above, children, Stops}
 use Rattle.ap_table.specs.declared.link.Link.{Link}
 use Rattle.ap_table.specs.declared.link.License.{License}
-use Rattle.ap_table.specs.Sound.{Family, IsFree, IsClaimed, Names, StopsAt, Licensed, Up, PhaseSound, NodeSound, SoundBut, Sound, CanDrop}
-use Rattle.ap_table.proofs.Closing.{AreFull, closed_is_whole}
+use Rattle.ap_table.specs.Sound.{Family, Licensed, Up, PhaseSound, NodeSound, SoundBut, Sound}
+use Rattle.ap_table.proofs.Closing.{AreFull}
 
 pub same_or_not : (j k : ℕ) → (j ≡ k) ⊎ (j ≢ k)
 same_or_not zero zero = inl refl

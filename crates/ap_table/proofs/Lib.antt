@@ -9,3 +9,15 @@ pub mod After
 pub mod Ordering
 pub mod Joining
 pub mod Scanning
+pub mod Showing
+pub mod Dropping
+pub mod Standing
+pub mod Moving
+pub mod Totals
+pub mod Heard
+pub mod Closes
+pub mod Families
+pub mod Hearing
+pub mod Adding
+pub mod Marked
+pub mod Splitting

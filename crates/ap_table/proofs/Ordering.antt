@@ -1,21 +1,21 @@
 -- The list of live nodes stays in serial order.
-use Rattle.std.proofs.Common.{◌≡◌, ◌≢◌, ℕ, zero, suc, ◌+◌, ◌-◌, ◌≤◌, ◌<◌, List, [], ◌∷◌, ◌++◌, Option, Some, None, length, refl, sym, ap, subst, ◌∙◌, arith, inl, inr, ◌⊎◌, Bool, true, false, cond, nat_eq, min}
+use Rattle.std.proofs.Common.{◌≡◌, ◌≢◌, ℕ, zero, suc, ◌+◌, ◌-◌, ◌≤◌, ◌<◌, List, [], ◌∷◌, ◌++◌, Option, Some, None, length, refl, sym, ap, subst, ◌∙◌, arith, inl, inr, ◌⊎◌, true, false, nat_eq, min}
 use Rattle.std.proofs.lemmas.Bool.Decides.{nat_tests}
 use Rattle.std.proofs.lemmas.Bool.{cases_lt}
 use Rattle.std.specs.List.{slice_get}
-use Rattle.ap_list.specs.Lists.{Each, AnyOf}
+use Rattle.ap_list.specs.Lists.{Each}
 use Rattle.ap_walk.specs.declared.act.Stepped.{Stepped}
 use Rattle.ap_walk.specs.declared.rule.Rule.{Rule}
 use Rattle.ap_walk.specs.declared.mark.Walked.{Walked}
 use Rattle.ap_walk.specs.Walks.{full}
 use Rattle.ap_word.specs.Stops.{NONE}
-use Rattle.ap_table.specs.Core.{Phase, Node, free, claimed, expanded, put, closed, dropped, Turn, claim, expand, finish, drop, mark, look, change, set_phase, above, parent_of, on_closed, child, new_nodes, root, children, joined_walk, kept_of, close_with, close_phase, close_node, close_up, put_node, expand_node, apply}
+use Rattle.ap_table.specs.Core.{Phase, Node, free, claimed, expanded, put, closed, dropped, Turn, claim, expand, finish, drop, mark, look, change, set_phase, above, parent_of, on_closed, new_nodes, root, children, joined_walk, kept_of, close_with, close_phase, close_node, close_up, put_node, expand_node, apply}
 use Rattle.ap_table.specs.declared.link.Link.{Link}
 use Rattle.ap_table.specs.declared.link.License.{License}
-use Rattle.ap_table.specs.Sound.{Family, IsFree, IsClaimed, StopsAt, CanExpand, CanDrop, IsAllowed}
+use Rattle.ap_table.specs.Sound.{Family, IsFree, IsClaimed, CanExpand, IsAllowed}
 use Rattle.ap_table.specs.Order.{places, Before, numbers, replace, among, BeforeAt, Sorted, IsLive, IsOrder, IsFirst, expanded_live, live_after}
-use Rattle.ap_table.proofs.Keeping.{same_or_not, some_is, get_same, get_other, change_length}
-use Rattle.ap_table.proofs.Growing.{below, get_left, get_right, new_at, new_family}
+use Rattle.ap_table.proofs.Keeping.{same_or_not, some_is, get_other, change_length}
+use Rattle.ap_table.proofs.Growing.{get_left, get_right, new_family}
 use Rattle.ap_table.proofs.Replay.{Keeps, change_keeps, apply_keeps}
 
 before_left : (a b s : List ℕ) → Before a b → Before (a ++ s) b
@@ -32,10 +32,10 @@ before_next : (p : List ℕ) (i j : ℕ) → i < j → Before (p ++ i ∷ []) (p
 before_next [] i j h = inl h
 before_next (x ∷ xs) i j h = inr (refl, before_next xs i j h)
 
-not_eq : (j k : ℕ) → j ≢ k → nat_eq j k ≡ false
+pub not_eq : (j k : ℕ) → j ≢ k → nat_eq j k ≡ false
 not_eq j k d = grind (arith, nat_tests)
 
-eq_case : (j k : ℕ) → ((nat_eq j k ≡ true) × (j ≡ k)) ⊎ ((nat_eq j k ≡ false) × (j ≢ k))
+pub eq_case : (j k : ℕ) → ((nat_eq j k ≡ true) × (j ≡ k)) ⊎ ((nat_eq j k ≡ false) × (j ≢ k))
 eq_case j k =
     elim (same_or_not j k) [
       | inl e ↦ inl (grind (arith, nat_tests), e)

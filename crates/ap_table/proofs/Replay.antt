@@ -1,21 +1,17 @@
 -- After every list of allowed steps.
-use Rattle.std.proofs.Common.{◌≡◌, ◌≢◌, ℕ, zero, suc, ◌+◌, ◌≤◌, ◌<◌, List, [], ◌∷◌, ◌++◌, Option, Some, None, length, refl, sym, ap, subst, ◌∙◌, arith, inl, inr, ◌⊎◌, Bool, true, false, cond, min}
-use Rattle.std.proofs.lemmas.Bool.{cases_lt}
+use Rattle.std.proofs.Common.{◌≡◌, ℕ, zero, suc, ◌+◌, ◌<◌, List, [], ◌∷◌, ◌++◌, Option, Some, None, length, refl, sym, ap, subst, ◌∙◌, arith, inl, inr, min}
 use Rattle.std.specs.List.{slice_get}
-use Rattle.ap_list.specs.Lists.{Each, AnyOf}
+use Rattle.ap_list.specs.Lists.{Each}
 use Rattle.ap_walk.specs.declared.act.Stepped.{Stepped}
 use Rattle.ap_walk.specs.declared.rule.Rule.{Rule}
 use Rattle.ap_walk.specs.declared.mark.Walked.{Walked}
 use Rattle.ap_walk.specs.Visits.{Tells, out_children}
 use Rattle.ap_walk.specs.Walks.{full}
-use Rattle.ap_word.specs.declared.family.Counted.{Counted}
-use Rattle.ap_word.specs.declared.family.Numbers.{Numbers}
-use Rattle.ap_word.specs.Stops.{NONE, nothing_counted, stops, add, sum_to, stops_by}
-use Rattle.ap_table.specs.Core.{Phase, Node, free, claimed, expanded, put, closed, dropped, Turn, claim, expand, finish, drop, mark, look, numbers_of, counted_of, with_kept, kept, phase_walk, node_walk, walks_of, change, set_phase, above, parent_of, on_closed, root, children, tallies, Stops, joined_walk, kept_of, close_with, close_phase, close_node, close_up, put_node, new_nodes, expand_node, apply, replay_from}
-use Rattle.ap_table.specs.declared.link.Link.{Link}
+use Rattle.ap_word.specs.Stops.{NONE}
+use Rattle.ap_table.specs.Core.{Phase, Node, free, claimed, expanded, put, closed, dropped, Turn, claim, expand, finish, drop, mark, look, change, set_phase, above, parent_of, on_closed, root, children, joined_walk, kept_of, close_with, close_phase, close_node, close_up, put_node, new_nodes, expand_node, apply, replay_from}
 use Rattle.ap_table.specs.declared.link.License.{License}
-use Rattle.ap_table.specs.Sound.{Family, IsFree, IsClaimed, Names, StopsAt, Licensed, PhaseSound, NodeSound, SoundBut, Sound, CanExpand, CanMark, CanDrop, IsAllowed, AreAllowed}
-use Rattle.ap_table.proofs.Keeping.{same_or_not, some_is, get_same, get_other, change_length, sound_claim, sound_drop, sound_mark}
+use Rattle.ap_table.specs.Sound.{IsFree, IsClaimed, NodeSound, Sound, CanExpand, CanMark, CanDrop, IsAllowed, AreAllowed}
+use Rattle.ap_table.proofs.Keeping.{same_or_not, some_is, get_same, get_other, sound_claim, sound_drop, sound_mark}
 use Rattle.ap_table.proofs.Rising.{sound_put}
 use Rattle.ap_table.proofs.Growing.{below, get_left, sound_expand}
 

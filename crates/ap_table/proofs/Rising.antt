@@ -1,5 +1,5 @@
 -- A result closes the nodes above it, as far as they can be closed.
-use Rattle.std.proofs.Common.{◌≡◌, ◌≢◌, ℕ, zero, suc, ◌+◌, ◌≤◌, ◌<◌, List, [], ◌∷◌, ◌++◌, Option, Some, None, length, refl, sym, ap, subst, ◌∙◌, arith, inl, inr, ◌⊎◌}
+use Rattle.std.proofs.Common.{◌≡◌, ◌≢◌, ℕ, zero, suc, ◌+◌, ◌<◌, List, Option, Some, None, length, refl, sym, ap, subst, ◌∙◌, arith, inl, inr}
 use Rattle.std.specs.List.{slice_get}
 use Rattle.ap_list.specs.Lists.{Each}
 use Rattle.ap_walk.specs.declared.act.Stepped.{Stepped}
@@ -9,9 +9,8 @@ use Rattle.ap_walk.specs.Visits.{Tells, out_children}
 use Rattle.ap_walk.specs.Walks.{full}
 use Rattle.ap_word.specs.Stops.{nothing_counted}
 use Rattle.ap_table.specs.Core.{Phase, Node, free, claimed, expanded, put, closed, dropped, numbers_of, kept, phase_walk, walks_of, set_phase, above, parent_of, on_closed, children, joined_walk, kept_of, close_with, close_phase, close_node, close_up, put_node}
-use Rattle.ap_table.specs.declared.link.Link.{Link}
-use Rattle.ap_table.specs.Sound.{Family, IsClaimed, PhaseSound, NodeSound, SoundBut, Sound}
-use Rattle.ap_table.proofs.Closing.{AreFull, closed_is_whole}
+use Rattle.ap_table.specs.Sound.{PhaseSound, SoundBut, Sound}
+use Rattle.ap_table.proofs.Closing.{closed_is_whole}
 use Rattle.ap_table.proofs.Keeping.{same_or_not, some_is, get_same, Moves, family_stays, walks_same, are_full, sound_done}
 
 module _ {T : Type 0} (step : T → Stepped T) (depth : T → ℕ) (rule : Rule) where
@@ -39,13 +38,10 @@ module _ {T : Type 0} (step : T → Stepped T) (depth : T → ℕ) (rule : Rule)
       weaker ns p s (λ m e. subst (λ y. PhaseSound step depth rule None ns p y y.phase) (some_is n m (sym at ∙ e)) (subst (PhaseSound step depth rule None ns p n) (sym is) own))
 
   module _ (tells : (t : T) → Tells (step t).act.process (step t).out) (deeper : (t : T) → Each (λ c. depth c < depth t) (out_children (step t).out)) where
-    with_result : (f : ℕ) (ns : List (Node T)) (p : ℕ) (n : Node T) → SoundBut step depth rule (Some p) ns → p < suc f → slice_get ns p ≡ Some n
-        → ((ms : List (Node T)) (q : Option ℕ) → SoundBut step depth rule q ms → ((i : ℕ) → q ≡ Some i → i < f) → Sound step depth rule (close_up step depth rule f ms q))
-        → n.phase ≡ expanded → PhaseSound step depth rule (Some p) ns p n expanded
-        → (r : Option (List (Walked T))) → kept_of step depth rule ns n ≡ r
-        → Sound step depth rule (on_closed (close_up step depth rule f) ns p (close_with step depth rule ns p n r))
-    with_result f ns p n s le at go is own None none = weaker_as ns p n expanded s at is (own.0, (λ g. none), own.2)
-    with_result f ns p n s le at go is own (Some ws) some =
+    -- after node p was closed its parent alone may be one that can be closed
+    pub closed_sound : (ns : List (Node T)) (p : ℕ) (n : Node T) (ws : List (Walked T)) → SoundBut step depth rule (Some p) ns → slice_get ns p ≡ Some n → n.phase ≡ expanded → PhaseSound step depth rule (Some p) ns p n expanded → kept_of step depth rule ns n ≡ Some ws
+        → (let ms = set_phase ns p (closed (joined_walk step depth rule n.task ws)) in SoundBut step depth rule (parent_of (slice_get ms p)) ms)
+    closed_sound ns p n ws s at is own some =
         let w = joined_walk step depth rule n.task ws in
         let ph = closed w in
         let cs = children step depth rule n.task in
@@ -60,7 +56,19 @@ module _ {T : Type 0} (step : T → Stepped T) (depth : T → ℕ) (rule : Rule)
         ) in
         let sound = sound_done step depth rule (Some p) ns p n ph (inr refl) s at (ap phase_walk is) mine in
         let parent : above n.path ≡ parent_of (slice_get ms p) = sym (ap parent_of (get_same ns p n (λ x. record x { phase = ph }) at)) in
-        go ms (parent_of (slice_get ms p)) (subst (λ (q : Option ℕ). SoundBut step depth rule q ms) parent sound)
+        subst (λ (q : Option ℕ). SoundBut step depth rule q ms) parent sound
+
+    with_result : (f : ℕ) (ns : List (Node T)) (p : ℕ) (n : Node T) → SoundBut step depth rule (Some p) ns → p < suc f → slice_get ns p ≡ Some n
+        → ((ms : List (Node T)) (q : Option ℕ) → SoundBut step depth rule q ms → ((i : ℕ) → q ≡ Some i → i < f) → Sound step depth rule (close_up step depth rule f ms q))
+        → n.phase ≡ expanded → PhaseSound step depth rule (Some p) ns p n expanded
+        → (r : Option (List (Walked T))) → kept_of step depth rule ns n ≡ r
+        → Sound step depth rule (on_closed (close_up step depth rule f) ns p (close_with step depth rule ns p n r))
+    with_result f ns p n s le at go is own None none = weaker_as ns p n expanded s at is (own.0, (λ g. none), own.2)
+    with_result f ns p n s le at go is own (Some ws) some =
+        let ph = closed (joined_walk step depth rule n.task ws) in
+        let ms = set_phase ns p ph in
+        let parent : above n.path ≡ parent_of (slice_get ms p) = sym (ap parent_of (get_same ns p n (λ x. record x { phase = ph }) at)) in
+        go ms (parent_of (slice_get ms p)) (closed_sound ns p n ws s at is own some)
         (λ i e. let b = (s p n at).below i (parent ∙ e) in omega arith)
 
     closes : (f : ℕ) (ns : List (Node T)) (p : ℕ) (n : Node T) → SoundBut step depth rule (Some p) ns → p < suc f → slice_get ns p ≡ Some n

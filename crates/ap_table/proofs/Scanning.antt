@@ -1,9 +1,9 @@
 -- One scan of the siblings keeps those up to the known stop, or else all, where these are finished.
-use Rattle.std.proofs.Common.{◌≡◌, ℕ, zero, suc, ◌+◌, ◌≤◌, ◌<◌, Bool, true, false, cond, List, [], ◌∷◌, Option, Some, None, length, refl, sym, ap, subst, ◌∙◌, arith, inl, inr, ◌⊎◌}
+use Rattle.std.proofs.Common.{◌≡◌, ℕ, zero, suc, ◌+◌, Bool, true, false, cond, List, [], ◌∷◌, Option, Some, None, length, refl, ap, subst, arith, inl, inr, ◌⊎◌}
 use Rattle.ap_walk.specs.declared.mark.Walked.{Walked}
 use Rattle.ap_word.specs.declared.family.Counted.{Counted}
 use Rattle.ap_word.specs.declared.family.Numbers.{Numbers}
-use Rattle.ap_word.specs.Stops.{nothing_counted, stops, add, known, known_from, known_stop}
+use Rattle.ap_word.specs.Stops.{nothing_counted, stops, add, known_from, known_stop}
 use Rattle.ap_table.specs.Core.{counted_of, counts_of, with_kept, kept}
 use Rattle.ap_table.specs.Laws.{FrontDone, ClosesBy}
 use Rattle.ap_word.proofs.Stopping.{known_is}

@@ -3,3 +3,8 @@ pub mod Sound
 pub mod Laws
 pub mod Order
 pub mod Pieces
+pub mod Shown
+pub mod Live
+pub mod Sums
+pub mod Settled
+pub mod Calls

@@ -4,14 +4,23 @@
 //! puts its finished walk, drops it, marks a word or looks at one. The laws speak of every list of allowed
 //! steps, in any order: what is finished is what the serial walk gives, and what is dropped lies behind a
 //! sibling at which that walk stops. It is the speculation over sibling subgoals of Rager, Hunt and Kaufmann
-//! (ITP 2013). There is no code here yet.
+//! (ITP 2013). `TableState` is such a state with the list of the steps that led to it.
 #![tactic(auto)]
 
 mod laws;
 mod link;
+mod live;
+mod making;
+mod marking;
+mod settling;
+mod state;
+mod stored;
+mod telling;
 
 pub use laws::{
     closing_is_by_the_known_stop, core_is_sound, known_stops_are_true, live_nodes_stay_in_order,
     pieces_make_the_walk, stopped_walks_end,
 };
 pub use link::{License, Link};
+pub use state::{TableState, first};
+pub use stored::{Claim, Entry, Grown, Job, Stage, Stored, Sum, Taken, Told};
