@@ -1,4 +1,4 @@
-//! The goal table's core: why many workers prove and print what one does. A state is a list of nodes, each a
+//! The goal table: why many workers prove and print what one does. A state is a list of nodes, each a
 //! task, the families above it and how far it is, and one word for each family of siblings, a place by which
 //! the family is known to stop. Six steps change it: any actor claims a node, expands it into its children,
 //! puts its finished walk, drops it, marks a word or looks at one. The laws speak of every list of allowed
