@@ -5,4 +5,5 @@ pub mod Index
 pub mod Carried
 pub mod Laws
 pub mod Shapes
+pub mod Linear
 pub mod Refused

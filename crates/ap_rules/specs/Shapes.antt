@@ -1,6 +1,6 @@
 -- The shapes that the other classes ask for: a linear theorem's conjuncts are inequalities with a trigger, and a
 -- type prescription is a recogniser on a call of distinct variables.
-use Rattle.std.specs.Prelude.{Bool, true, false, ◌&&◌, ◌||◌, List, [], ◌∷◌, is_some}
+use Rattle.std.specs.Prelude.{Bool, true, false, cond, ◌&&◌, List, [], ◌∷◌, Option, Some, None, is_some}
 use Rattle.ap_list.specs.Lists.{is_within}
 use Rattle.ap_value.specs.Values.{symbol_eq}
 use Rattle.ap_term.specs.declared.term.Term.{Term, out-Term}
@@ -11,20 +11,25 @@ use Rattle.ap_world.specs.declared.entry.RuleClass.TheVariants as class
 use Rattle.ap_world.specs.Names.{not_name}
 use Rattle.ap_world.specs.Rows.{recognised}
 use Rattle.ap_world.specs.Typing.{are_distinct_variables}
-use Rattle.ap_poly.specs.Polynomials.{Parts, Polynomial}
+use Rattle.ap_poly.specs.Polynomials.{Polynomial}
 use Rattle.ap_poly.specs.Literals.{of_literal}
+use Rattle.ap_poly.specs.Bounds.{first_atoms}
 
--- what a conjunct says of integers: of (not a) what holds where a doesn't
-abbrev pub told_by : Bool → List Term → Term → List Polynomial
-told_by true (a ∷ []) u = of_literal a false
-told_by b ts u = of_literal u true
+-- a conjunct as a literal: of (not a) that a is nil
+abbrev pub signed_by : Bool → List Term → Term → Term × Bool
+signed_by true (a ∷ []) u = (a, false)
+signed_by b ts u = (u, true)
 
-abbrev pub told_in : Term-F Term → Term → List Polynomial
-told_in (Term-F.Call f ts) u = told_by (symbol_eq f not_name) ts u
-told_in y u = of_literal u true
+abbrev pub signed_in : Term-F Term → Term → Term × Bool
+signed_in (Term-F.Call f ts) u = signed_by (symbol_eq f not_name) ts u
+signed_in y u = (u, true)
 
+abbrev pub signed : Term → Term × Bool
+signed u = signed_in (out-Term u) u
+
+-- what a conjunct says of integers
 abbrev pub told : Term → List Polynomial
-told u = told_in (out-Term u) u
+told u = of_literal (signed u).0 (signed u).1
 
 -- a trigger is an atom that is a call with all variables of the conjunct
 abbrev pub is_call : Term-F Term → Bool
@@ -34,16 +39,16 @@ is_call y = false
 abbrev pub is_trigger : Term → Term → Bool
 is_trigger u x = is_call (out-Term x) && is_within symbol_eq (vars_after u []) (vars_after x [])
 
-abbrev pub trigger_in : Term → Parts → Bool
-trigger_in u [] = false
-trigger_in u (p ∷ ps) = is_trigger u p.0 || trigger_in u ps
+abbrev pub first_trigger : Term → List Term → Option Term
+first_trigger u [] = None
+first_trigger u (x ∷ xs) = cond (is_trigger u x) (Some x) (first_trigger u xs)
 
-abbrev pub has_trigger : Term → List Polynomial → Bool
-has_trigger u [] = false
-has_trigger u (p ∷ ps) = trigger_in u p.parts || has_trigger u ps
+-- the first of its atoms, in order of first occurrence
+abbrev pub trigger_of : Term → Option Term
+trigger_of u = first_trigger u (first_atoms (told u))
 
 abbrev pub is_inequality : Term → Bool
-is_inequality u = has_trigger u (told u)
+is_inequality u = is_some (trigger_of u)
 
 abbrev pub all_inequalities : List Term → Bool
 all_inequalities [] = true
