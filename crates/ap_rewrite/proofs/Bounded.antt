@@ -1,56 +1,53 @@
--- The polynomials that linear arithmetic begins with hold, and speak of the world's terms.
-use Rattle.std.proofs.Common.{◌≡◌, Bool, true, List, [], ◌∷◌, ◌++◌, take}
+-- The polynomials that linear arithmetic begins with speak of the world's terms, and so those that it lists hold.
+use Rattle.std.proofs.Common.{◌≡◌, ℕ, Bool, true, List, [], ◌∷◌, ◌++◌, take, Some, sym, subst}
 use Rattle.ap_list.specs.Lists.{Each}
 use Rattle.ap_term.specs.declared.term.Term.{Term}
-use Rattle.ap_world.specs.Meaning.{Env, Defs}
+use Rattle.ap_world.specs.declared.theory.Theory.{Theory}
+use Rattle.ap_world.specs.Meaning.{Defs}
 use Rattle.ap_world.specs.Sound.{known, Sound}
-use Rattle.ap_world.specs.World.{Shown, function_of}
+use Rattle.ap_world.specs.World.{Shown, function_of, are_distinct}
 use Rattle.ap_world.specs.Facts.{Facts, KnownFacts, FactsHold}
-use Rattle.ap_world.proofs.TotalMeaning.{models, val, val_is}
+use Rattle.ap_world.proofs.TotalMeaning.{models}
 use Rattle.ap_poly.specs.Polynomials.{Polynomial}
 use Rattle.ap_poly.specs.Literals.{of_literal}
 use Rattle.ap_poly.specs.Holding.{PolyHolds}
-use Rattle.ap_poly.specs.Bounds.{PolyKnown, first_atoms, bound}
+use Rattle.ap_poly.specs.Bounds.{PolyKnown, first_atoms}
 use Rattle.ap_poly.proofs.AtomsKnown.{literals_known, atoms_known}
-use Rattle.ap_poly.proofs.BoundsHold.{bounds_hold}
-use Rattle.ap_poly.proofs.LiteralsHold.{literals_hold}
-use Rattle.ap_types.proofs.KeptHolds.{types_mask}
 use Rattle.ap_kernel.specs.declared.objects.Ctx.{Ctx}
 use Rattle.ap_kernel.specs.Standing.{HasGround}
 use Rattle.ap_kernel.specs.Linear.{PolysHold}
 use Rattle.ap_kernel.proofs.Reduced.{each_append, each_take}
-use Rattle.ap_rewrite.specs.Leading.{linear_in}
-use Rattle.ap_rewrite.specs.Linear.{most_polys, of_facts, bounds, given}
+use Rattle.ap_rewrite.specs.InWorld.{world_setting}
+use Rattle.ap_rewrite.specs.Arithmetic.{arithmetic_in, SoundArithmetic}
+use Rattle.ap_rewrite.specs.Linear.{most_polys, of_facts, bounds, given, with_rules}
+use Rattle.ap_rewrite.specs.Rewriting.{rewrite_to}
+use Rattle.ap_rewrite.specs.Settings.{Place}
+use Rattle.ap_rewrite.proofs.InWorldStands.{sound_setting}
+use Rattle.ap_rewrite.proofs.LinearStands.{listed_hold}
+use Rattle.ap_rewrite.proofs.RewritingStands.{levels_stand}
 
-module _ (w : Shown) (sound : Sound w.entries) (ground : HasGround (function_of w.entries)) where
-  abbrev D : Defs
-  D = function_of w.entries
-
-  facts_known : (fs : Facts) → KnownFacts D fs → Each (PolyKnown D) (of_facts (linear_in w) fs)
+module _ (w : Shown) (h : Theory) (us : List Term) where
+  facts_known : (fs : Facts) → KnownFacts (function_of w.entries) fs → Each (PolyKnown (function_of w.entries)) (of_facts (world_setting w h us) fs)
   facts_known [] ks = tt
-  facts_known (f ∷ fs) ks = each_append (PolyKnown D) (of_literal f.0 f.1) (of_facts (linear_in w) fs) (literals_known D f.0 f.1 ks.0) (facts_known fs ks.1)
+  facts_known (f ∷ fs) ks = each_append (PolyKnown (function_of w.entries)) (of_literal f.0 f.1) (of_facts (world_setting w h us) fs) (literals_known (function_of w.entries) f.0 f.1 ks.0) (facts_known fs ks.1)
 
-  facts_hold : (fs : Facts) → KnownFacts D fs → (e : Env) → FactsHold D e fs → Each (PolyHolds D e) (of_facts (linear_in w) fs)
-  facts_hold [] ks e hs = tt
-  facts_hold (f ∷ fs) ks e hs = each_append (PolyHolds D e) (of_literal f.0 f.1) (of_facts (linear_in w) fs) (literals_hold D sound.total e f.0 f.1 ks.0 hs.0) (facts_hold fs ks.1 e hs.1)
+  pub atoms_here : (fs : Facts) (u : Term) (s : Bool) → KnownFacts (function_of w.entries) fs → known (function_of w.entries) u ≡ true
+      → Each (λ x. known (function_of w.entries) x ≡ true) (first_atoms (given (world_setting w h us) fs u s))
+  atoms_here fs u s ks k = atoms_known (function_of w.entries) (given (world_setting w h us) fs u s)
+      (each_append (PolyKnown (function_of w.entries)) (of_literal u s) (of_facts (world_setting w h us) fs) (literals_known (function_of w.entries) u s k) (facts_known fs ks))
 
-  pub atoms_here : (fs : Facts) (u : Term) (s : Bool) → KnownFacts D fs → known D u ≡ true → Each (λ x. known D x ≡ true) (first_atoms (given (linear_in w) fs u s))
-  atoms_here fs u s ks k = atoms_known D (given (linear_in w) fs u s)
-      (each_append (PolyKnown D) (of_literal u s) (of_facts (linear_in w) fs) (literals_known D u s k) (facts_known fs ks))
-
-  all_bounded : (fs : Facts) → KnownFacts D fs → (xs : List Term) → Each (λ x. known D x ≡ true) xs → (e : Env) → FactsHold D e fs → Each (PolyHolds D e) (bounds (linear_in w) fs xs)
-  all_bounded fs ks [] xk e hs = tt
-  all_bounded fs ks (x ∷ xs) xk e hs =
-      let (A, ms) = models D sound.total in
-      let is = val_is D A ms x xk.0 e in
-      each_append (PolyHolds D e) (bound x ((linear_in w).types fs x)) (bounds (linear_in w) fs xs)
-      (bounds_hold D x ((linear_in w).types fs x) e (val A x e) is (types_mask w sound ground fs x ks xk.0 e hs (val A x e) is)) (all_bounded fs ks xs xk.1 e hs)
-
-  pub begun_hold : (c : Ctx) (u : Term) (s : Bool) → KnownFacts D c.0 → known D u ≡ true → (xs : List Term) → Each (λ x. known D x ≡ true) xs
-      → PolysHold D c u s (given (linear_in w) c.0 u s ++ bounds (linear_in w) c.0 xs)
-  begun_hold c u s ks k xs xk e hs us = each_append (PolyHolds D e) (given (linear_in w) c.0 u s) (bounds (linear_in w) c.0 xs)
-      (each_append (PolyHolds D e) (of_literal u s) (of_facts (linear_in w) c.0) (literals_hold D sound.total e u s k us) (facts_hold c.0 ks e hs))
-      (all_bounded c.0 ks xs xk e hs)
+  -- what is listed holds wherever the facts hold and the literal has the sign
+  pub all_listed : Sound w.entries → HasGround (function_of w.entries) → are_distinct w.entries ≡ true → SoundArithmetic (arithmetic_in w h) (function_of w.entries)
+      → (d : ℕ) (p : Place) (c : Ctx) → p.facts ≡ c.0 → KnownFacts (function_of w.entries) p.facts → (u : Term) (s : Bool) → known (function_of w.entries) u ≡ true
+      → (n : ℕ) (qs : List Polynomial) (m : ℕ)
+      → with_rules (world_setting w h us) (rewrite_to (world_setting w h us) d) p (arithmetic_in w h).rules (first_atoms (given (world_setting w h us) p.facts u s))
+      (given (world_setting w h us) p.facts u s ++ bounds (world_setting w h us) p.facts (first_atoms (given (world_setting w h us) p.facts u s))) n ≡ Some (qs, m)
+      → PolysHold (function_of w.entries) c u s qs
+  all_listed sound ground distinct right d p c at fk u s k n qs m is e hs =
+      let S = world_setting w h us in
+      let H = sound_setting w h us (arithmetic_in w h) sound ground distinct right in
+      let (A, ms) = models (function_of w.entries) sound.total in
+      listed_hold S H A ms (rewrite_to S d) (levels_stand S H A ms d) p fk u s k n qs m is e (subst (λ fs. FactsHold (function_of w.entries) e fs) (sym at) hs)
 
 -- the first of those that hold
 pub first_hold : (D : Defs) (c : Ctx) (u : Term) (s : Bool) (ps : List Polynomial) → PolysHold D c u s ps → PolysHold D c u s (take most_polys ps)

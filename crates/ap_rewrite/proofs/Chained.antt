@@ -5,43 +5,18 @@ use Rattle.std.specs.declared.alloc.AllocError.{AllocError}
 use Rattle.ap_value.specs.declared.symbol.Symbol.{Symbol}
 use Rattle.ap_term.specs.declared.term.Term.{Term, Call}
 use Rattle.ap_term.specs.Metered.{Got, By, after, known as answer, or_else, first_that}
-use Rattle.ap_world.specs.declared.primitive.Primitive.{Primitive as Prim}
-use Rattle.ap_world.specs.declared.primitive.Primitive.TheVariants as prim
-use Rattle.ap_world.specs.Primitives.{prim_of}
 use Rattle.ap_world.specs.declared.theory.Theory.{Theory}
 use Rattle.ap_world.specs.World.{Shown}
 use Rattle.ap_kernel.specs.declared.objects.Ctx.{Ctx}
 use Rattle.ap_kernel.specs.declared.objects.Mode.{Mode}
 use Rattle.ap_kernel.specs.declared.objects.Equiv.{Equiv}
 use Rattle.ap_kernel.specs.Opening.{is_quoted}
-use Rattle.ap_rewrite.specs.Arithmetic.{no_arithmetic}
 use Rattle.ap_rewrite.specs.Settings.{Setting, Place, Inner}
-use Rattle.ap_rewrite.specs.InWorld.{setting_in}
-use Rattle.ap_rewrite.specs.Linear.{are_integers, by_equal, by_pair, by_arithmetic}
+use Rattle.ap_rewrite.specs.InWorld.{world_setting}
+use Rattle.ap_rewrite.specs.Linear.{by_arithmetic}
 use Rattle.ap_rewrite.specs.Rewriting.{answered, led, run, settle, equate, tried, by_rules, by_definition}
-use Rattle.ap_rewrite.specs.Answering.{From, got, got_any, from_settling, from_equating, from_rules}
+use Rattle.ap_rewrite.specs.Answering.{From, got, got_any, from_settling, from_equating, from_arithmetic, from_rules}
 use Rattle.ap_rewrite.proofs.Froms.{got_answered}
-
--- arithmetic that decides nothing answers nothing
-module _ (w : Shown) (h : Theory) (us : List Term) (r : Inner) (p : Place) where
-  abbrev Plain : Setting
-  Plain = setting_in w h us no_arithmetic
-
-  pair_decides : (u : Term) (x : Option Prim) (a b : Term) (n : ℕ) → by_pair Plain r p u x a b n ≡ answer None n
-  pair_decides u None a b n = refl
-  pair_decides u (Some prim.Less) a b n = refl
-  pair_decides u (Some prim.Equal) a b n = go (are_integers Plain p.facts a b)
-    where
-      go : (x : Bool) → cond x (by_equal Plain r p u a b n) (answer None n) ≡ answer None n
-      go true = refl
-      go false = refl
-  pair_decides u (Some x) a b n = refl
-
-  pub nothing_decides : (f : Symbol) (ts : List Term) (n : ℕ) → by_arithmetic Plain r p f ts n ≡ answer None n
-  nothing_decides f [] n = refl
-  nothing_decides f (a ∷ []) n = refl
-  nothing_decides f (a ∷ b ∷ []) n = pair_decides (Call f (a ∷ b ∷ [])) (prim_of f) a b n
-  nothing_decides f (a ∷ b ∷ c ∷ ts) n = refl
 
 -- the first one applies, or the others are tried
 pub first_some : (x : Option Term) (v : Term) (ks : List (By (Option Term))) (n : ℕ) → x ≡ Some v → Some (Some v, n) ≡ first_that (answer x ∷ ks) n
@@ -106,10 +81,10 @@ answered_some v u m g e h = ap (λ (x : Term). Some (Some x, m)) e ∙ ap answer
 pub answered_out : (g : Got Term) → ◌≡◌ {A = Got Term} None g → ◌≡◌ {A = Got (Option Term)} None (answered g)
 answered_out g h = ap answered h
 
--- what is tried on a call: running, settling, equations, rules, its definition; each is the answer, or the next is
+-- what is tried on a call: running, settling, equations, arithmetic, rules, its definition; each is the answer, or the next is
 module _ (w : Shown) (h : Theory) (xs : List Term) (r : Inner) (o : Mode) (p : Place) (f : Symbol) (us : List Term) (t : Term) (n : ℕ) (call : t ≡ Call f us) where
   abbrev pub Here : Setting
-  Here = setting_in w h xs no_arithmetic
+  Here = world_setting w h xs
 
   pub run_some : (v : Term) → Some v ≡ run Here o f us → ◌≡◌ {A = Got (Option Term)} (Some (Some v, n)) (first_that (tried Here r o p f us) n)
   run_some v e = first_some (run Here o f us) v (from_settling Here r o p f us) n (sym e)
@@ -127,15 +102,22 @@ module _ (w : Shown) (h : Theory) (xs : List Term) (r : Inner) (o : Mode) (p : P
   equate_at = ap (λ (u : Term). equate Here r o p u n) call
 
   pub equate_out : None ≡ equate Here r o p t n → None ≡ first_that (from_equating Here r o p f us) n
-  equate_out e = then_out (equate Here r o p (Call f us)) (by_arithmetic Here r p f us ∷ from_rules Here r o p f us) n (e ∙ equate_at)
+  equate_out e = then_out (equate Here r o p (Call f us)) (from_arithmetic Here r o p f us) n (e ∙ equate_at)
 
   pub equate_some : (v : Term) (m : ℕ) → ◌≡◌ {A = Got (Option Term)} (Some (Some v, m)) (equate Here r o p t n) → ◌≡◌ {A = Got (Option Term)} (Some (Some v, m)) (first_that (from_equating Here r o p f us) n)
-  equate_some v m e = then_some (equate Here r o p (Call f us)) (by_arithmetic Here r p f us ∷ from_rules Here r o p f us) n v m (e ∙ equate_at)
+  equate_some v m e = then_some (equate Here r o p (Call f us)) (from_arithmetic Here r o p f us) n v m (e ∙ equate_at)
 
-  pub equate_none : (m : ℕ) → ◌≡◌ {A = Got (Option Term)} (Some (None, m)) (equate Here r o p t n) → first_that (from_rules Here r o p f us) m ≡ first_that (from_equating Here r o p f us) n
-  equate_none m e =
-      passed (by_arithmetic Here r p f us) (from_rules Here r o p f us) m m (sym (nothing_decides w h xs r p f us m))
-      ∙ passed (equate Here r o p (Call f us)) (by_arithmetic Here r p f us ∷ from_rules Here r o p f us) n m (e ∙ equate_at)
+  pub equate_none : (m : ℕ) → ◌≡◌ {A = Got (Option Term)} (Some (None, m)) (equate Here r o p t n) → first_that (from_arithmetic Here r o p f us) m ≡ first_that (from_equating Here r o p f us) n
+  equate_none m e = passed (equate Here r o p (Call f us)) (from_arithmetic Here r o p f us) n m (e ∙ equate_at)
+
+  pub arithmetic_out : None ≡ by_arithmetic Here r p f us n → None ≡ first_that (from_arithmetic Here r o p f us) n
+  arithmetic_out e = then_out (by_arithmetic Here r p f us) (from_rules Here r o p f us) n e
+
+  pub arithmetic_some : (v : Term) (m : ℕ) → ◌≡◌ {A = Got (Option Term)} (Some (Some v, m)) (by_arithmetic Here r p f us n) → ◌≡◌ {A = Got (Option Term)} (Some (Some v, m)) (first_that (from_arithmetic Here r o p f us) n)
+  arithmetic_some v m e = then_some (by_arithmetic Here r p f us) (from_rules Here r o p f us) n v m e
+
+  pub arithmetic_none : (m : ℕ) → ◌≡◌ {A = Got (Option Term)} (Some (None, m)) (by_arithmetic Here r p f us n) → first_that (from_rules Here r o p f us) m ≡ first_that (from_arithmetic Here r o p f us) n
+  arithmetic_none m e = passed (by_arithmetic Here r p f us) (from_rules Here r o p f us) n m e
 
   rules_at : by_rules Here r o p t n ≡ by_rules Here r o p (Call f us) n
   rules_at = ap (λ (u : Term). by_rules Here r o p u n) call

@@ -3,17 +3,19 @@ use Rattle.std.proofs.Common.{◌≡◌, [], Some, refl, subst}
 use Rattle.ap_value.specs.declared.value.Value.{Value}
 use Rattle.ap_value.specs.Values.{val_of}
 use Rattle.ap_term.specs.declared.term.Term.{Term}
+use Rattle.ap_world.specs.declared.theory.Theory.{Theory}
 use Rattle.ap_world.specs.World.{Shown, function_of}
 use Rattle.ap_world.specs.Meaning.{HasValue}
 use Rattle.ap_world.specs.Sound.{Sound}
 use Rattle.ap_world.specs.Units.{Outcome, gives, wide, spent, large, metered}
+use Rattle.ap_kernel.specs.Standing.{HasGround}
 use Rattle.ap_types.proofs.KeptHolds.{types_mask}
 use Rattle.ap_eval.proofs.Meant.{metered_means}
-use Rattle.ap_rewrite.specs.Arithmetic.{Arithmetic, no_arithmetic, linear_arithmetic, SoundArithmetic}
+use Rattle.ap_rewrite.specs.Arithmetic.{Arithmetic, no_arithmetic, arithmetic_in, SoundArithmetic}
 use Rattle.ap_rewrite.specs.InWorld.{value_in, most_units, setting_in}
 use Rattle.ap_rewrite.specs.Laws.{WorldIsSoundSetting, InWorldStands}
 use Rattle.ap_world.proofs.RulesStand.{rules_hold}
-use Rattle.ap_rewrite.proofs.ArithmeticSound.{nothing_sound, polynomials_sound}
+use Rattle.ap_rewrite.proofs.ArithmeticSound.{nothing_sound, worlds_sound}
 use Rattle.ap_rewrite.proofs.RewritingStands.{rewriting_stands}
 
 value_means : (w : Shown) (u : Term) (v : Value) → value_in (metered (function_of w.entries) u [] most_units) ≡ Some v → HasValue (function_of w.entries) u [] (val_of v)
@@ -39,11 +41,12 @@ sound_setting w h us l sound ground distinct arithmetic = record {
   value = λ u v k q. value_means w u v q;
 }
 
-pub in_world_stands : (l : Arithmetic) → ((w : Shown) → Sound w.entries → SoundArithmetic l (function_of w.entries)) → InWorldStands l
-in_world_stands l right w h us sound ground distinct = rewriting_stands (setting_in w h us l) (sound_setting w h us l sound ground distinct (right w sound))
+pub in_world_stands : (l : Shown → Theory → Arithmetic) → ((w : Shown) (h : Theory) → Sound w.entries → HasGround (function_of w.entries) → SoundArithmetic (l w h) (function_of w.entries)) → InWorldStands l
+in_world_stands l right w h us sound ground distinct =
+    rewriting_stands (setting_in w h us (l w h)) (sound_setting w h us (l w h) sound ground distinct (right w h sound ground))
 
-pub plain_stands : InWorldStands no_arithmetic
-plain_stands = in_world_stands no_arithmetic (λ w sound. nothing_sound (function_of w.entries))
+pub plain_stands : InWorldStands (λ w h. no_arithmetic)
+plain_stands = in_world_stands (λ w h. no_arithmetic) (λ w h sound ground. nothing_sound (function_of w.entries))
 
-pub linear_stands : InWorldStands (linear_arithmetic [])
-linear_stands = in_world_stands (linear_arithmetic []) (λ w sound. polynomials_sound (function_of w.entries) sound.total [] tt)
+pub linear_stands : InWorldStands arithmetic_in
+linear_stands = in_world_stands arithmetic_in worlds_sound

@@ -20,7 +20,7 @@ by_index law S r o p t f us n gs is e =
     subst (λ (u : Term). first_that (map (try_rule S r o p u) gs) n ≡ by_rules S r o p u n) (sym is)
     (ap (λ hs. first_that (map (try_rule S r o p (Call f us)) hs) n) e ∙ law S r o p f us n)
 
-each_kept : {A : Type 0} (P : A → Type 0) (test : A → Bool) (xs : List A) → Each P xs → Each P (kept test xs)
+pub each_kept : {A : Type 0} (P : A → Type 0) (test : A → Bool) (xs : List A) → Each P xs → Each P (kept test xs)
 each_kept P test [] h = tt
 each_kept P test (x ∷ xs) h = go (test x) (each_kept P test xs h.1)
   where

@@ -37,3 +37,6 @@ pub mod Ran
 pub mod Sure
 pub mod Simplified
 pub mod Ruled
+pub mod Using
+pub mod Triggers
+pub mod Refuted

@@ -7,12 +7,13 @@ use Rattle.ap_world.specs.declared.primitive.Primitive.TheVariants as prim
 use Rattle.ap_world.specs.Primitives.{prim_of}
 use Rattle.ap_term.specs.Metered.{By, after}
 use Rattle.ap_term.specs.Matching.{Pairs, matched}
+use Rattle.ap_kernel.specs.Linear.{less_of}
 use Rattle.ap_rewrite.specs.Settings.{Setting, Place, Inner}
 use Rattle.ap_rewrite.specs.Relieving.{relieve}
 use Rattle.ap_rewrite.specs.Costs.{Metered}
 use Rattle.ap_poly.specs.Polynomials.{Polynomial}
-use Rattle.ap_rewrite.specs.Arithmetic.{LinearRule}
-use Rattle.ap_rewrite.specs.Linear.{bounds, given, at_match, at_atoms, with_rules, refuted, or_refuted, then_refuted, less_of, if_refuted, by_pair, by_arithmetic}
+use Rattle.ap_rules.specs.declared.linear.LinearRule.{LinearRule}
+use Rattle.ap_rewrite.specs.Linear.{bounds, given, at_match, at_atoms, with_rules, refuted, or_refuted, then_refuted, if_refuted, by_pair, by_arithmetic}
 use Rattle.ap_rewrite.proofs.Costs.{metered_known, metered_after, metered_cond}
 use Rattle.ap_rewrite.proofs.RelievingCosts.{AllMetered, metered_relieve}
 

@@ -21,6 +21,7 @@ use Rattle.ap_world.proofs.Equations.{t_isnt_nil, val_prim, val_less, prim_of_le
 use Rattle.ap_kernel.specs.declared.objects.Mode.{Mode}
 use Rattle.ap_world.specs.Facts.{Facts, KnownFacts, FactsHold}
 use Rattle.ap_kernel.specs.Equations.{truth_constant}
+use Rattle.ap_kernel.specs.Linear.{less_of}
 use Rattle.ap_world.proofs.Assumed.{Signed, fact_of, fact_says}
 use Rattle.ap_kernel.proofs.Reduced.{each_append, each_take}
 use Rattle.ap_kernel.proofs.EquationsStand.{val_truth_constant}
@@ -32,8 +33,9 @@ use Rattle.ap_rewrite.specs.Relieving.{relieve}
 use Rattle.ap_poly.specs.Polynomials.{Polynomial}
 use Rattle.ap_poly.specs.Holding.{PolyHolds}
 use Rattle.ap_poly.specs.Bounds.{PolyKnown}
-use Rattle.ap_rewrite.specs.Arithmetic.{LinearRule, LinearHolds}
-use Rattle.ap_rewrite.specs.Linear.{most_polys, of_facts, bounds, given, with_instance, at_match, at_atoms, with_rules, refuted, or_refuted, then_refuted, by_less, less_of, if_refuted, by_equal, are_integers, by_pair, by_arithmetic}
+use Rattle.ap_rules.specs.declared.linear.LinearRule.{LinearRule}
+use Rattle.ap_rules.specs.Linear.{LinearHolds}
+use Rattle.ap_rewrite.specs.Linear.{most_polys, of_facts, bounds, given, with_instance, at_match, at_atoms, with_rules, refuted, or_refuted, then_refuted, by_truth, by_less, if_refuted, by_orders, by_equal, by_equation, are_integers, by_pair, by_arithmetic}
 use Rattle.ap_rewrite.specs.SoundSettings.{defs_of, SoundSetting}
 use Rattle.ap_rewrite.proofs.Yields.{Yields, When, yields_known, yields_after, yields_cond, yields_same}
 use Rattle.ap_world.proofs.Instances.{known_subst, match_fits}
@@ -91,7 +93,7 @@ module _ (S : Setting) (H : SoundSetting S) (A : Apply) (ms : Models (defs_of S)
 
   -- polynomials that hold wherever the facts do and the literal has the sign
   module _ (u : Term) (s : Bool) (uk : Known u) where
-    abbrev AllHold : List Polynomial → Type 0
+    abbrev pub AllHold : List Polynomial → Type 0
     AllHold ps = (e : Env) → FactsHold (defs_of S) e p.facts → FactHolds (defs_of S) e (u, s) → Each (PolyHolds (defs_of S) e) ps
 
     -- where the answer is yes, nowhere do the facts hold and has the literal the sign
@@ -133,15 +135,21 @@ module _ (S : Setting) (H : SoundSetting S) (A : Apply) (ms : Models (defs_of S)
     rules_stand (g ∷ gs) hs xs ks ps all = yields_after AllHold AllHold (at_atoms S r p g xs ps) (with_rules S r p gs xs) (atoms_stand g hs.0 xs ks ps all)
         (λ qs all. rules_stand gs hs.1 xs ks qs all)
 
-    pub refuted_stands : Yields Never (refuted S r p u s)
-    refuted_stands =
-        let ks : Each (λ x. known (defs_of S) x ≡ true) (S.arithmetic.atoms_of (given S p.facts u s)) =
-        H.arithmetic.atoms (given S p.facts u s) (each_append (PolyKnown (defs_of S)) (S.arithmetic.of_literal u s) (of_facts S p.facts) (H.arithmetic.literal_known u s uk) (of_facts_known p.facts fk)) in
-        yields_after AllHold Never (with_rules S r p S.arithmetic.rules (S.arithmetic.atoms_of (given S p.facts u s)) (given S p.facts u s ++ bounds S p.facts (S.arithmetic.atoms_of (given S p.facts u s)))) _
-        (rules_stand S.arithmetic.rules H.arithmetic.rules (S.arithmetic.atoms_of (given S p.facts u s)) ks (given S p.facts u s ++ bounds S p.facts (S.arithmetic.atoms_of (given S p.facts u s)))
+    atoms_known : Each (λ x. known (defs_of S) x ≡ true) (S.arithmetic.atoms_of (given S p.facts u s))
+    atoms_known = H.arithmetic.atoms (given S p.facts u s) (each_append (PolyKnown (defs_of S)) (S.arithmetic.of_literal u s) (of_facts S p.facts) (H.arithmetic.literal_known u s uk) (of_facts_known p.facts fk))
+
+    -- so the whole list that is refuted
+    pub listed_hold : Yields AllHold (with_rules S r p S.arithmetic.rules (S.arithmetic.atoms_of (given S p.facts u s)) (given S p.facts u s ++ bounds S p.facts (S.arithmetic.atoms_of (given S p.facts u s))))
+    listed_hold =
+        rules_stand S.arithmetic.rules H.arithmetic.rules (S.arithmetic.atoms_of (given S p.facts u s)) atoms_known (given S p.facts u s ++ bounds S p.facts (S.arithmetic.atoms_of (given S p.facts u s)))
         (λ e hs us. each_append (PolyHolds (defs_of S) e) (given S p.facts u s) (bounds S p.facts (S.arithmetic.atoms_of (given S p.facts u s)))
         (each_append (PolyHolds (defs_of S) e) (S.arithmetic.of_literal u s) (of_facts S p.facts) (H.arithmetic.literal u s uk e us) (of_facts_hold p.facts fk e hs))
-        (bounds_hold (S.arithmetic.atoms_of (given S p.facts u s)) ks e hs)))
+        (bounds_hold (S.arithmetic.atoms_of (given S p.facts u s)) atoms_known e hs))
+
+    pub refuted_stands : Yields Never (refuted S r p u s)
+    refuted_stands =
+        yields_after AllHold Never (with_rules S r p S.arithmetic.rules (S.arithmetic.atoms_of (given S p.facts u s)) (given S p.facts u s ++ bounds S p.facts (S.arithmetic.atoms_of (given S p.facts u s)))) _
+        listed_hold
         (λ qs all. yields_known Never (S.arithmetic.refutes (take most_polys qs)) (λ q e hs us. H.arithmetic.refutes (take most_polys qs) q e (each_take (PolyHolds (defs_of S) e) most_polys qs (all e hs us))))
 
   -- a term that is t or nil, and whose literal never has a sign, leads to the other truth

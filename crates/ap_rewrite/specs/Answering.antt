@@ -1,6 +1,6 @@
 -- What the rewriter's code is handed, and what it answers: the definition's term with the definition's steps left, by
 -- an equivalence that stands.
-use Rattle.std.specs.Prelude.{◌≡◌, ℕ, Bool, true, false, IsTrue, IfOk, IfSome, cond, List, [], ◌∷◌, Option, Some, None, Result}
+use Rattle.std.specs.Prelude.{◌≡◌, ℕ, Bool, true, false, IsTrue, IfOk, IfSome, cond, List, [], ◌∷◌, Option, Some, None, is_some, slice_get, Result}
 use Rattle.std.specs.Option.{option_map}
 use Rattle.std.specs.declared.alloc.AllocError.{AllocError}
 use denote.Ref.{Bor, MutBor}
@@ -9,13 +9,15 @@ use Rattle.ap_value.specs.declared.symbol.Symbol.{Symbol}
 use Rattle.ap_term.specs.declared.term.Term.{Term, Call}
 use Rattle.ap_term.specs.Equal.{term_eq}
 use Rattle.ap_term.specs.Matching.{Pairs, Extends}
-use Rattle.ap_term.specs.Metered.{Got, By, known as answer}
+use Rattle.ap_term.specs.Metered.{Got, By, known as answer, after}
 use Rattle.ap_world.specs.Meaning.{Defs}
 use Rattle.ap_world.specs.Sound.{known}
 use Rattle.ap_world.specs.World.{Shown, function_of}
 use Rattle.ap_world.specs.Facts.{KnownFacts}
 use Rattle.ap_world.specs.Holding.{KnownPairs, part_of}
 use Rattle.ap_world.specs.Rules.{Rule}
+use Rattle.ap_poly.specs.Polynomials.{Polynomial}
+use Rattle.ap_rules.specs.declared.linear.LinearRule.{LinearRule}
 use Rattle.ap_rules.specs.Index.{IsIndex}
 use Rattle.ap_kernel.specs.declared.objects.Ctx.{Ctx}
 use Rattle.ap_kernel.specs.declared.objects.Mode.{Mode}
@@ -29,10 +31,10 @@ use Rattle.ap_rewrite.specs.declared.rewriter.Place.{Place}
 use Rattle.ap_rewrite.specs.declared.rewriter.Run.{Run}
 use Rattle.ap_rewrite.specs.declared.facts.Relieved.{Relieved}
 use Rattle.ap_rewrite.specs.declared.rules.Reliefs.{Reliefs}
-use Rattle.ap_rewrite.specs.Arithmetic.{no_arithmetic}
+use Rattle.ap_rewrite.specs.Arithmetic.{is_usable}
 use Rattle.ap_rewrite.specs.Settings.{Setting, Inner, closing, Place as Stood}
-use Rattle.ap_rewrite.specs.InWorld.{setting_in}
-use Rattle.ap_rewrite.specs.Linear.{by_arithmetic}
+use Rattle.ap_rewrite.specs.InWorld.{world_setting}
+use Rattle.ap_rewrite.specs.Linear.{at_atoms, by_arithmetic}
 use Rattle.ap_rewrite.specs.Rewriting.{answered, none, settle, equate, walk, by_rules, by_definition, rewrite_to}
 
 -- the world, and its definitions
@@ -49,7 +51,7 @@ pub record Ready {O : Type 0} (r : Rewriter O) : Type 0 where
 
 -- what the definition goes by
 abbrev pub setting_of : {O : Type 0} → Rewriter O → Setting
-setting_of r = setting_in r.w.now r.theory.now r.expand.now no_arithmetic
+setting_of r = world_setting r.w.now r.theory.now r.expand.now
 
 -- terms with so many levels left
 abbrev pub inner_of : {O : Type 0} → Rewriter O → ℕ → Inner
@@ -72,6 +74,16 @@ abbrev pub got_any : Option (Option Equiv) → ℕ → Got (Option Term)
 got_any None n = None
 got_any (Some o) n = Some (right_of o, n)
 
+-- whether there is one
+abbrev pub got_if : Option (Option Equiv) → ℕ → Got Bool
+got_if None n = None
+got_if (Some o) n = Some (is_some o, n)
+
+-- polynomials
+abbrev pub got_polys : Option (List Polynomial) → ℕ → Got (List Polynomial)
+got_polys None n = None
+got_polys (Some ps) n = Some (ps, n)
+
 -- those of a list
 abbrev pub got_all : Option (List Equiv) → ℕ → Got (List Term)
 got_all None n = None
@@ -85,8 +97,11 @@ module _ (S : Setting) (r : Inner) (o : Mode) (p : Stood) (f : Symbol) (us : Lis
   abbrev pub from_rules : List (By (Option Term))
   from_rules = by_rules S r o p (Call f us) ∷ by_opening
 
+  abbrev pub from_arithmetic : List (By (Option Term))
+  from_arithmetic = by_arithmetic S r p f us ∷ from_rules
+
   abbrev pub from_equating : List (By (Option Term))
-  from_equating = equate S r o p (Call f us) ∷ by_arithmetic S r p f us ∷ from_rules
+  from_equating = equate S r o p (Call f us) ∷ from_arithmetic
 
   abbrev pub from_settling : List (By (Option Term))
   from_settling = answer (settle S o p (Call f us)) ∷ from_equating
@@ -99,6 +114,20 @@ leaf_on r o p u false n = none n
 -- the instance of the body of a function that recurs, to which a call leads
 abbrev pub open_closed : Setting → Inner → Mode → Stood → Symbol → Term → Term → By (Option Term)
 open_closed S r o p f u v n = cond (is_among term_eq u S.expand) (answered (r o (closing f p) v n)) (walk S r o p (closing f p) v false n)
+
+-- a linear rule at each atom, where the theory enables it; the rule at a place, where there is one; and those at places,
+-- one after another
+module _ (S : Setting) (r : Inner) (p : Stood) where
+  abbrev pub used : LinearRule → List Term → List Polynomial → By (List Polynomial)
+  used g xs ps n = cond (is_usable S.theory g) (at_atoms S r p g xs ps n) (answer ps n)
+
+  abbrev pub used_at : Option LinearRule → List Term → List Polynomial → By (List Polynomial)
+  used_at None xs ps n = answer ps n
+  used_at (Some g) xs ps n = used g xs ps n
+
+  abbrev pub used_each : List LinearRule → List ℕ → List Term → List Polynomial → By (List Polynomial)
+  used_each gs [] xs ps n = answer ps n
+  used_each gs (i ∷ is) xs ps n = after (used_at (slice_get gs i) xs ps n) (used_each gs is xs)
 
 -- the pairs that come of a hypothesis, and of all of a rule's
 abbrev pub pairs_of : Option Relieved → Option Pairs

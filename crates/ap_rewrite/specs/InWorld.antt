@@ -7,7 +7,7 @@ use Rattle.ap_world.specs.World.{Shown, function_of}
 use Rattle.ap_world.specs.Units.{Outcome, gives, metered}
 use Rattle.ap_world.specs.Typing.{types}
 use Rattle.ap_world.specs.Rules.{rules_in}
-use Rattle.ap_rewrite.specs.Arithmetic.{Arithmetic}
+use Rattle.ap_rewrite.specs.Arithmetic.{Arithmetic, arithmetic_in}
 use Rattle.ap_rewrite.specs.Settings.{Setting}
 
 -- the value that running gives, if it gives one
@@ -32,3 +32,7 @@ setting_in w h us l = record {
   types = types w;
   value = λ u. value_in (metered (function_of w.entries) u [] most_units);
 }
+
+-- the same with the world's own linear rules, those that the theory enables
+abbrev pub world_setting : Shown → Theory → List Term → Setting
+world_setting w h us = setting_in w h us (arithmetic_in w h)

@@ -14,7 +14,9 @@ use Rattle.ap_kernel.specs.Standing.{HasGround, Holds}
 use Rattle.ap_kernel.specs.Reductions.{KnownClause, Follows}
 use Rattle.ap_term.specs.Metered.{first_that}
 use Rattle.ap_rewrite.specs.Costs.{Metered}
-use Rattle.ap_rewrite.specs.Arithmetic.{LinearRule, Arithmetic, no_arithmetic, linear_arithmetic, LinearHolds, SoundArithmetic}
+use Rattle.ap_rules.specs.declared.linear.LinearRule.{LinearRule}
+use Rattle.ap_rules.specs.Linear.{LinearHolds}
+use Rattle.ap_rewrite.specs.Arithmetic.{Arithmetic, no_arithmetic, linear_arithmetic, arithmetic_in, SoundArithmetic}
 use Rattle.ap_rewrite.specs.Settings.{Setting, Place, Inner}
 use Rattle.ap_rewrite.specs.Rewriting.{try_rule, by_rules, rewrite_to}
 use Rattle.ap_rewrite.specs.Literals.{rewrite_literals, rewritten_to, simplify_of}
@@ -56,16 +58,20 @@ abbrev pub WorldIsSoundSetting : Type 0
 WorldIsSoundSetting = (w : Shown) (h : Theory) (us : List Term) (l : Arithmetic) → Sound w.entries → HasGround (function_of w.entries) → are_distinct w.entries ≡ true
     → SoundArithmetic l (function_of w.entries) → SoundSetting (setting_in w h us l)
 
--- arithmetic is right in a total world, that which decides nothing and that of polynomials
+-- arithmetic is right in a total world, that which decides nothing and that of polynomials; and that of a sound world
+-- by its own rules
 abbrev pub NothingIsSound : Type 0
 NothingIsSound = (D : Defs) → SoundArithmetic no_arithmetic D
 
 abbrev pub PolynomialsAreSound : Type 0
 PolynomialsAreSound = (D : Defs) → Total D → (gs : List LinearRule) → Each (LinearHolds D) gs → SoundArithmetic (linear_arithmetic gs) D
 
+abbrev pub WorldsIsSound : Type 0
+WorldsIsSound = (w : Shown) (h : Theory) → Sound w.entries → HasGround (function_of w.entries) → SoundArithmetic (arithmetic_in w h) (function_of w.entries)
+
 -- so what rewriting answers in such a world stands, with nothing else assumed
-abbrev pub InWorldStands : Arithmetic → Type 0
+abbrev pub InWorldStands : (Shown → Theory → Arithmetic) → Type 0
 InWorldStands l = (w : Shown) (h : Theory) (us : List Term) → Sound w.entries → HasGround (function_of w.entries) → are_distinct w.entries ≡ true
     → (d : ℕ) (o : Mode) (p : Place) (u : Term) (n : ℕ) (v : Term) (m : ℕ) → KnownFacts (function_of w.entries) p.facts → known (function_of w.entries) u ≡ true
-    → rewrite_to (setting_in w h us l) d o p u n ≡ Some (v, m)
+    → rewrite_to (setting_in w h us (l w h)) d o p u n ≡ Some (v, m)
     → Holds (function_of w.entries) (record { ctx = record { 0 = p.facts }; mode = o; lhs = u; rhs = v })

@@ -12,7 +12,7 @@ use Rattle.ap_kernel.specs.declared.objects.Mode.{Mode}
 use Rattle.ap_kernel.specs.declared.objects.Mode.TheVariants.{Equal, Iff}
 use Rattle.ap_kernel.specs.declared.objects.Sequent.{Sequent}
 use Rattle.ap_kernel.specs.declared.objects.Equiv.{Equiv}
-use Rattle.ap_rewrite.specs.Arithmetic.{no_arithmetic, linear_arithmetic}
+use Rattle.ap_rewrite.specs.Arithmetic.{no_arithmetic}
 use Rattle.ap_rewrite.specs.Settings.{Setting}
 use Rattle.ap_kernel.specs.Opening.{is_constant_call}
 use Rattle.ap_rewrite.specs.InWorld.{setting_in}
@@ -35,10 +35,6 @@ Serves Iff o = o ≡ Iff
 -- running gives, is the same in every setting of the world and the theory
 abbrev pub plain_in : Shown → Theory → Setting
 plain_in w h = setting_in w h [] no_arithmetic
-
--- the same with linear arithmetic, without rules
-abbrev pub linear_in : Shown → Setting
-linear_in w = setting_in w w.theory [] (linear_arithmetic [])
 
 -- what running a call of this head gives: the words of `run`, of a call as a whole
 abbrev pub run_by : Shown → Theory → Mode → Symbol → Term → Option Term

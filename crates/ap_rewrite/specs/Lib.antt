@@ -1,5 +1,6 @@
 pub mod Costs
 pub mod Arithmetic
+pub mod Refuting
 pub mod Settings
 pub mod Relieving
 pub mod Linear

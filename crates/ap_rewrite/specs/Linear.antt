@@ -7,14 +7,14 @@ use Rattle.ap_term.specs.Terms.{subst_of}
 use Rattle.ap_world.specs.declared.primitive.Primitive.{Primitive as Prim}
 use Rattle.ap_world.specs.declared.primitive.Primitive.TheVariants as prim
 use Rattle.ap_world.specs.Primitives.{prim_of}
-use Rattle.ap_world.specs.Names.{less_name}
 use Rattle.ap_world.specs.Facts.{Facts}
 use Rattle.ap_kernel.specs.Equations.{truth_constant}
+use Rattle.ap_kernel.specs.Linear.{less_of}
 use Rattle.ap_term.specs.Metered.{By, known, after}
 use Rattle.ap_term.specs.Matching.{Pairs, matched}
 use Rattle.ap_poly.specs.Polynomials.{Polynomial}
 use Rattle.ap_poly.specs.Bounds.{lacks}
-use Rattle.ap_rewrite.specs.Arithmetic.{LinearRule}
+use Rattle.ap_rules.specs.declared.linear.LinearRule.{LinearRule}
 use Rattle.ap_rewrite.specs.Settings.{Setting, Place, Inner}
 use Rattle.ap_rewrite.specs.Relieving.{relieve}
 
@@ -28,9 +28,6 @@ or_refuted u s false n = known None n
 abbrev pub then_refuted : Bool → By (Option Term) → By (Option Term)
 then_refuted true k = known (Some (truth_constant true))
 then_refuted false k = k
-
-abbrev pub less_of : Term → Term → Term
-less_of a b = Call less_name (a ∷ b ∷ [])
 
 -- both orders are refuted, the second tried only where the first is
 abbrev pub if_refuted : Bool → By Bool → By Bool
@@ -77,18 +74,28 @@ module _ (S : Setting) where
     abbrev pub refuted : Term → Bool → By Bool
     refuted u s n = from_given (given p.facts u s) (S.arithmetic.atoms_of (given p.facts u s)) n
 
+    -- 'NIL where a term is refuted
+    abbrev pub by_truth : Term → By (Option Term)
+    by_truth u n = after (refuted u true n) (or_refuted u true)
+
     -- (< a b): 'T where its negation is refuted, else 'NIL where it is
     abbrev pub by_less : Term → By (Option Term)
-    by_less u n = after (refuted u false n) (λ b. then_refuted b (λ n. after (refuted u true n) (or_refuted u true)))
+    by_less u n = after (refuted u false n) (λ b. then_refuted b (by_truth u))
 
+    -- neither of two terms is less
+    abbrev pub by_orders : Term → Term → By Bool
+    by_orders a b n = after (refuted (less_of a b) true n) (λ c. if_refuted c (refuted (less_of b a) true))
+
+    -- (equal a b): 'T where neither is less, else 'NIL where it is refuted
     abbrev pub by_equal : Term → Term → Term → By (Option Term)
-    by_equal u a b n =
-        after (after (refuted (less_of a b) true n) (λ c. if_refuted c (refuted (less_of b a) true))) (λ c.
-        then_refuted c (λ n. after (refuted u true n) (or_refuted u true)))
+    by_equal u a b n = after (by_orders a b n) (λ c. then_refuted c (by_truth u))
+
+    abbrev pub by_equation : Term → Term → Term → By (Option Term)
+    by_equation u a b n = cond (are_integers p.facts a b) (by_equal u a b n) (known None n)
 
     abbrev pub by_pair : Term → Option Prim → Term → Term → By (Option Term)
     by_pair u (Some prim.Less) a b n = by_less u n
-    by_pair u (Some prim.Equal) a b n = cond (are_integers p.facts a b) (by_equal u a b n) (known None n)
+    by_pair u (Some prim.Equal) a b n = by_equation u a b n
     by_pair u o a b n = known None n
 
     -- what is tried on a call between 4c's equations and the rules

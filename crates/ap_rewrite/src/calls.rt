@@ -15,7 +15,9 @@ use crate::rewriter::{Level, Place, Rewriter, Run, deeper};
 use crate::rows::follow;
 use crate::settling::in_mode;
 use crate::trying::tried;
-use ap_kernel::{Ctx, Equiv, Mode, NoMemory, Seq, Symbol, Term, TypeOracle, cong};
+use ap_kernel::{
+    Ctx, Equiv, LinearOracle, Mode, NoMemory, Seq, Symbol, Term, TypeOracle, cong,
+};
 
 /// The arguments of a call, from left to right, under equality.
 fn rewrite_args<
@@ -87,7 +89,7 @@ fn followed<O: TypeOracle>(
 
 /// A call that is no `if` and no negation.
 pub fn rewrite_call<
-    O: TypeOracle,
+    O: TypeOracle + LinearOracle,
     F: Fn(&mut Run, Mode, &Place<'_>, &Term) -> Result<Option<Equiv>, NoMemory>,
 >(
     l: &Level<'_, '_, O, F>,

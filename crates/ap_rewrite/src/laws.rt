@@ -1,7 +1,6 @@
 //! What is proved of rewriting, each the contract of a function that does nothing.
-ghost use Rattle.std.specs.Prelude.{[]};
-ghost use Rattle.ap_rewrite.specs.Arithmetic.{no_arithmetic, linear_arithmetic};
-ghost use Rattle.ap_rewrite.specs.Laws.{RewritingIsMetered, LiteralsAreMetered, SearchByHead, RewritingStands, LiteralsReduce, SimplifyingReduces, WorldIsSoundSetting, NothingIsSound, PolynomialsAreSound, InWorldStands};
+ghost use Rattle.ap_rewrite.specs.Arithmetic.{no_arithmetic, arithmetic_in};
+ghost use Rattle.ap_rewrite.specs.Laws.{RewritingIsMetered, LiteralsAreMetered, SearchByHead, RewritingStands, LiteralsReduce, SimplifyingReduces, WorldIsSoundSetting, NothingIsSound, PolynomialsAreSound, WorldsIsSound, InWorldStands};
 
 /// What a rewriting costs doesn't depend on the steps that are left: with more steps it is the same, with fewer
 /// than it costs it runs out. So it is for a term, and for the literals of a clause.
@@ -32,17 +31,18 @@ pub fn simplifying_reduces()
 {}
 
 /// Arithmetic that decides nothing is right, and so is that of polynomials in a total world, by linear rules that
-/// hold.
+/// hold, and in a sound world by its own rules that a theory enables.
 pub fn arithmetic_is_sound()
     ensures nothing { NothingIsSound }
     ensures polynomials { PolynomialsAreSound }
+    ensures world { WorldsIsSound }
 {}
 
 /// In a sound world with the ground functions, whose names are distinct, the world's own rules, definitions and
 /// masks, and the values that running gives, are right: so what rewriting answers there stands, with nothing else
-/// assumed, without arithmetic and with that of polynomials.
+/// assumed, without arithmetic and with that of polynomials, by the world's own linear rules.
 pub fn in_world_stands()
     ensures setting { WorldIsSoundSetting }
-    ensures plain { InWorldStands no_arithmetic }
-    ensures linear { InWorldStands (linear_arithmetic []) }
+    ensures plain { InWorldStands (λ w h. no_arithmetic) }
+    ensures linear { InWorldStands arithmetic_in }
 {}

@@ -7,6 +7,7 @@
 mod bounding;
 mod branching;
 mod calls;
+mod deciding;
 mod equating;
 mod facts;
 pub mod laws;
@@ -24,6 +25,7 @@ mod shaping;
 mod simplifying;
 mod testing;
 mod trying;
+mod using;
 
 pub use literals::literal;
 pub use rewriter::{Place, Rewriter, Run};

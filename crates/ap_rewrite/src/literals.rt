@@ -6,24 +6,23 @@ ghost use Rattle.ap_world.specs.World.{function_of};
 ghost use Rattle.ap_rules.specs.Index.{IsIndex};
 ghost use Rattle.ap_kernel.specs.Standing.{HasGround};
 ghost use Rattle.ap_kernel.specs.declared.objects.Mode.TheVariants.{Iff};
-ghost use Rattle.ap_rewrite.specs.Arithmetic.{no_arithmetic};
-ghost use Rattle.ap_rewrite.specs.InWorld.{setting_in};
+ghost use Rattle.ap_rewrite.specs.InWorld.{world_setting};
 ghost use Rattle.ap_rewrite.specs.Rewriting.{rewrite_of};
 ghost use Rattle.ap_rewrite.specs.Answering.{got, From};
 
 use crate::rewriter::{Place, Rewriter, Run};
 use crate::rewriting::rewrite;
-use ap_kernel::{Ctx, Equiv, Mode, NoMemory, Seq, Term, TypeOracle, World};
+use ap_kernel::{Ctx, Equiv, LinearOracle, Mode, NoMemory, Seq, Term, TypeOracle, World};
 use ap_rules::RuleIndex;
 use ap_term::Steps;
 use ap_world::Theory;
 use std::alloc::Global;
 
-/// What a literal is rewritten to under facts, under `iff`: with the rules of the world that the theory enables, the
-/// definitions that it enables, the calls that are to be opened, and the types that the oracle tells. Each term that
-/// is rewritten spends a step, and none is 200 levels deep. `None` exactly where the steps run out. The only error is
+/// What a literal is rewritten to under facts, under `iff`: with the rules of the world that the theory enables, linear
+/// ones among them, the definitions that it enables, the calls that are to be opened, and the types and the
+/// certificates of linear arithmetic that the oracle tells. Each term that is rewritten spends a step, and none is 200 levels deep. `None` exactly where the steps run out. The only error is
 /// want of memory. See the manual's topic `rewrite`.
-pub fn literal<O: TypeOracle>(
+pub fn literal<O: TypeOracle + LinearOracle>(
     alloc: Global,
     w: &World,
     rules: &RuleIndex,
@@ -38,7 +37,7 @@ pub fn literal<O: TypeOracle>(
     requires index { IsIndex rules.now w.now.entries }
     requires facts { KnownFacts (function_of w.now.entries) ctx.now.0 }
     requires term { IsTrue (known (function_of w.now.entries) t.now) }
-    ensures is { IfOk result (λ o. got o steps.new.left ≡ rewrite_of (setting_in w.now theory.now expand.now no_arithmetic) Iff (record { facts = ctx.now.0; closed = []; chain = 0 }) t.now steps.old.left) }
+    ensures is { IfOk result (λ o. got o steps.new.left ≡ rewrite_of (world_setting w.now theory.now expand.now) Iff (record { facts = ctx.now.0; closed = []; chain = 0 }) t.now steps.old.left) }
     ensures from { IfOk result (λ o. IfSome o (From w.now Iff ctx.now t.now)) }
 {
     let r = Rewriter {

@@ -20,7 +20,7 @@ use std::alloc::Global;
 
 /// From a comparison to the truth that its sign denies, where the first 32 of the polynomials, which hold wherever
 /// the facts hold and it has that sign, can't all hold: the oracle finds a certificate.
-pub fn refuted<L: LinearOracle>(
+pub(crate) fn refute<L: LinearOracle>(
     alloc: Global,
     w: &World,
     linear: &L,
@@ -46,7 +46,7 @@ pub fn refuted<L: LinearOracle>(
 }
 
 /// The polynomials with those of an instance of a linear rule's conclusion behind them.
-pub fn with_instance(
+pub(crate) fn with_instance(
     alloc: Global,
     polys: Seq<Poly>,
     conclusion: &Term,

@@ -11,11 +11,11 @@ use crate::branching::{rewrite_if, rewrite_not};
 use crate::calls::rewrite_call;
 use crate::rewriter::{Level, Place, Rewriter, Run};
 use crate::rows::{as_constant, settled_by_type, stay};
-use ap_kernel::{Equiv, Mode, NoMemory, ShapeRef, Term, TypeOracle, shape_of};
+use ap_kernel::{Equiv, LinearOracle, Mode, NoMemory, ShapeRef, Term, TypeOracle, shape_of};
 
 /// A variable, a constant, or a call that is no `if` and no negation.
 fn rewrite_parts<
-    O: TypeOracle,
+    O: TypeOracle + LinearOracle,
     F: Fn(&mut Run, Mode, &Place<'_>, &Term) -> Result<Option<Equiv>, NoMemory>,
 >(
     l: &Level<'_, '_, O, F>,
@@ -45,7 +45,7 @@ fn rewrite_parts<
 
 /// A term by what it is.
 fn rewrite_shape<
-    O: TypeOracle,
+    O: TypeOracle + LinearOracle,
     F: Fn(&mut Run, Mode, &Place<'_>, &Term) -> Result<Option<Equiv>, NoMemory>,
 >(
     l: &Level<'_, '_, O, F>,
@@ -69,7 +69,7 @@ fn rewrite_shape<
 
 /// A term with so many levels left: a step is spent first. `None` where the steps run out.
 #[cycle(rewriting)]
-pub fn rewrite<O: TypeOracle>(
+pub fn rewrite<O: TypeOracle + LinearOracle>(
     r: &Rewriter<'_, O>,
     run: &mut Run,
     levels: u32,

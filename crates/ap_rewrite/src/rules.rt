@@ -108,7 +108,7 @@ fn relieve_one<
 }
 
 /// The hypotheses from left to right, each only where fewer than ten are being relieved around it.
-fn relieve<
+pub(crate) fn relieve<
     O: TypeOracle,
     F: Fn(&mut Run, Mode, &Place<'_>, &Term) -> Result<Option<Equiv>, NoMemory>,
 >(

@@ -15,7 +15,7 @@ use crate::literals::literal;
 use crate::rewriter::Rewriter;
 use ap_clausify::split;
 use ap_kernel::{
-    Mode, NoMemory, Reduction, Seq, TypeOracle, World, chain, is_constant, others_false, refl,
+    LinearOracle, Mode, NoMemory, Reduction, Seq, TypeOracle, World, chain, is_constant, others_false, refl,
     rewrite_literal, tidy,
 };
 use ap_term::{Clause, Steps, copy_terms};
@@ -62,7 +62,7 @@ fn first_left(alloc: Global, q: &Reduction) -> Result<Clause, NoMemory>
 
 /// From a clause to the one whose literal at a place is rewritten while the others are assumed false. `None` where
 /// the steps run out.
-fn at_place<O: TypeOracle>(
+fn at_place<O: TypeOracle + LinearOracle>(
     r: &Rewriter<'_, O>,
     steps: &mut Steps,
     c: Clause,
@@ -87,7 +87,7 @@ fn at_place<O: TypeOracle>(
 }
 
 /// The literal at a place of the clause that is left so far is rewritten. `None` where the steps run out.
-fn advance<O: TypeOracle>(
+fn advance<O: TypeOracle + LinearOracle>(
     r: &Rewriter<'_, O>,
     steps: &mut Steps,
     so_far: Reduction,
@@ -133,7 +133,7 @@ fn close(alloc: Global, w: &World, q: Reduction) -> Result<Reduction, NoMemory>
 
 /// From a clause to the one in which each literal, from left to right, is rewritten while the others are assumed
 /// false; to none where one becomes a constant other than `nil`. `None` where the steps run out.
-fn rewrite_literals<O: TypeOracle>(
+fn rewrite_literals<O: TypeOracle + LinearOracle>(
     r: &Rewriter<'_, O>,
     steps: &mut Steps,
     c: Clause,
@@ -185,7 +185,7 @@ fn split_left(
 /// What the literals of a clause are rewritten to, from left to right, each while the others are assumed false; what
 /// is left is then split, by the steps that are left. `None` exactly where the steps run out. The only error is want
 /// of memory. See the manual's topic `rewrite`.
-pub fn simplify<O: TypeOracle>(
+pub fn simplify<O: TypeOracle + LinearOracle>(
     r: &Rewriter<'_, O>,
     steps: &mut Steps,
     c: Clause,

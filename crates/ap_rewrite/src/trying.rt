@@ -6,15 +6,16 @@ ghost use Rattle.ap_term.specs.Metered.{first_that};
 ghost use Rattle.ap_world.specs.Facts.{KnownFacts};
 ghost use Rattle.ap_world.specs.Sound.{known};
 ghost use Rattle.ap_rewrite.specs.Rewriting.{led, equate, tried};
-ghost use Rattle.ap_rewrite.specs.Answering.{defs_in, setting_of, inner_of, seen_at, got_any, from_settling, from_equating, from_rules, by_opening, From, IsLevel};
+ghost use Rattle.ap_rewrite.specs.Answering.{defs_in, setting_of, inner_of, seen_at, got_any, from_settling, from_equating, from_arithmetic, from_rules, From, IsLevel};
 
 use crate::branching::go_on;
+use crate::deciding::by_arithmetic;
 use crate::equating::is_quoted;
 use crate::opening::by_definition;
 use crate::rewriter::{Level, Place, Run};
 use crate::rows::{equates, ran, settles};
 use crate::rules::by_rules;
-use ap_kernel::{Equiv, Mode, NoMemory, Symbol, Term, TypeOracle};
+use ap_kernel::{Equiv, LinearOracle, Mode, NoMemory, Symbol, Term, TypeOracle};
 
 /// Where an equation leads: that is the answer where it is a constant, and else it is rewritten in its turn.
 fn lead<O: TypeOracle, F: Fn(&mut Run, Mode, &Place<'_>, &Term) -> Result<Option<Equiv>, NoMemory>>(
@@ -70,8 +71,8 @@ fn equate<
     }
 }
 
-/// What is tried after equations: rules, and then the definition.
-fn after_equating<
+/// What is tried after arithmetic: rules, and then the definition.
+fn after_arithmetic<
     O: TypeOracle,
     F: Fn(&mut Run, Mode, &Place<'_>, &Term) -> Result<Option<Equiv>, NoMemory>,
 >(
@@ -97,9 +98,36 @@ fn after_equating<
     }
 }
 
+/// What is tried after equations: arithmetic, and then rules and the definition.
+fn after_equating<
+    O: TypeOracle + LinearOracle,
+    F: Fn(&mut Run, Mode, &Place<'_>, &Term) -> Result<Option<Equiv>, NoMemory>,
+>(
+    l: &Level<'_, '_, O, F>,
+    run: &mut Run,
+    mode: Mode,
+    at: &Place<'_>,
+    t: &Term,
+    f: &Symbol,
+    us: &[Term],
+) -> Result<Option<Option<Equiv>>, NoMemory>
+    requires level { IsLevel (F.pre l.now.below.now) (F.post l.now.below.now) l.now.r.now l.now.levels }
+    requires facts { KnownFacts (defs_in l.now.r.now) at.now.ctx.now.0 }
+    requires term { IsTrue (known (defs_in l.now.r.now) t.now) }
+    requires call { t.now ≡ Call f.now us.now }
+    ensures is { IfOk result (λ o. got_any o run.new.left ≡ first_that (from_arithmetic (setting_of l.now.r.now) (inner_of l.now.r.now l.now.levels) mode (seen_at at.now) f.now us.now) run.old.left) }
+    ensures from { IfOk result (λ o. IfSome o (λ a. IfSome a (From l.now.r.now.w.now mode at.now.ctx.now t.now))) }
+{
+    match by_arithmetic(l, run, mode, at, t, f, us)? {
+        None => Ok(None),
+        Some(Some(q)) => Ok(Some(Some(q))),
+        Some(None) => after_arithmetic(l, run, mode, at, t, f, us),
+    }
+}
+
 /// What is tried after settling: equations, and so on.
 fn after_settling<
-    O: TypeOracle,
+    O: TypeOracle + LinearOracle,
     F: Fn(&mut Run, Mode, &Place<'_>, &Term) -> Result<Option<Equiv>, NoMemory>,
 >(
     l: &Level<'_, '_, O, F>,
@@ -126,7 +154,7 @@ fn after_settling<
 
 /// What is tried after running: settling, and so on.
 fn after_running<
-    O: TypeOracle,
+    O: TypeOracle + LinearOracle,
     F: Fn(&mut Run, Mode, &Place<'_>, &Term) -> Result<Option<Equiv>, NoMemory>,
 >(
     l: &Level<'_, '_, O, F>,
@@ -150,10 +178,10 @@ fn after_running<
     }
 }
 
-/// What is tried on a call: running it, settling it by its type, leading an equation on, rules, its definition; the
-/// first that applies.
+/// What is tried on a call: running it, settling it by its type, leading an equation on, linear arithmetic, rules, its
+/// definition; the first that applies.
 pub fn tried<
-    O: TypeOracle,
+    O: TypeOracle + LinearOracle,
     F: Fn(&mut Run, Mode, &Place<'_>, &Term) -> Result<Option<Equiv>, NoMemory>,
 >(
     l: &Level<'_, '_, O, F>,

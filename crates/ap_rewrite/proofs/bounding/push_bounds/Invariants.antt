@@ -1,8 +1,8 @@
 use Rattle.std.proofs.Common.{◌≡◌, ◌++◌, drop}
-use Rattle.ap_rewrite.specs.Leading.{linear_in}
+use Rattle.ap_rewrite.specs.Answering.{setting_of}
 use Rattle.ap_rewrite.specs.Linear.{bounds}
 use Rattle.ap_rewrite.proofs.bounding.push_bounds.Given as goal
 
 -- the polynomials so far and what the masks say of the atoms that are left
 abbrev pub invariant-loop-x : goal.invariant-loop-x
-invariant-loop-x g l = l.polys ++ bounds (linear_in l.w) l.ctx.0 (drop l.x-index l.atoms) ≡ l.fn.polys ++ bounds (linear_in l.w) l.ctx.0 l.atoms
+invariant-loop-x g l = l.polys ++ bounds (setting_of l.r) l.ctx.0 (drop l.x-index l.atoms) ≡ l.fn.polys ++ bounds (setting_of l.r) l.ctx.0 l.atoms

@@ -2,7 +2,7 @@ use Rattle.std.proofs.Common.{sym, subst}
 use Rattle.ap_world.specs.World.{function_of}
 use Rattle.ap_kernel.specs.Linear.{PolysHold}
 use Rattle.ap_rewrite.proofs.Bounded.{first_hold}
-use Rattle.ap_rewrite.proofs.refuting.refuted.Goals as goal
+use Rattle.ap_rewrite.proofs.refuting.refute.Goals as goal
 
 pub by_certificate-requires-clause-polys : goal.by_certificate-requires-clause-polys
 by_certificate-requires-clause-polys g c =
