@@ -14,9 +14,11 @@ use Rattle.ap_rules.specs.declared.rule.RewriteRule.{RewriteRule}
 use Rattle.ap_rules.specs.Made.{rule_in}
 use Rattle.ap_rules.specs.Grouped.{Table, group_at, with_first, without_first}
 use Rattle.ap_rules.specs.Indexed.{kept, may_begin, rules_for}
-use Rattle.ap_rules.specs.declared.table.RuleIndex.{RuleIndex}
+use Rattle.ap_rules.specs.declared.carrying.Carrier.{Carrier}
+use Rattle.ap_rules.specs.declared.linear.LinearRule.{LinearRule}
+use Rattle.ap_rules.specs.Linear.{linear_in_entry, all_linear}
 use Rattle.ap_rules.specs.Index.{IsIndex}
-use Rattle.ap_rules.specs.Carried.{Has, head_in, Keeps, all_rules, starts_from, Carried}
+use Rattle.ap_rules.specs.Carried.{Has, head_in, Keeps, all_of, all_rules, starts_from, RewritesCarried, LinearCarried, Carried}
 
 -- what holds anyhow holds on an error
 pub on_err_by : {T E : Type 0} {Q : Type 0} (r : Result T E) → Q → OnErr r Q
@@ -195,81 +197,111 @@ pub world_rules : (W : List Entry) → rules_in W ≡ newest_first (all_rules W)
 world_rules [] = refl
 world_rules (y ∷ W) = ap (λ rs. rs ++ newest_first (rules_in_entry y)) (world_rules W) ∙ sym (newest_append (rules_in_entry y) (all_rules W))
 
-pub all_end : (W : List Entry) (y : Entry) → all_rules (W ++ y ∷ []) ≡ all_rules W ++ rules_in_entry y
-all_end [] y = append-nil (rules_in_entry y)
-all_end (z ∷ W) y = ap (λ rs. rules_in_entry z ++ rs) (all_end W y) ∙ sym (append_assoc (rules_in_entry z) (all_rules W) (rules_in_entry y))
+-- what entries give, and where it starts
+module _ {G : Type 0} (give : Entry → List G) where
+  pub all_end : (W : List Entry) (y : Entry) → all_of give (W ++ y ∷ []) ≡ all_of give W ++ give y
+  all_end [] y = append-nil (give y)
+  all_end (z ∷ W) y = ap (λ gs. give z ++ gs) (all_end W y) ∙ sym (append_assoc (give z) (all_of give W) (give y))
 
--- the rules of an entry that is added come before those of the world
-pub world_more : (W : List Entry) (y : Entry) → rules_in (W ++ y ∷ []) ≡ newest_first (rules_in_entry y) ++ rules_in W
-world_more W y =
-    world_rules (W ++ y ∷ []) ∙ ap newest_first (all_end W y) ∙ newest_append (all_rules W) (rules_in_entry y)
-    ∙ ap (λ rs. newest_first (rules_in_entry y) ++ rs) (sym (world_rules W))
+  pub starts_end : (n : ℕ) (W : List Entry) (y : Entry) → starts_from give n (W ++ y ∷ []) ≡ starts_from give n W ++ (n + length (all_of give W)) ∷ []
+  starts_end n [] y = ap (λ k. k ∷ []) (omega arith)
+  starts_end n (z ∷ W) y =
+      let sum : (n + length (give z)) + length (all_of give W) ≡ n + length (give z ++ all_of give W) = omega (arith, length-append (give z) (all_of give W)) in
+      ap (λ ks. n ∷ ks) (starts_end (n + length (give z)) W y ∙ ap (λ k. starts_from give (n + length (give z)) W ++ k ∷ []) sum)
 
-pub starts_end : (n : ℕ) (W : List Entry) (y : Entry) → starts_from n (W ++ y ∷ []) ≡ starts_from n W ++ (n + length (all_rules W)) ∷ []
-starts_end n [] y = ap (λ k. k ∷ []) (omega arith)
-starts_end n (z ∷ W) y =
-    let sum : (n + length (rules_in_entry z)) + length (all_rules W) ≡ n + length (rules_in_entry z ++ all_rules W) = omega (arith, length-append (rules_in_entry z) (all_rules W)) in
-    ap (λ ks. n ∷ ks) (starts_end (n + length (rules_in_entry z)) W y ∙ ap (λ k. starts_from (n + length (rules_in_entry z)) W ++ k ∷ []) sum)
+  -- where what the entries from a place on give starts
+  pub start_at : (n k i : ℕ) (W : List Entry) → slice_get (starts_from give n W) k ≡ Some i → i ≡ n + length (all_of give (take k W))
+  start_at n k i [] e = absurd (cc e)
+  start_at n zero i (y ∷ W) e = let same : n ≡ i = cc in sym same ∙ omega arith
+  start_at n (suc k) i (y ∷ W) e =
+      start_at (n + length (give y)) k i W e ∙ omega (arith, length-append (give y) (all_of give (take k W)))
 
--- with one entry more
-pub carried_more : (W : List Entry) (y : Entry) (old new : Table) (hs more : List Symbol) (ks ls : List ℕ) (gs : List RewriteRule)
+  rest_of : (k : ℕ) (W : List Entry) → (R : List G) × (all_of give W ≡ all_of give (take k W) ++ R)
+  rest_of zero W = (all_of give W, refl)
+  rest_of (suc k) [] = ([], refl)
+  rest_of (suc k) (y ∷ W) =
+      let (R, is) = rest_of k W in
+      (R, ap (λ gs. give y ++ gs) is ∙ sym (append_assoc (give y) (all_of give (take k W)) R))
+
+  pub first_given : (k : ℕ) (W : List Entry) → take (length (all_of give (take k W))) (all_of give W) ≡ all_of give (take k W)
+  first_given k W = let (R, is) = rest_of k W in ap (take (length (all_of give (take k W)))) is ∙ take_front (all_of give (take k W)) R
+
+  pub first_starts : (n k : ℕ) (W : List Entry) → take k (starts_from give n W) ≡ starts_from give n (take k W)
+  first_starts n zero W = refl
+  first_starts n (suc k) [] = refl
+  first_starts n (suc k) (y ∷ W) = ap (λ ks. n ∷ ks) (first_starts (n + length (give y)) k W)
+
+  pub no_more : (n k : ℕ) (W : List Entry) → slice_get (starts_from give n W) k ≡ None → take k W ≡ W
+  no_more n zero [] e = refl
+  no_more n (suc k) [] e = refl
+  no_more n zero (y ∷ W) e = absurd (cc e)
+  no_more n (suc k) (y ∷ W) e = ap (λ ys. y ∷ ys) (no_more (n + length (give y)) k W e)
+
+-- the rewrite rules with one entry more
+pub rewrites_more : (W : List Entry) (y : Entry) (old new : Table) (hs more : List Symbol) (ks ls : List ℕ) (gs : List RewriteRule)
     → map rule_in gs ≡ rules_in_entry y → ls ≡ ks ++ length hs ∷ []
     → ((rs : List Rule) → Keeps old hs rs → Keeps new more (rs ++ map rule_in gs))
-    → Carried W old hs ks → Carried (W ++ y ∷ []) new more ls
-carried_more W y old new hs more ks ls gs made started added c = record {
-  keeps = subst (Keeps new more) (ap (λ rs. all_rules W ++ rs) made ∙ sym (all_end W y)) (added (all_rules W) c.keeps);
-  started = started ∙ ap (λ l. l ++ length hs ∷ []) c.started ∙ ap (λ k. starts_from 0 W ++ k ∷ []) count ∙ sym (starts_end 0 W y);
+    → RewritesCarried W old hs ks → RewritesCarried (W ++ y ∷ []) new more ls
+rewrites_more W y old new hs more ks ls gs made started added c = record {
+  keeps = subst (Keeps new more) (ap (λ rs. all_rules W ++ rs) made ∙ sym (all_end rules_in_entry W y)) (added (all_rules W) c.keeps);
+  started = started ∙ ap (λ l. l ++ length hs ∷ []) c.started ∙ ap (λ k. starts_from rules_in_entry 0 W ++ k ∷ []) count ∙ sym (starts_end rules_in_entry 0 W y);
 }
   where
     count : length hs ≡ 0 + length (all_rules W)
     count = as_many old hs (all_rules W) c.keeps ∙ omega arith
 
--- where the rules of the entries from a place on start
-start_at : (n k i : ℕ) (W : List Entry) → slice_get (starts_from n W) k ≡ Some i → i ≡ n + length (all_rules (take k W))
-start_at n k i [] e = absurd (cc e)
-start_at n zero i (y ∷ W) e = let same : n ≡ i = cc in sym same ∙ omega arith
-start_at n (suc k) i (y ∷ W) e =
-    start_at (n + length (rules_in_entry y)) k i W e ∙ omega (arith, length-append (rules_in_entry y) (all_rules (take k W)))
-
-rest_of : (k : ℕ) (W : List Entry) → (R : List Rule) × (all_rules W ≡ all_rules (take k W) ++ R)
-rest_of zero W = (all_rules W, refl)
-rest_of (suc k) [] = ([], refl)
-rest_of (suc k) (y ∷ W) =
-    let (R, is) = rest_of k W in
-    (R, ap (λ rs. rules_in_entry y ++ rs) is ∙ sym (append_assoc (rules_in_entry y) (all_rules (take k W)) R))
-
-first_rules : (k : ℕ) (W : List Entry) → take (length (all_rules (take k W))) (all_rules W) ≡ all_rules (take k W)
-first_rules k W = let (R, is) = rest_of k W in ap (take (length (all_rules (take k W)))) is ∙ take_front (all_rules (take k W)) R
-
-first_starts : (n k : ℕ) (W : List Entry) → take k (starts_from n W) ≡ starts_from n (take k W)
-first_starts n zero W = refl
-first_starts n (suc k) [] = refl
-first_starts n (suc k) (y ∷ W) = ap (λ ks. n ∷ ks) (first_starts (n + length (rules_in_entry y)) k W)
-
-no_more : (n k : ℕ) (W : List Entry) → slice_get (starts_from n W) k ≡ None → take k W ≡ W
-no_more n zero [] e = refl
-no_more n (suc k) [] e = refl
-no_more n zero (y ∷ W) e = absurd (cc e)
-no_more n (suc k) (y ∷ W) e = ap (λ ys. y ∷ ys) (no_more (n + length (rules_in_entry y)) k W e)
-
 -- with the first entries alone
-pub carried_less : (W : List Entry) (k i : ℕ) (old new : Table) (hs fewer : List Symbol) (ks ls : List ℕ)
+pub rewrites_less : (W : List Entry) (k i : ℕ) (old new : Table) (hs fewer : List Symbol) (ks ls : List ℕ)
     → slice_get ks k ≡ Some i → ls ≡ take k ks → ((rs : List Rule) → Keeps old hs rs → Keeps new fewer (take i rs))
-    → Carried W old hs ks → Carried (take k W) new fewer ls
-carried_less W k i old new hs fewer ks ls there cut kept c = record {
-  keeps = subst (Keeps new fewer) (ap (λ n. take n (all_rules W)) at ∙ first_rules k W) (kept (all_rules W) c.keeps);
-  started = cut ∙ ap (take k) c.started ∙ first_starts 0 k W;
+    → RewritesCarried W old hs ks → RewritesCarried (take k W) new fewer ls
+rewrites_less W k i old new hs fewer ks ls there cut kept c = record {
+  keeps = subst (Keeps new fewer) (ap (λ n. take n (all_rules W)) at ∙ first_given rules_in_entry k W) (kept (all_rules W) c.keeps);
+  started = cut ∙ ap (take k) c.started ∙ first_starts rules_in_entry 0 k W;
 }
   where
     at : i ≡ length (all_rules (take k W))
-    at = start_at 0 k i W (ap (λ l. slice_get l k) (sym c.started) ∙ there) ∙ omega arith
+    at = start_at rules_in_entry 0 k i W (ap (λ l. slice_get l k) (sym c.started) ∙ there) ∙ omega arith
 
-pub carried_all : (W : List Entry) (k : ℕ) (table : Table) (hs : List Symbol) (ks : List ℕ) → slice_get ks k ≡ None → Carried W table hs ks → Carried (take k W) table hs ks
-carried_all W k table hs ks none c = subst (λ X. Carried X table hs ks) (sym (no_more 0 k W (ap (λ l. slice_get l k) (sym c.started) ∙ none))) c
+pub rewrites_all : (W : List Entry) (k : ℕ) (table : Table) (hs : List Symbol) (ks : List ℕ) → slice_get ks k ≡ None → RewritesCarried W table hs ks → RewritesCarried (take k W) table hs ks
+rewrites_all W k table hs ks none c = subst (λ X. RewritesCarried X table hs ks) (sym (no_more rules_in_entry 0 k W (ap (λ l. slice_get l k) (sym c.started) ∙ none))) c
 
-pub carried_none : Carried [] [] [] []
-carried_none = record { keeps = record { has = λ f. refl; headed = refl }; started = refl }
+-- the linear rules are what the entries give
+linear_is : (W : List Entry) → all_linear W ≡ all_of linear_in_entry W
+linear_is [] = refl
+linear_is (y ∷ W) = ap (λ gs. linear_in_entry y ++ gs) (linear_is W)
 
--- the table of a world's rules is its index
-pub is_index : (W : List Entry) (ix : RuleIndex) (hs : List Symbol) (ks : List ℕ) → Carried W ix.groups hs ks → IsIndex ix W
-is_index W ix hs ks c = λ f. c.keeps.has f ∙ ap (rules_for f) (sym (world_rules W))
+pub linear_more : (W : List Entry) (y : Entry) (old new : List LinearRule) (ks ls : List ℕ) → new ≡ old ++ linear_in_entry y → ls ≡ ks ++ length old ∷ []
+    → LinearCarried W old ks → LinearCarried (W ++ y ∷ []) new ls
+linear_more W y old new ks ls added started c = record {
+  all = added ∙ ap (λ gs. gs ++ linear_in_entry y) is ∙ sym (all_end linear_in_entry W y) ∙ sym (linear_is (W ++ y ∷ []));
+  started = started ∙ ap (λ l. l ++ length old ∷ []) c.started ∙ ap (λ k. starts_from linear_in_entry 0 W ++ k ∷ []) count ∙ sym (starts_end linear_in_entry 0 W y);
+}
+  where
+    is : old ≡ all_of linear_in_entry W
+    is = c.all ∙ linear_is W
+
+    count : length old ≡ 0 + length (all_of linear_in_entry W)
+    count = ap length is ∙ omega arith
+
+pub linear_less : (W : List Entry) (k i : ℕ) (old new : List LinearRule) (ks ls : List ℕ) → slice_get ks k ≡ Some i → ls ≡ take k ks → new ≡ take i old
+    → LinearCarried W old ks → LinearCarried (take k W) new ls
+linear_less W k i old new ks ls there cut kept c = record {
+  all = kept ∙ ap (take i) (c.all ∙ linear_is W) ∙ ap (λ n. take n (all_of linear_in_entry W)) at ∙ first_given linear_in_entry k W ∙ sym (linear_is (take k W));
+  started = cut ∙ ap (take k) c.started ∙ first_starts linear_in_entry 0 k W;
+}
+  where
+    at : i ≡ length (all_of linear_in_entry (take k W))
+    at = start_at linear_in_entry 0 k i W (ap (λ l. slice_get l k) (sym c.started) ∙ there) ∙ omega arith
+
+pub linear_kept : (W : List Entry) (k : ℕ) (gs : List LinearRule) (ks : List ℕ) → slice_get ks k ≡ None → LinearCarried W gs ks → LinearCarried (take k W) gs ks
+linear_kept W k gs ks none c = subst (λ X. LinearCarried X gs ks) (sym (no_more linear_in_entry 0 k W (ap (λ l. slice_get l k) (sym c.started) ∙ none))) c
+
+pub rewrites_none : RewritesCarried [] [] [] []
+rewrites_none = record { keeps = record { has = λ f. refl; headed = refl }; started = refl }
+
+pub linear_none : LinearCarried [] [] []
+linear_none = record { all = refl; started = refl }
+
+-- the rules of a world are its index
+pub is_index : (W : List Entry) (k : Carrier) → Carried W k → IsIndex k.rules W
+is_index W k c = record { rewrites = λ f. c.rewrites.keeps.has f ∙ ap (rules_for f) (sym (world_rules W)); linear = c.linear.all }

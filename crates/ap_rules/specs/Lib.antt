@@ -6,4 +6,5 @@ pub mod Carried
 pub mod Laws
 pub mod Shapes
 pub mod Linear
+pub mod Placed
 pub mod Refused

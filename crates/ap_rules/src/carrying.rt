@@ -5,9 +5,12 @@ ghost use Rattle.ap_world.specs.declared.entry.Entry.{Entry};
 ghost use Rattle.ap_world.specs.Prescribing.{called};
 ghost use Rattle.ap_world.specs.Rules.{Rule, is_left, rules_in_entry};
 ghost use Rattle.ap_rules.specs.Made.{rule_in};
-ghost use Rattle.ap_rules.specs.Carried.{Keeps, Carried};
+ghost use Rattle.ap_rules.specs.Linear.{linear_in_entry};
+ghost use Rattle.ap_rules.specs.Carried.{Keeps, RewritesCarried, LinearCarried, Carried};
 
-use crate::making::entry_rules;
+use crate::linear::LinearRule;
+use crate::linears::Linears;
+use crate::making::{EntryRules, entry_rules};
 use crate::rule::RewriteRule;
 use crate::table::{Groups, RuleIndex};
 use ap_list::{NoMemory, Seq};
@@ -16,13 +19,14 @@ use ap_value::{Symbol, copy_symbol};
 use ap_world::Entry;
 use std::alloc::{AllocError, Global};
 
-/// The rules of a world's entries by their heads. `heads` has the head of each rule, in the order of the
+/// The rules of a world's entries by their heads. `heads` has the head of each rewrite rule, in the order of the
 /// entries, and `starts` for each entry how many come before its own, so that they are found again when
-/// entries are taken away.
+/// entries are taken away; and so `linear_starts` for the linear rules.
 pub(crate) struct Carrier {
     pub rules: RuleIndex,
     pub heads: Seq<Symbol>,
     pub starts: Seq<usize>,
+    pub linear_starts: Seq<usize>,
 }
 
 // One call wherever a world with its index is let go.
@@ -32,6 +36,7 @@ impl Drop for Carrier {
             rules: _rules,
             heads: _heads,
             starts: _starts,
+            linear_starts: _linear_starts,
         } = self;
     }
 }
@@ -118,28 +123,106 @@ fn add_rules(
     Ok(())
 }
 
+/// Adds the rewrite rules of one entry more, and how many come before them. Where memory is refused those of the
+/// others stay.
+fn add_rewrites(
+    alloc: Global,
+    groups: &mut Groups,
+    heads: &mut Seq<Symbol>,
+    starts: &mut Seq<usize>,
+    rules: Seq<RewriteRule>,
+) -> Result<(), NoMemory>
+    requires { Each (λ g. is_left (out-Term g.lhs) ≡ true) rules }
+    ensures ok { OnOk result ((W : List Entry) (y : Entry) → map rule_in rules ≡ rules_in_entry y → RewritesCarried W groups.old heads.old starts.old → RewritesCarried (W ++ y ∷ []) groups.new heads.new starts.new) }
+    ensures err { OnErr result ((W : List Entry) → RewritesCarried W groups.old heads.old starts.old → RewritesCarried W groups.new heads.new starts.new) }
+{
+    let start = heads.len();
+    starts.push(start)?;
+    if let Err(error) = add_rules(alloc, groups, heads, rules) {
+        starts.pop();
+        return Err(error);
+    }
+    Ok(())
+}
+
+/// Keeps the rewrite rules of the first `count` entries. Takes no memory.
+fn cut_rewrites(groups: &mut Groups, heads: &mut Seq<Symbol>, starts: &mut Seq<usize>, count: usize)
+    ensures { (W : List Entry) → RewritesCarried W groups.old heads.old starts.old → RewritesCarried (take count W) groups.new heads.new starts.new }
+{
+    if let Some(start) = starts.get(count) {
+        cut(groups, heads, *start);
+        starts.truncate(count);
+    }
+}
+
+/// Adds the linear rules of one entry more, and how many come before them. Where memory is refused those of the
+/// others stay.
+fn add_linear(
+    alloc: Global,
+    linear: &mut Linears,
+    starts: &mut Seq<usize>,
+    rules: Seq<LinearRule>,
+) -> Result<(), NoMemory>
+    ensures rules { OnOk result (linear.new ≡ linear.old ++ rules) }
+    ensures starts { OnOk result (starts.new ≡ starts.old ++ length linear.old ∷ []) }
+    ensures err { OnErr result ((linear.new ≡ linear.old) × (starts.new ≡ starts.old)) }
+{
+    let start = linear.len();
+    starts.push(start)?;
+    if let Err(error) = linear.append(alloc, rules) {
+        starts.pop();
+        return Err(error);
+    }
+    Ok(())
+}
+
+/// Keeps the linear rules of the first `count` entries. Takes no memory.
+fn cut_linear(linear: &mut Linears, starts: &mut Seq<usize>, count: usize)
+    ensures { (W : List Entry) → LinearCarried W linear.old starts.old → LinearCarried (take count W) linear.new starts.new }
+{
+    if let Some(start) = starts.get(count) {
+        linear.truncate(*start);
+        starts.truncate(count);
+    }
+}
+
 impl Carrier {
     /// The rules of no entries. Takes no memory.
     pub(crate) fn new(alloc: Global) -> Carrier
-        ensures { Carried [] result.rules.groups result.heads result.starts }
+        ensures { Carried [] result }
     {
         Carrier {
             rules: RuleIndex::new(alloc),
             heads: Seq::new(alloc),
             starts: Seq::new(alloc),
+            linear_starts: Seq::new(alloc),
         }
     }
 
     /// Adds the rules of one entry more. Where memory is refused those of the others stay.
-    pub(crate) fn add(&mut self, alloc: Global, rules: Seq<RewriteRule>) -> Result<(), NoMemory>
-        requires { Each (λ g. is_left (out-Term g.lhs) ≡ true) rules }
-        ensures ok { OnOk result ((W : List Entry) (y : Entry) → map rule_in rules ≡ rules_in_entry y → Carried W self.old.rules.groups self.old.heads self.old.starts → Carried (W ++ y ∷ []) self.new.rules.groups self.new.heads self.new.starts) }
-        ensures err { OnErr result ((W : List Entry) → Carried W self.old.rules.groups self.old.heads self.old.starts → Carried W self.new.rules.groups self.new.heads self.new.starts) }
+    pub(crate) fn add(&mut self, alloc: Global, rules: EntryRules) -> Result<(), NoMemory>
+        requires { Each (λ g. is_left (out-Term g.lhs) ≡ true) rules.rewrites }
+        ensures ok { OnOk result ((W : List Entry) (y : Entry) → map rule_in rules.rewrites ≡ rules_in_entry y → rules.linear ≡ linear_in_entry y → Carried W self.old → Carried (W ++ y ∷ []) self.new) }
+        ensures err { OnErr result ((W : List Entry) → Carried W self.old → Carried W self.new) }
     {
-        let start = self.heads.len();
-        self.starts.push(start)?;
-        if let Err(error) = add_rules(alloc, &mut self.rules.groups, &mut self.heads, rules) {
-            self.starts.pop();
+        let EntryRules { rewrites, linear } = rules;
+        let kept = self.rules.linear.len();
+        let count = self.linear_starts.len();
+        add_linear(
+            alloc,
+            &mut self.rules.linear,
+            &mut self.linear_starts,
+            linear,
+        )?;
+        if let Err(error) = add_rewrites(
+            alloc,
+            &mut self.rules.groups,
+            &mut self.heads,
+            &mut self.starts,
+            rewrites,
+        ) {
+            self.rules.linear.truncate(kept);
+            self.linear_starts.truncate(count);
             return Err(error);
         }
         Ok(())
@@ -147,8 +230,8 @@ impl Carrier {
 
     /// Adds the rules of an entry.
     pub(crate) fn add_entry(&mut self, alloc: Global, entry: &Entry) -> Result<(), NoMemory>
-        ensures ok { OnOk result ((W : List Entry) → Carried W self.old.rules.groups self.old.heads self.old.starts → Carried (W ++ entry.now ∷ []) self.new.rules.groups self.new.heads self.new.starts) }
-        ensures err { OnErr result ((W : List Entry) → Carried W self.old.rules.groups self.old.heads self.old.starts → Carried W self.new.rules.groups self.new.heads self.new.starts) }
+        ensures ok { OnOk result ((W : List Entry) → Carried W self.old → Carried (W ++ entry.now ∷ []) self.new) }
+        ensures err { OnErr result ((W : List Entry) → Carried W self.old → Carried W self.new) }
     {
         let rules = entry_rules(alloc, entry)?;
         self.add(alloc, rules)
@@ -156,17 +239,20 @@ impl Carrier {
 
     /// Keeps the rules of the first `count` entries. Takes no memory.
     pub(crate) fn truncate(&mut self, count: usize)
-        ensures { (W : List Entry) → Carried W self.old.rules.groups self.old.heads self.old.starts → Carried (take count W) self.new.rules.groups self.new.heads self.new.starts }
+        ensures { (W : List Entry) → Carried W self.old → Carried (take count W) self.new }
     {
-        if let Some(start) = self.starts.get(count) {
-            cut(&mut self.rules.groups, &mut self.heads, *start);
-            self.starts.truncate(count);
-        }
+        cut_rewrites(
+            &mut self.rules.groups,
+            &mut self.heads,
+            &mut self.starts,
+            count,
+        );
+        cut_linear(&mut self.rules.linear, &mut self.linear_starts, count);
     }
 
     /// The rules of entries.
     pub(crate) fn of(alloc: Global, entries: &[Entry]) -> Result<Carrier, NoMemory>
-        ensures { IfOk result (λ c. Carried entries.now c.rules.groups c.heads c.starts) }
+        ensures { IfOk result (λ c. Carried entries.now c) }
     {
         let mut carrier = Carrier::new(alloc);
         for entry in entries {

@@ -1,4 +1,4 @@
-ghost use Rattle.std.specs.Prelude.{◌≡◌, ◌⊎◌, IfOk, IfErr, OnOk, None, Some, map, true};
+ghost use Rattle.std.specs.Prelude.{◌≡◌, ◌⊎◌, [], IfOk, IfErr, OnOk, None, Some, map, true};
 ghost use Rattle.ap_list.specs.Lists.{Each};
 ghost use Rattle.ap_term.specs.declared.term.Term.{out-Term};
 ghost use Rattle.ap_world.specs.Prescribing.{prescribes};
@@ -6,8 +6,10 @@ ghost use Rattle.ap_world.specs.Rules.{is_left, rules_from, rules_of_term, rewri
 ghost use Rattle.ap_world.specs.declared.entry.Entry.TheVariants as entry;
 ghost use Rattle.ap_rules.specs.Made.{rule_in, part_rule};
 ghost use Rattle.ap_rules.specs.Shapes.{is_linear};
+ghost use Rattle.ap_rules.specs.Linear.{linear_in_entry};
 ghost use Rattle.ap_rules.specs.Refused.{or_else, first_refusal, rule_refusal, asked_rules, linear_refusal, type_refusal, refusal};
 
+use crate::linear::{LinearRule, theorem_linear};
 use crate::refusing::{RuleError, rewrite_refusal};
 use crate::rule::RewriteRule;
 use crate::shapes::{are_inequalities, is_type_form};
@@ -17,6 +19,26 @@ use ap_term::{Term, copy_terms};
 use ap_value::{Symbol, copy_symbol};
 use ap_world::{Entry, RuleClass};
 use std::alloc::{AllocError, Global};
+
+/// The rules that an entry gives: its rewrite rules and its linear rules.
+#[derive(Drop)]
+pub(crate) struct EntryRules {
+    pub rewrites: Seq<RewriteRule>,
+    pub linear: Seq<LinearRule>,
+}
+
+impl EntryRules {
+    /// No rules. Takes no memory.
+    pub(crate) fn none(alloc: Global) -> EntryRules
+        ensures rewrites { result.rewrites ≡ [] }
+        ensures linear { result.linear ≡ [] }
+    {
+        EntryRules {
+            rewrites: Seq::new(alloc),
+            linear: Seq::new(alloc),
+        }
+    }
+}
 
 /// The rule of a conjunct.
 fn rule_of(
@@ -42,7 +64,7 @@ fn rule_of(
 }
 
 /// A number of 32 bits. A theorem with more conjuncts doesn't fit the memory.
-fn numbered(place: usize) -> Result<u32, NoMemory>
+pub(crate) fn numbered(place: usize) -> Result<u32, NoMemory>
     ensures { IfOk result (λ n. n ≡ place) }
 {
     match u32::try_from(place) {
@@ -122,9 +144,9 @@ fn asked_rules(
     }
 }
 
-/// The rules that a theorem gives.
+/// The rewrite rules that a theorem gives.
 #[tactic(auto, using(crate::proofs::Refusals::asked_sound))]
-pub(crate) fn theorem_rules(
+fn theorem_rewrites(
     alloc: Global,
     name: &Symbol,
     term: &Term,
@@ -138,7 +160,7 @@ pub(crate) fn theorem_rules(
 }
 
 /// Whether the classes have that of linear rules.
-fn is_linear(classes: &[RuleClass]) -> bool
+pub(crate) fn is_linear(classes: &[RuleClass]) -> bool
     ensures { result ≡ is_linear classes.now }
 {
     let mut left = classes;
@@ -238,10 +260,27 @@ pub fn rules_of(
     Ok(rules)
 }
 
+/// The rules that a theorem gives.
+pub(crate) fn theorem_rules(
+    alloc: Global,
+    name: &Symbol,
+    term: &Term,
+    classes: &[RuleClass],
+) -> Result<EntryRules, NoMemory>
+    ensures made { IfOk result (λ r. map rule_in r.rewrites ≡ rules_in_entry (entry.Theorem (record { name = name.now; term = term.now; classes = classes.now }))) }
+    ensures left { IfOk result (λ r. Each (λ g. is_left (out-Term g.lhs) ≡ true) r.rewrites) }
+    ensures linear { IfOk result (λ r. r.linear ≡ linear_in_entry (entry.Theorem (record { name = name.now; term = term.now; classes = classes.now }))) }
+{
+    let rewrites = theorem_rewrites(alloc, name, term, classes)?;
+    let linear = theorem_linear(alloc, name, term, classes)?;
+    Ok(EntryRules { rewrites, linear })
+}
+
 /// The rules that an entry gives.
-pub(crate) fn entry_rules(alloc: Global, entry: &Entry) -> Result<Seq<RewriteRule>, NoMemory>
-    ensures made { IfOk result (λ gs. map rule_in gs ≡ rules_in_entry entry.now) }
-    ensures left { IfOk result (λ gs. Each (λ g. is_left (out-Term g.lhs) ≡ true) gs) }
+pub(crate) fn entry_rules(alloc: Global, entry: &Entry) -> Result<EntryRules, NoMemory>
+    ensures made { IfOk result (λ r. map rule_in r.rewrites ≡ rules_in_entry entry.now) }
+    ensures left { IfOk result (λ r. Each (λ g. is_left (out-Term g.lhs) ≡ true) r.rewrites) }
+    ensures linear { IfOk result (λ r. r.linear ≡ linear_in_entry entry.now) }
 {
     match entry {
         Entry::Theorem(theorem) => theorem_rules(
@@ -250,7 +289,7 @@ pub(crate) fn entry_rules(alloc: Global, entry: &Entry) -> Result<Seq<RewriteRul
             &theorem.term,
             theorem.classes.as_slice(),
         ),
-        Entry::Function(_) => Ok(Seq::new(alloc)),
-        Entry::Constant(_, _) => Ok(Seq::new(alloc)),
+        Entry::Function(_) => Ok(EntryRules::none(alloc)),
+        Entry::Constant(_, _) => Ok(EntryRules::none(alloc)),
     }
 }

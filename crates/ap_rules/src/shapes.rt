@@ -1,17 +1,18 @@
-ghost use Rattle.std.specs.Prelude.{◌≡◌, IfOk, is_some, map};
+ghost use Rattle.std.specs.Prelude.{◌≡◌, IfOk, OnOk, is_some, map};
 ghost use Rattle.ap_list.specs.Lists.{all_true, is_distinct, is_among};
 ghost use Rattle.ap_value.specs.Values.{acl2, symbol_eq};
 ghost use Rattle.ap_term.specs.declared.term.Term.{out-Term};
 ghost use Rattle.ap_term.specs.Equal.{term_eq};
 ghost use Rattle.ap_world.specs.Rows.{recognised};
 ghost use Rattle.ap_world.specs.Typing.{is_variable, are_distinct_variables};
-ghost use Rattle.ap_rules.specs.Shapes.{told, is_trigger, trigger_in, has_trigger, is_inequality, all_inequalities, calls_variables, is_type_form};
+ghost use Rattle.ap_poly.specs.Bounds.{seen_in, first_atoms};
+ghost use Rattle.ap_rules.specs.Shapes.{told, is_trigger, first_trigger, trigger_of, is_inequality, all_inequalities, calls_variables, is_type_form};
 
 use crate::refusing::are_within;
 use crate::statement::is_not;
 use ap_list::{NoMemory, Seq};
 use ap_poly::{Poly, of_literal};
-use ap_term::{Term, is_same, vars};
+use ap_term::{Term, copy_term, is_same, vars};
 use ap_value::{Symbol, is_named};
 use std::alloc::Global;
 
@@ -44,40 +45,57 @@ fn is_trigger(alloc: Global, t: &Term, atom: &Term) -> Result<bool, NoMemory>
     }
 }
 
-/// Whether one of the atoms is a trigger.
-fn is_trigger_among(alloc: Global, t: &Term, parts: &[(Term, i128)]) -> Result<bool, NoMemory>
-    ensures { IfOk result (λ b. b ≡ trigger_in t.now parts.now) }
+/// Adds the atoms of parts that aren't there yet.
+fn add_atoms(alloc: Global, parts: &[(Term, i128)], atoms: &mut Seq<Term>) -> Result<(), NoMemory>
+    ensures { OnOk result (atoms.new ≡ seen_in parts.now atoms.old) }
 {
-    let mut left = parts;
-    while let [first, rest @ ..] = left {
-        if is_trigger(alloc, t, &first.0)? {
-            return Ok(true);
+    for (t, _) in parts {
+        if !is_among(t, atoms.as_slice()) {
+            atoms.push(copy_term(alloc, t)?)?;
         }
-        left = rest;
     }
-    Ok(false)
+    Ok(())
 }
 
-/// Whether one of the polynomials has a trigger.
-fn has_trigger(alloc: Global, t: &Term, polys: &[Poly]) -> Result<bool, NoMemory>
-    ensures { IfOk result (λ b. b ≡ has_trigger t.now polys.now) }
+/// The atoms of polynomials, each once, in order of first occurrence.
+fn first_atoms(alloc: Global, polys: &[Poly]) -> Result<Seq<Term>, NoMemory>
+    ensures { IfOk result (λ us. us ≡ first_atoms polys.now) }
 {
-    let mut left = polys;
+    let mut atoms = Seq::new(alloc);
+    for p in polys {
+        add_atoms(alloc, p.parts.as_slice(), &mut atoms)?;
+    }
+    Ok(atoms)
+}
+
+/// The first of the atoms that is a trigger.
+fn first_trigger(alloc: Global, t: &Term, atoms: &[Term]) -> Result<Option<Term>, NoMemory>
+    ensures { IfOk result (λ o. o ≡ first_trigger t.now atoms.now) }
+{
+    let mut left = atoms;
     while let [first, rest @ ..] = left {
-        if is_trigger_among(alloc, t, first.parts.as_slice())? {
-            return Ok(true);
+        if is_trigger(alloc, t, first)? {
+            return Ok(Some(copy_term(alloc, first)?));
         }
         left = rest;
     }
-    Ok(false)
+    Ok(None)
+}
+
+/// The trigger of a conjunct, where it has one.
+pub(crate) fn trigger_of(alloc: Global, t: &Term) -> Result<Option<Term>, NoMemory>
+    ensures { IfOk result (λ o. o ≡ trigger_of t.now) }
+{
+    let polys = told(alloc, t)?;
+    let atoms = first_atoms(alloc, polys.as_slice())?;
+    first_trigger(alloc, t, atoms.as_slice())
 }
 
 /// Whether a conjunct is an inequality with a trigger.
 fn is_inequality(alloc: Global, t: &Term) -> Result<bool, NoMemory>
     ensures { IfOk result (λ b. b ≡ is_inequality t.now) }
 {
-    let polys = told(alloc, t)?;
-    has_trigger(alloc, t, polys.as_slice())
+    Ok(trigger_of(alloc, t)?.is_some())
 }
 
 /// Whether all conjuncts are inequalities with a trigger.

@@ -6,6 +6,7 @@ ghost use Rattle.ap_rules.specs.Grouped.{group_at, with_first, without_first};
 ghost use Rattle.ap_rules.specs.Index.{rules_at};
 
 use crate::group::Group;
+use crate::linears::Linears;
 use crate::rule::RewriteRule;
 use ap_list::NoMemory;
 use ap_value::Symbol;
@@ -32,19 +33,22 @@ impl Model for Groups {
     ghost view = { λ g. g.groups.entries };
 }
 
-/// The rewrite rules of a world by the heads of their left sides.
+/// The rewrite rules of a world by the heads of their left sides, and its linear rules by the heads of their triggers.
 #[derive(Drop)]
 pub struct RuleIndex {
     pub groups: Groups,
+    pub linear: Linears,
 }
 
 impl RuleIndex {
     /// No rules. Takes no memory.
     pub(crate) fn new(alloc: Global) -> RuleIndex
-        ensures { result.groups ≡ [] }
+        ensures groups { result.groups ≡ [] }
+        ensures linear { result.linear ≡ [] }
     {
         RuleIndex {
             groups: Groups::new(alloc),
+            linear: Linears::new(alloc),
         }
     }
 }

@@ -6,7 +6,7 @@ ghost use Rattle.ap_world.specs.declared.entry.Entry.TheVariants as entry;
 ghost use Rattle.ap_rules.specs.Index.{IsIndex};
 
 use crate::carrying::Carrier;
-use crate::making::theorem_rules;
+use crate::making::{EntryRules, theorem_rules};
 use crate::table::RuleIndex;
 use ap_list::{NoMemory, Seq};
 use ap_term::Term;
@@ -37,10 +37,10 @@ impl Model for Ruled {
 
     ghost view = { λ r. r.world };
 
-    ghost invariant = { λ r. Carried r.world.entries r.carrier.rules.groups r.carrier.heads r.carrier.starts };
+    ghost invariant = { λ r. Carried r.world.entries r.carrier };
 }
 
-/// The rules of a world by the heads of their left sides. The only error is want of memory.
+/// The rules of a world by the heads of their left sides and of their triggers. The only error is want of memory.
 pub fn index(alloc: Global, w: &World) -> Result<RuleIndex, NoMemory>
     ensures { IfOk result (λ ix. IsIndex ix w.now.entries) }
 {
@@ -106,7 +106,7 @@ impl Ruled {
         if self.world.has(&function.name) {
             return Err(AddError::NameTaken);
         }
-        self.carrier.add(alloc, Seq::new(alloc))?;
+        self.carrier.add(alloc, EntryRules::none(alloc))?;
         let added = self.world.add_function(alloc, function);
         if added.is_err() {
             self.carrier.truncate(self.world.count());
@@ -156,7 +156,7 @@ impl Ruled {
         if self.world.has(&name) {
             return Err(AddError::NameTaken);
         }
-        self.carrier.add(alloc, Seq::new(alloc))?;
+        self.carrier.add(alloc, EntryRules::none(alloc))?;
         let added = self.world.add_constant(alloc, name, value);
         if added.is_err() {
             self.carrier.truncate(self.world.count());

@@ -9,5 +9,5 @@ loop-entry-preserved c =
     let within : i < length c.args.entries.now = omega arith in
     let further : take (i + 1) c.args.entries.now ≡ take i c.args.entries.now ++ c.entry-item.result ∷ [] =
     take_more c.args.entries.now i c.entry-item.result within ∙ ap (λ y. take i c.args.entries.now ++ y ∷ []) (sym c.entry-item.is) in
-    subst (λ W. Carried W c.add_entry.new.self.rules.groups c.add_entry.new.self.heads c.add_entry.new.self.starts) (sym further)
+    subst (λ W. Carried W c.add_entry.new.self) (sym further)
     (c.in_ok-add_entry.ensures.ok (take i c.args.entries.now) c.loop-entry.invariant)

@@ -4,4 +4,4 @@ use Rattle.ap_rules.proofs.carrying.Carrier.of.Given as goal
 
 -- the rules of the entries so far
 abbrev pub invariant-loop-entry : goal.invariant-loop-entry
-invariant-loop-entry l = Carried (take l.entry-index l.entries) l.carrier.rules.groups l.carrier.heads l.carrier.starts
+invariant-loop-entry l = Carried (take l.entry-index l.entries) l.carrier

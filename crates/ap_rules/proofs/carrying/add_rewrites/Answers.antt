@@ -1,7 +1,7 @@
 use Rattle.std.proofs.Common.{[], ◌∷◌, ◌++◌, ap, ◌∙◌}
 use Rattle.ap_rules.specs.Carried.{all_rules}
-use Rattle.ap_rules.proofs.Keeping.{on_err_by, carried_more, popped}
-use Rattle.ap_rules.proofs.carrying.Carrier.add.Goals as goal
+use Rattle.ap_rules.proofs.Keeping.{on_err_by, rewrites_more, popped}
+use Rattle.ap_rules.proofs.carrying.add_rewrites.Goals as goal
 
 pub returns-in_err-push-clause-err : goal.returns-in_err-push-clause-err
 returns-in_err-push-clause-err c = on_err_by c.from_residual.result (λ W k. record { keeps = k.keeps; started = c.in_err-push.ensures.err ∙ k.started })
@@ -9,10 +9,10 @@ returns-in_err-push-clause-err c = on_err_by c.from_residual.result (λ W k. rec
 pub returns-in-Err-clause-err : goal.returns-in-Err-clause-err
 returns-in-Err-clause-err c = λ W k. record {
   keeps = c.in-Err.ensures.err (all_rules W) k.keeps;
-  started = popped c.args.self.now.starts c.push.new.self c.pop.new.self c.len-start.result c.pop.result c.in_ok-push.ensures.ok c.pop.ensures ∙ k.started;
+  started = popped c.args.starts.now c.push.new.self c.pop.new.self c.len-start.result c.pop.result c.in_ok-push.ensures.ok c.pop.ensures ∙ k.started;
 }
 
 pub returns-clause-ok : goal.returns-clause-ok
 returns-clause-ok c = λ W y made k.
-    carried_more W y c.args.self.now.rules.groups c.add_rules.new.groups c.args.self.now.heads c.add_rules.new.heads c.args.self.now.starts c.push.new.self c.args.rules
-    made (c.in_ok-push.ensures.ok ∙ ap (λ n. c.args.self.now.starts ++ n ∷ []) c.len-start.ensures) c.in_default.ensures.ok k
+    rewrites_more W y c.args.groups.now c.add_rules.new.groups c.args.heads.now c.add_rules.new.heads c.args.starts.now c.push.new.self c.args.rules
+    made (c.in_ok-push.ensures.ok ∙ ap (λ n. c.args.starts.now ++ n ∷ []) c.len-start.ensures) c.in_default.ensures.ok k
