@@ -5,15 +5,16 @@ ghost use Rattle.ap_value.specs.Values.{int_eq};
 ghost use Rattle.ap_list.specs.Lists.{Each};
 ghost use Rattle.ap_world.specs.Sound.{known};
 ghost use Rattle.ap_world.specs.Facts.{KnownFacts};
-ghost use Rattle.ap_poly.specs.Bounds.{seen_in, first_atoms, one_part, bound};
+ghost use Rattle.ap_poly.specs.Bounds.{first_atoms, one_part, bound};
 ghost use Rattle.ap_rewrite.specs.Answering.{defs_in, Ready, setting_of};
 ghost use Rattle.ap_rewrite.specs.Linear.{bounds, given, are_integers};
 ghost use Rattle.ap_rewrite.specs.Refuting.{IntegersWithin};
 
 use crate::rewriter::Rewriter;
 use crate::settling::lacks;
-use ap_kernel::{Ctx, Mask, NoMemory, Seq, Term, TypeOracle, is_among};
+use ap_kernel::{Ctx, Mask, NoMemory, Seq, Term, TypeOracle};
 use ap_poly::{Poly, of_literal};
+use ap_rules::first_atoms;
 use ap_term::copy_term;
 use std::alloc::Global;
 
@@ -28,29 +29,6 @@ fn given<O>(r: &Rewriter<'_, O>, ctx: &Ctx, t: &Term, sign: bool) -> Result<Seq<
         polys.append(more)?;
     }
     Ok(polys)
-}
-
-/// Adds the atoms of parts that aren't there yet.
-fn add_atoms(alloc: Global, parts: &[(Term, i128)], atoms: &mut Seq<Term>) -> Result<(), NoMemory>
-    ensures { OnOk result (atoms.new ≡ seen_in parts.now atoms.old) }
-{
-    for (t, _) in parts {
-        if !is_among(t, atoms.as_slice()) {
-            atoms.push(copy_term(alloc, t)?)?;
-        }
-    }
-    Ok(())
-}
-
-/// The atoms of polynomials, each once, in order of first occurrence.
-fn first_atoms(alloc: Global, polys: &[Poly]) -> Result<Seq<Term>, NoMemory>
-    ensures { IfOk result (λ us. us ≡ first_atoms polys.now) }
-{
-    let mut atoms = Seq::new(alloc);
-    for p in polys {
-        add_atoms(alloc, p.parts.as_slice(), &mut atoms)?;
-    }
-    Ok(atoms)
 }
 
 /// Adds the polynomial of a constant and one atom so many times.

@@ -32,5 +32,6 @@ pub use linears::Linears;
 pub use making::rules_of;
 pub use refusing::RuleError;
 pub use rule::RewriteRule;
+pub use shapes::first_atoms;
 pub use table::{Groups, RuleIndex, by_head};
 pub use worlds::{Ruled, index};

@@ -57,8 +57,8 @@ fn add_atoms(alloc: Global, parts: &[(Term, i128)], atoms: &mut Seq<Term>) -> Re
     Ok(())
 }
 
-/// The atoms of polynomials, each once, in order of first occurrence.
-fn first_atoms(alloc: Global, polys: &[Poly]) -> Result<Seq<Term>, NoMemory>
+/// The atoms of polynomials, each once, in order of first occurrence. The only error is want of memory.
+pub fn first_atoms(alloc: Global, polys: &[Poly]) -> Result<Seq<Term>, NoMemory>
     ensures { IfOk result (λ us. us ≡ first_atoms polys.now) }
 {
     let mut atoms = Seq::new(alloc);

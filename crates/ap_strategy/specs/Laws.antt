@@ -18,9 +18,9 @@ use Rattle.ap_walk.specs.Visits.{Tells, IsSplit, out_children}
 use Rattle.ap_kernel.specs.Standing.{HasGround}
 use Rattle.ap_kernel.specs.declared.reductions.Inference.{Inference}
 use Rattle.ap_kernel.specs.Reductions.{KnownClause, Follows}
-use Rattle.ap_rewrite.specs.Arithmetic.{no_arithmetic}
+use Rattle.ap_rewrite.specs.Arithmetic.{arithmetic_in}
 use Rattle.ap_rewrite.specs.SoundSettings.{SoundSetting}
-use Rattle.ap_rewrite.proofs.ArithmeticSound.{nothing_sound}
+use Rattle.ap_rewrite.proofs.ArithmeticSound.{worlds_sound}
 use Rattle.ap_rewrite.proofs.InWorldStands.{sound_setting}
 use Rattle.ap_induct.specs.Choosing.{scheme_of}
 use Rattle.ap_induct.proofs.Followed.{scheme_follows}
@@ -121,7 +121,8 @@ module _ (g : Goal) (functions : HasFunctions (defs_of g.plan)) (sound : Sound g
 -- what the goal's literals are rewritten by is right
 setting_is_sound : (g : Goal) → HasFunctions (defs_of g.plan) → Sound g.plan.world.entries → are_distinct g.plan.world.entries ≡ true → SoundSetting (setting_of g)
 setting_is_sound g functions sound distinct =
-    sound_setting g.plan.world g.settings.theory g.settings.expand no_arithmetic sound (kernel_ground (defs_of g.plan) functions) distinct (nothing_sound (defs_of g.plan))
+    let ground = kernel_ground (defs_of g.plan) functions in
+    sound_setting g.plan.world g.settings.theory g.settings.expand (arithmetic_in g.plan.world g.settings.theory) sound ground distinct (worlds_sound g.plan.world g.settings.theory sound ground)
 
 split_good : (g : Goal) (ds : List Clause) → simplified (setting_of g) g.plan.step_limit g.clause ≡ Some ds → Each IsGood (children g ds) → IsGood g
 split_good g ds q gs functions sound distinct k given =

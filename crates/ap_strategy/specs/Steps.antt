@@ -19,8 +19,7 @@ use Rattle.ap_kernel.specs.Reductions.{KnownClause}
 use Rattle.ap_kernel.specs.Tidying.{tidied, holds_by_itself, tidy_goals}
 use Rattle.ap_kernel.specs.Solving.{solved_made}
 use Rattle.ap_rewrite.specs.Settings.{Setting}
-use Rattle.ap_rewrite.specs.Arithmetic.{no_arithmetic}
-use Rattle.ap_rewrite.specs.InWorld.{setting_in}
+use Rattle.ap_rewrite.specs.InWorld.{world_setting}
 use Rattle.ap_rewrite.specs.Literals.{simplify_of}
 use Rattle.ap_induct.specs.Choosing.{scheme_of}
 use Rattle.ap_strategy.specs.declared.plan.Plan.{Plan}
@@ -29,7 +28,7 @@ use Rattle.ap_strategy.specs.Goals.{Goal, defs_of}
 
 -- what a goal's literals are rewritten by: its plan's world and the settings that hold for it
 abbrev pub setting_by : Plan → Settings → Setting
-setting_by plan s = setting_in plan.world s.theory s.expand no_arithmetic
+setting_by plan s = world_setting plan.world s.theory s.expand
 
 abbrev pub setting_of : Goal → Setting
 setting_of g = setting_by g.plan g.settings

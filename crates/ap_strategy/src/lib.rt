@@ -1,10 +1,11 @@
 //! One step of the waterfall of ACL2 (the manual's topic `hints-and-the-waterfall`; "Computer-Aided
 //! Reasoning", 2000) on a goal: the goal is simplified, or it is pushed, or the attempt stops at it. Each
 //! clause that a goal is simplified to comes from the kernel's rows: a clause is tidied; a literal that solves a
-//! variable replaces it; or else each literal is rewritten, and what is left is split and tidied.
+//! variable replaces it; or else each literal is rewritten, with linear arithmetic, and what is left is split and tidied.
 #![tactic(auto)]
 
 mod clauses;
+mod oracles;
 mod plan;
 mod same;
 mod simplifying;
@@ -18,6 +19,7 @@ pub use ap_rules::Ruled;
 pub use ap_term::{Clause, Term};
 pub use ap_walk::{Process, Step, Stepped};
 pub use ap_world::{Theory, World};
+pub use oracles::Oracles;
 pub use plan::{Plan, Settings, copy_settings, first_settings};
 pub use step::Acl2Step;
 pub use task::{Task, copy_task, induct_task, root_task, same_task};

@@ -13,12 +13,12 @@ ghost use Rattle.ap_strategy.specs.Goals.{defs_of};
 ghost use Rattle.ap_strategy.specs.Steps.{setting_by, settled, settled_all, first_solved, opened, reduced, simplified, reduced_to};
 
 use crate::clauses::{copy_clause, without_repeats};
+use crate::oracles::Oracles;
 use crate::plan::{Plan, Settings};
 use ap_kernel::{Reduction, chain, is_solvable, tidy, use_equality};
 use ap_list::{NoMemory, Seq};
 use ap_rewrite::Rewriter;
 use ap_term::{Clause, Steps};
-use ap_types::Types;
 use ap_world::World;
 use std::alloc::Global;
 
@@ -75,7 +75,7 @@ fn settle_cases(alloc: Global, w: &World, cases: Reduction) -> Result<Reduction,
 }
 
 /// What a goal's literals are rewritten by.
-fn rewriter<'a>(alloc: Global, plan: &'a Plan, settings: &'a Settings) -> Rewriter<'a, Types>
+fn rewriter<'a>(alloc: Global, plan: &'a Plan, settings: &'a Settings) -> Rewriter<'a, Oracles>
     requires functions { HasFunctions (defs_of plan.now) }
     ensures ready { Ready result }
     ensures setting { rewriter_setting result ≡ setting_by plan.now settings.now }
@@ -87,7 +87,7 @@ fn rewriter<'a>(alloc: Global, plan: &'a Plan, settings: &'a Settings) -> Rewrit
         rules: plan.world.rules(),
         theory: &settings.theory,
         expand: &settings.expand,
-        oracle: &Types,
+        oracle: &Oracles,
     }
 }
 
