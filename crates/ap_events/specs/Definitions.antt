@@ -5,6 +5,7 @@ use Rattle.ap_value.specs.declared.symbol.Symbol.{Symbol}
 use Rattle.ap_term.specs.declared.term.Term.{Term}
 use Rattle.ap_term.specs.declared.term.Clause.{Clause}
 use Rattle.ap_world.specs.declared.entry.Case.{Case}
+use Rattle.ap_world.specs.declared.entry.Mask.{Mask}
 use Rattle.ap_world.specs.declared.entry.Measure.{Measure}
 use Rattle.ap_world.specs.declared.entry.Defun.{Defun}
 use Rattle.ap_world.specs.declared.entry.Entry.{Entry}
@@ -21,15 +22,17 @@ use Rattle.ap_translate.specs.Answers.{Answer, refused as refused_at, each, ◌>
 use Rattle.ap_translate.specs.Names.{can_be_bound}
 use Rattle.ap_translate.specs.Parts.{layer_of, items_in, is_symbol}
 use Rattle.ap_translate.specs.Table.{translated}
+use Rattle.ap_terminate.specs.declared.measures.TerminateError.{TerminateError}
 use Rattle.ap_terminate.specs.Refusals.{is_nested, has_bad_measure}
 use Rattle.ap_admit.specs.Admission.{with_function}
 use Rattle.ap_admit.specs.Condition.{owed, clause_of}
 use Rattle.ap_strategy.specs.declared.plan.Plan.{Plan}
 use Rattle.ap_events.specs.declared.limits.Limits.{Limits}
 use Rattle.ap_events.specs.declared.attempting.Tried.{Tried}
+use Rattle.ap_events.specs.declared.owing.Owing.{Owing}
 use Rattle.ap_events.specs.Shapes.{Defined, symbol_at, is_given}
 use Rattle.ap_events.specs.Attempts.{tried_clause, plan_for}
-use Rattle.ap_events.specs.Texts.{event_text, translation_text, failure_text, measure_line, obligation_line}
+use Rattle.ap_events.specs.Texts.{event_text, translation_text, termination_text, failure_text, measure_line, obligation_line}
 use Rattle.ap_events.specs.Ends.{Step, refused_event, not_supported, bad_event, admitted}
 
 -- the formals: each may be bound after those before it
@@ -72,20 +75,28 @@ translated_measure W names (Some f) = translated_all W names (component_forms f)
 abbrev pub stub : Symbol → List Symbol → Function
 stub n names = record { name = n; formals = names; body = nil_constant; measure = None; cases = []; mask = all_types }
 
+-- a definition by its parts: its cases are those of its body
+abbrev pub prepared_definition : Symbol → List Symbol → Term → Option Measure → Defun
+prepared_definition n names body m = record { name = n; formals = names; body = body; measure = m; cases = cases_of n body }
+
 -- Formals, guard, body and measure are translated in this order: the body, which may call the function, in the world with a
 -- stub of it, and every other term in the world itself. The guard isn't kept: guards aren't verified yet.
-abbrev pub translated_definition : List Entry → Defined → Answer Defun
-translated_definition W d =
-    formal_names [] d.formals >>= λ names.
+abbrev pub translated_parts : List Entry → Defined → List Symbol → Answer Defun
+translated_parts W d names =
     translated_all W names (guard_forms d.xargs.guard) >>= λ guard.
     translated (with_function W (stub d.name names)) (Some names) d.body >>= λ body.
     translated_measure W names d.xargs.measure >>= λ measure.
-    Ok (record { name = d.name; formals = names; body = body; measure = measure; cases = cases_of d.name body })
+    Ok (prepared_definition d.name names body measure)
+
+abbrev pub translated_definition : List Entry → Defined → Answer Defun
+translated_definition W d = formal_names [] d.formals >>= translated_parts W d
 
 -- the function of a definition, with a measure and cases; it keeps the types that its body gives back
+abbrev pub function_by : Defun → Option Measure → List Case → Mask → Function
+function_by d m ks k = record { name = d.name; formals = d.formals; body = d.body; measure = m; cases = ks; mask = k }
+
 abbrev pub function_with : Shown → Defun → Option Measure → List Case → Function
-function_with w d m ks =
-    record { name = d.name; formals = d.formals; body = d.body; measure = m; cases = ks; mask = record { 0 = kept_types w d.name d.body } }
+function_with w d m ks = function_by d m ks (record { 0 = kept_types w d.name d.body })
 
 abbrev pub added_definition : Shown → Function → List ℕ → Step
 added_definition w f lines = admitted w (entry.Function f) (event_text (codes "DEFUN") f.name lines (codes " admitted"))
@@ -93,20 +104,26 @@ added_definition w f lines = admitted w (entry.Function f) (event_text (codes "D
 abbrev pub refused_definition : Symbol → List ℕ → List ℕ → Step
 refused_definition n lines reason = refused_event (codes "DEFUN") n lines reason
 
--- the attempts on obligations, up to the first that fails: what they print, and why that one failed
-pub record Owing : Type 0 where
-  pub lines : List ℕ
-  pub failed : Option Reason
+-- what an obligation prints: its number, its attempt's lines, and where that failed its checkpoints
+abbrev pub unproved_text : Tried → Option Reason → List ℕ
+unproved_text a None = []
+unproved_text a (Some r) = a.checkpoints
 
--- where an obligation is proved its lines are followed by the others, else by its checkpoints
-abbrev pub obligation_by : List ℕ → Tried → Owing → Option Reason → Owing
-obligation_by opening a others None = record { lines = opening ++ a.lines ++ others.lines; failed = others.failed }
-obligation_by opening a others (Some r) = record { lines = opening ++ a.lines ++ a.checkpoints; failed = Some r }
+abbrev pub obligation_text : ℕ → Tried → List ℕ
+obligation_text k a = obligation_line k ++ a.lines ++ unproved_text a a.failed
+
+-- the others are tried where it is proved
+abbrev pub then_others : Option Reason → Owing → Owing
+then_others None others = others
+then_others (Some r) others = record { lines = []; failed = Some r }
+
+abbrev pub with_lines : List ℕ → Owing → Owing
+with_lines text o = record { lines = text ++ o.lines; failed = o.failed }
 
 abbrev pub obligation_tried : ℕ → Tried → Owing → Owing
-obligation_tried k a others = obligation_by (obligation_line k) a others a.failed
+obligation_tried k a others = with_lines (obligation_text k a) (then_others a.failed others)
 
--- the first of them has this number
+-- the attempts on obligations, the first of which has this number, up to the first that fails
 abbrev pub obligations_tried : Limits → Plan → ℕ → List Clause → Owing
 obligations_tried limits plan k [] = record { lines = []; failed = None }
 obligations_tried limits plan k (c ∷ cs) = obligation_tried k (tried_clause limits plan c) (obligations_tried limits plan (k + 1) cs)
@@ -116,27 +133,29 @@ unfoldable pub ended_definition : Shown → Defun → Measure → List ℕ → O
 ended_definition w d m lines None = added_definition w (function_with w d (Some m) d.cases) lines
 ended_definition w d m lines (Some r) = refused_definition d.name lines (failure_text r)
 
-abbrev pub owing_definition : Shown → Defun → Measure → Owing → Step
-owing_definition w d m o = ended_definition w d m (measure_line m.0 ++ o.lines) o.failed
+-- before that its obligations are tried, behind the line of its measure
+abbrev pub owing_by : Shown → Defun → Measure → Owing → Step
+owing_by w d m o = ended_definition w d m o.lines o.failed
+
+abbrev pub owing_definition : Limits → Shown → Defun → Measure → Step
+owing_definition limits w d m =
+    owing_by w d m (with_lines (measure_line m.0) (obligations_tried limits (plan_for limits w) 1 (map clause_of (owed d m))))
 
 -- why it has no measure
-unfoldable pub unmeasured_text : Defun → List ℕ
-unmeasured_text d =
-    cond (is_nested d) (codes "7.2 NestedRecursion")
-    (cond (has_bad_measure d) (codes "7.3 BadMeasure") (codes "7.1 NoMeasure"))
+abbrev pub unmeasured : Defun → TerminateError
+unmeasured d = cond (is_nested d) TerminateError.NestedRecursion (cond (has_bad_measure d) TerminateError.BadMeasure TerminateError.NoMeasure)
 
--- before its obligations are tried, its measure is looked for
+-- before that its measure is looked for
 unfoldable pub measured_definition : Limits → Shown → Defun → Option (List Term) → Step
-measured_definition limits w d None = refused_definition d.name [] (unmeasured_text d)
-measured_definition limits w d (Some m) =
-    owing_definition w d (record { 0 = m }) (obligations_tried limits (plan_for limits w) 1 (map clause_of (owed d (record { 0 = m }))))
+measured_definition limits w d None = refused_definition d.name [] (termination_text (unmeasured d))
+measured_definition limits w d (Some m) = owing_definition limits w d (record { 0 = m })
 
 -- a function that doesn't call itself needs no measure, and keeps none
-unfoldable pub admitted_by : Limits → Shown → Defun → Bool → Step
-admitted_by limits w d plain = cond plain (added_definition w (function_with w d None []) []) (measured_definition limits w d (measure_of d))
-
-abbrev pub admitted_definition : Limits → Shown → Defun → Step
-admitted_definition limits w d = admitted_by limits w d (has_no_call d.name d.body)
+unfoldable pub admitted_definition : Limits → Shown → Defun → Step
+admitted_definition limits w d =
+    cond (has_no_call d.name d.body)
+    (added_definition w (function_with w d None []) [])
+    (measured_definition limits w d (measure_of d))
 
 -- before that the parts are translated
 unfoldable pub defined_step : Limits → Shown → Symbol → Answer Defun → Step

@@ -5,6 +5,7 @@ use Rattle.ap_value.specs.Values.{acl2}
 use Rattle.ap_term.specs.declared.term.Term.{Term, Call}
 use Rattle.ap_term.specs.Printed.{symbol_text, term_text}
 use Rattle.ap_rules.specs.declared.refusing.RuleError.{RuleError}
+use Rattle.ap_terminate.specs.declared.measures.TerminateError.{TerminateError}
 use Rattle.ap_translate.specs.declared.fault.TransKind.{TransKind}
 use Rattle.ap_translate.specs.declared.fault.TransKind.TheVariants as kinds
 use Rattle.ap_translate.specs.Answers as translation
@@ -53,6 +54,13 @@ rule_text RuleError.FreeInRhs = codes "5.3 FreeInRhs"
 rule_text RuleError.NotInequality = codes "5.4 NotInequality"
 rule_text RuleError.NotTypeForm = codes "5.5 NotTypeForm"
 rule_text RuleError.NoMemory = []
+
+-- why a function that calls itself has no measure
+unfoldable pub termination_text : TerminateError → List ℕ
+termination_text TerminateError.NoMeasure = codes "7.1 NoMeasure"
+termination_text TerminateError.NestedRecursion = codes "7.2 NestedRecursion"
+termination_text TerminateError.BadMeasure = codes "7.3 BadMeasure"
+termination_text TerminateError.NoMemory = []
 
 unfoldable pub reason_text : Reason → List ℕ
 reason_text Reason.NoScheme = codes "NoScheme"

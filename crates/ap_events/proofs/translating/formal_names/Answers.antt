@@ -1,6 +1,6 @@
 use Rattle.std.proofs.Common.{arith, rules}
 use Rattle.ap_events.proofs.Formals.{formals_next, distinct_next}
-use Rattle.ap_events.proofs.definition.formal_names.Goals as goal
+use Rattle.ap_events.proofs.translating.formal_names.Goals as goal
 
 pub loop-form-preserved : goal.loop-form-preserved
 loop-form-preserved c =

@@ -1,7 +1,7 @@
 use Rattle.std.proofs.Common.{◌≡◌, drop}
 use Rattle.ap_events.specs.Definitions.{translated_all}
 use Rattle.ap_events.proofs.Formals.{after}
-use Rattle.ap_events.proofs.definition.terms.Given as goal
+use Rattle.ap_events.proofs.translating.terms.Given as goal
 
 -- the terms so far stand before those of the forms that are left
 abbrev pub invariant-loop-form : goal.invariant-loop-form
