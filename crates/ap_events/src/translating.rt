@@ -1,6 +1,6 @@
 //! The parts of a definition as terms.
-ghost use Rattle.std.specs.Prelude.{◌≡◌, [], ◌∷◌, ◌++◌, IfOk, IfSome, IsTrue, OnOk, OnErr, Ok, Some, true, false, map, option_map};
-ghost use Rattle.ap_list.specs.Lists.{all_true, is_distinct};
+ghost use Rattle.std.specs.Prelude.{◌≡◌, [], ◌∷◌, ◌++◌, IfOk, IfSome, IsTrue, OnOk, OnErr, Ok, Some, false, option_map};
+ghost use Rattle.ap_list.specs.Lists.{Each, is_distinct};
 ghost use Rattle.ap_value.specs.Values.{symbol_eq};
 ghost use Rattle.ap_world.specs.declared.entry.Entry.TheVariants as entry;
 ghost use Rattle.ap_world.specs.Sound.{known, speaks_of, components, HasFunctions, Sound};
@@ -87,8 +87,8 @@ fn terms(
 ) -> Result<Seq<Term>, TransError>
     requires macros { HasMacroFunctions (function_of w.now.entries) }
     ensures made { Gives result (translated_all w.now.entries formals.now forms.now) }
-    ensures speaks { IfOk result (λ us. all_true (map (speaks_of formals.now) us) ≡ true) }
-    ensures known { IfOk result (λ us. all_true (map (known (function_of w.now.entries)) us) ≡ true) }
+    ensures speaks { IfOk result (Each (λ u. IsTrue (speaks_of formals.now u))) }
+    ensures known { IfOk result (Each (λ u. IsTrue (known (function_of w.now.entries) u))) }
 {
     let mut terms = Seq::new(alloc);
     for form in forms {
@@ -120,8 +120,8 @@ fn measure_terms(
 ) -> Result<Seq<Term>, TransError>
     requires functions { HasFunctions (function_of w.now.entries) }
     ensures made { Gives result (translated_all w.now.entries formals.now (component_forms form.now)) }
-    ensures speaks { IfOk result (λ us. all_true (map (speaks_of formals.now) us) ≡ true) }
-    ensures known { IfOk result (λ us. all_true (map (known (function_of w.now.entries)) us) ≡ true) }
+    ensures speaks { IfOk result (Each (λ u. IsTrue (speaks_of formals.now u))) }
+    ensures known { IfOk result (Each (λ u. IsTrue (known (function_of w.now.entries) u))) }
 {
     terms(alloc, w.world(), components(form), formals)
 }
@@ -135,8 +135,8 @@ fn measure(
 ) -> Result<Option<Measure>, TransError>
     requires functions { HasFunctions (function_of w.now.entries) }
     ensures made { Gives result (translated_measure w.now.entries formals.now (option_map (λ f. f.now) given.entry)) }
-    ensures speaks { IfOk result (λ m. all_true (map (speaks_of formals.now) (components m)) ≡ true) }
-    ensures known { IfOk result (λ m. all_true (map (known (function_of w.now.entries)) (components m)) ≡ true) }
+    ensures speaks { IfOk result (λ m. Each (λ u. IsTrue (speaks_of formals.now u)) (components m)) }
+    ensures known { IfOk result (λ m. Each (λ u. IsTrue (known (function_of w.now.entries) u)) (components m)) }
 {
     match given {
         Some(form) => {

@@ -1,0 +1,3 @@
+use Rattle.ap_events.proofs.Measuring.{nested, bad, lacking}
+use Rattle.ap_events.proofs.definition.measured.Goals as goal
+
