@@ -56,8 +56,8 @@ fn attempt_from(
     limits: &Limits,
     root: Task<'_>,
 ) -> Result<Tried, NoMemory>
-    ensures tried { IfOk result (λ t. t ≡ tried_from limits.now root) }
-    ensures good { IfOk result (λ t. t.failed ≡ None → IsGood root) }
+    ensures tried { IfOk result (λ t. t ≡ tried_from limits.now root.entry) }
+    ensures good { IfOk result (λ t. t.failed ≡ None → IsGood root.entry) }
 {
     let prover = Proving {
         step: Acl2Step::new(plan),
