@@ -1,5 +1,6 @@
 -- Why a definition has no measure.
-use Rattle.std.proofs.Common.{◌≡◌, Bool, true, false, cond, not, ◌&&◌, nat_le, length, List, Option, Some, None, is_none, refl, ap, sym, ◌∙◌}
+use Rattle.std.proofs.Common.{◌≡◌, Bool, true, false, cond, not, ◌&&◌, nat_le, length, List, Option, Some, None, Result, Err, IsTrue, is_none, refl, ap, sym, ◌∙◌}
+use Rattle.std.specs.Prelude.{◌↔◌, IsErrOf}
 use Rattle.ap_value.specs.declared.symbol.Symbol.{Symbol}
 use Rattle.ap_term.specs.declared.term.Term.{Term}
 use Rattle.ap_world.specs.declared.entry.Case.{Case}
@@ -58,3 +59,12 @@ lacking d h =
       ap (λ u. cond (not u) TerminateError.NestedRecursion (cond (u && is_bad d.measure) TerminateError.BadMeasure TerminateError.NoMeasure)) p.0
           ∙ ap (λ b. cond b TerminateError.BadMeasure TerminateError.NoMeasure) q.0,
     )
+
+-- what an error other than want of memory tells
+pub told : (d : Defun) (r : Result Measure TerminateError) (e : TerminateError) → r ≡ Err e → (e ≡ TerminateError.NoMemory → ⊥)
+    → (IsErrOf r TerminateError.NestedRecursion ↔ IsTrue (is_nested d)) → (IsErrOf r TerminateError.BadMeasure ↔ IsTrue (has_bad_measure d))
+    → (IsErrOf r TerminateError.NoMeasure ↔ IsTrue (lacks_measure d)) → (measure_of d ≡ None) × (unmeasured d ≡ e)
+told d r TerminateError.NestedRecursion is other n b l = nested d (n.0 is)
+told d r TerminateError.BadMeasure is other n b l = bad d (b.0 is)
+told d r TerminateError.NoMeasure is other n b l = lacking d (l.0 is)
+told d r TerminateError.NoMemory is other n b l = absurd (other refl)

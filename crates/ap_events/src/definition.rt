@@ -1,5 +1,5 @@
 //! The event of a function.
-ghost use Rattle.std.specs.Prelude.{◌≡◌, [], ◌∷◌, ◌++◌, None, Some, IfOk, false, true, map, codes};
+ghost use Rattle.std.specs.Prelude.{◌≡◌, [], ◌∷◌, ◌++◌, None, Some, IfErr, IfOk, false, true, map, codes};
 ghost use Rattle.ap_list.specs.Lists.{Each};
 ghost use Rattle.ap_world.specs.declared.entry.Entry.TheVariants as entry;
 ghost use Rattle.ap_world.specs.Meaning.{Valid};
@@ -12,7 +12,7 @@ ghost use Rattle.ap_events.specs.Shapes.{as_defined};
 ghost use Rattle.ap_events.specs.Ends.{admitted, step_in, Follows};
 ghost use Rattle.ap_events.specs.Texts.{event_text, refused_as, failure_text, translation_text};
 ghost use Rattle.ap_events.specs.Prepared.{IsPrepared};
-ghost use Rattle.ap_events.specs.Definitions.{function_by, function_with, added_definition, refused_definition, ended_definition, owing_definition, measured_definition, admitted_definition, translated_definition, defined_step, named_definition, plain_definition};
+ghost use Rattle.ap_events.specs.Definitions.{function_by, function_with, added_definition, refused_definition, ended_definition, owing_definition, unmeasured, measured_definition, admitted_definition, translated_definition, defined_step, named_definition, plain_definition};
 
 use crate::end::{RuledEnd, not_supported};
 use crate::limits::Limits;
@@ -215,6 +215,18 @@ fn owing(
     ended(alloc, plan.world, d, m, &owing)
 }
 
+/// The measure of a definition that calls itself, or why it has none.
+fn measure(alloc: Global, w: &Ruled, d: &Defun) -> Result<Result<Measure, TerminateError>, NoMemory>
+    ensures made { IfOk result (λ r. IfOk r (λ m. measure_of d.now ≡ Some m.0)) }
+    ensures none { IfOk result (λ r. IfErr r (λ e. (measure_of d.now ≡ None) × (unmeasured d.now ≡ e))) }
+{
+    match measure_for(alloc, w.world(), d) {
+        Ok(m) => Ok(Ok(m)),
+        Err(TerminateError::NoMemory) => Err(AllocError),
+        Err(error) => Ok(Err(error)),
+    }
+}
+
 /// Does the event of a definition that calls itself: its measure is looked for.
 #[tactic(auto, unfolding(crate::specs::Definitions::measured_definition))]
 fn measured(alloc: Global, w: Ruled, d: Defun, limits: &Limits) -> Result<RuledEnd, NoMemory>
@@ -225,9 +237,8 @@ fn measured(alloc: Global, w: Ruled, d: Defun, limits: &Limits) -> Result<RuledE
     ensures step { IfOk result (λ e. step_in e ≡ measured_definition limits.now w d (measure_of d)) }
     ensures follows { IfOk result (λ e. Follows w e) }
 {
-    match measure_for(alloc, w.world(), &d) {
+    match measure(alloc, &w, &d)? {
         Ok(m) => owing(alloc, w, d, m, limits),
-        Err(TerminateError::NoMemory) => Err(AllocError),
         Err(error) => refused(alloc, w, &d.name, b"", texts::termination(error)),
     }
 }
