@@ -1,2 +1,2 @@
-use Rattle.ap_events.proofs.Measuring.{nested, bad, lacking}
+use Rattle.ap_events.proofs.Measuring.{told}
 use Rattle.ap_events.proofs.definition.measure.Goals as goal

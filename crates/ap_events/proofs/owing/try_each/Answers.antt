@@ -1,5 +1,23 @@
+use Rattle.std.proofs.Common.{sym, ◌∙◌}
+use Rattle.ap_term.specs.declared.term.Clause.{Clause}
+use Rattle.ap_world.specs.Meaning.{Valid}
+use Rattle.ap_kernel.specs.Reductions.{KnownClause}
+use Rattle.ap_strategy.specs.Goals.{defs_of}
 use Rattle.ap_events.proofs.Obligations.{first_left, first_done, proved_next, failed_here}
 use Rattle.ap_events.proofs.owing.try_each.Goals as goal
 
+pub try_one-requires-clause-known : goal.try_one-requires-clause-known
+try_one-requires-clause-known c =
+    (first_left (KnownClause (defs_of c.args.plan.now)) c.args.clauses.now c.loop-i.i _ c.loop-i-test.true c.index-clauses-i.is c.loop-i.invariant.known).0
+
 pub loop-i-preserved : goal.loop-i-preserved
-loop-i-preserved c = ?preserved
+loop-i-preserved c =
+    let D = defs_of c.args.plan.now in
+    record {
+      known = (first_left (KnownClause D) c.args.clauses.now c.loop-i.i _ c.loop-i-test.true c.index-clauses-i.is c.loop-i.invariant.known).1;
+      valid = λ others. c.loop-i.invariant.valid
+          (first_done (λ (k : Clause). Valid D k.0) c.args.clauses.now c.loop-i.i _ c.loop-i-test.true c.index-clauses-i.is
+          (c.in_ok-reason.ensures.valid c.in_default.is) others);
+      told = proved_next c.args.limits.now c.args.plan.now c.args.clauses.now c.loop-i.i _ c.loop-i.lines c.try_one.new.text _ c.loop-i-test.true c.index-clauses-i.is
+          (sym c.in_ok-reason.ensures.failed ∙ c.in_default.is) c.in_ok-reason.ensures.told c.loop-i.invariant.told;
+    }

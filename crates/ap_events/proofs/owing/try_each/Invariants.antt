@@ -11,5 +11,5 @@ abbrev pub invariant-loop-i : goal.invariant-loop-i
 invariant-loop-i l = record {
   known : Each (KnownClause (defs_of l.plan)) (drop l.i l.clauses);
   valid : Each (λ c. Valid (defs_of l.plan) c.0) (drop l.i l.clauses) → Each (λ c. Valid (defs_of l.plan) c.0) l.clauses;
-  told : with_lines l.lines (obligations_tried l.limits l.plan (l.i + 1) (drop l.i l.clauses)) ≡ with_lines l.opening (obligations_tried l.limits l.plan 1 l.clauses);
+  told : with_lines l.lines (obligations_tried l.limits l.plan (l.i + 1) (drop l.i l.clauses)) ≡ with_lines l.fn.opening (obligations_tried l.limits l.plan 1 l.clauses);
 }
