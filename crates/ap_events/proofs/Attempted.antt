@@ -23,7 +23,7 @@ pub root_valid : (plan : Plan) (u : Term) → Sound plan.world.entries → are_d
 unfolding ground_functions not_function
 root_valid plan u sound distinct functions u_known good =
     let stands = clausifies u (root_goal plan u).clause refl plan.world.entries sound functions.0 u_known in
-    stands.1 (good functions sound distinct stands.0)
+    stands.1 (good functions sound distinct stands.0 tt)
 
 pub qed : (v : Verdict) → reason_in v ≡ None → v ≡ Verdict.Qed
 qed Verdict.Qed h = refl

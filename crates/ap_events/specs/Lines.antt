@@ -1,14 +1,16 @@
 -- The lines of an attempt: one or two for each mark of its walks, and its checkpoints.
-use Rattle.std.specs.Prelude.{ℕ, ◌+◌, Bool, true, false, cond, ◌&&◌, not, nat_eq, List, [], ◌∷◌, ◌++◌, map, codes, decimal}
+use Rattle.std.specs.Prelude.{ℕ, ◌+◌, Bool, true, false, cond, ◌&&◌, not, nat_eq, List, [], ◌∷◌, ◌++◌, map, codes, decimal, Option, Some, None}
 use Rattle.ap_names.specs.Names.{Name, pushed_of}
 use Rattle.ap_names.specs.Printed.{name_text}
+use Rattle.ap_term.specs.declared.term.Term.{Term}
 use Rattle.ap_term.specs.Printed.{clause_text, term_text}
 use Rattle.ap_walk.specs.declared.act.Process.{Process}
 use Rattle.ap_walk.specs.declared.rule.End.{End}
 use Rattle.ap_walk.specs.declared.mark.Walked.{Walked}
 use Rattle.ap_walk.specs.Visits.{Visit}
 use Rattle.ap_walk.specs.Tallies.{is_push}
-use Rattle.ap_strategy.specs.Goals.{Goal}
+use Rattle.ap_induct.specs.Choosing.{chosen}
+use Rattle.ap_strategy.specs.Goals.{Goal, defs_of}
 use Rattle.ap_events.specs.Texts.{line}
 
 -- why a walk stopped, by the number that the mark has
@@ -24,17 +26,26 @@ counted_text word n = word ++ decimal n
 abbrev pub push_text : Name → ℕ → List ℕ
 push_text name k = codes "push " ++ name_text (pushed_of name k)
 
--- what a process did: its number of children, the name that the k-th push gets, or why the walk stopped
-unfoldable pub process_text : Name → ℕ → Process → ℕ → List ℕ
-process_text name k Process.Hint n = counted_text (codes "hint ") n
-process_text name k Process.Simplify n = counted_text (codes "simplify ") n
-process_text name k Process.Elim n = counted_text (codes "elim ") n
-process_text name k Process.Fertilize n = counted_text (codes "fertilize ") n
-process_text name k Process.Generalize n = counted_text (codes "generalize ") n
-process_text name k Process.Irrelevance n = counted_text (codes "irrelevance ") n
-process_text name k Process.Induct n = counted_text (codes "induct ") n
-process_text name k Process.Push n = push_text name k
-process_text name k Process.Stop n = stop_text n
+-- the call that an induction goes by
+abbrev pub call_text : Option Term → List ℕ
+call_text None = []
+call_text (Some u) = codes " " ++ term_text u
+
+-- the number of cases of a goal's induction, and the call that it goes by
+abbrev pub induct_text : Goal → ℕ → List ℕ
+induct_text g n = counted_text (codes "induct ") n ++ call_text (chosen (defs_of g.plan) g.settings.theory g.clause.0 g.scheme)
+
+-- what a process did to a goal: its number of children, the name that the k-th push gets, or why the walk stopped
+unfoldable pub process_text : Goal → ℕ → Process → ℕ → List ℕ
+process_text g k Process.Hint n = counted_text (codes "hint ") n
+process_text g k Process.Simplify n = counted_text (codes "simplify ") n
+process_text g k Process.Elim n = counted_text (codes "elim ") n
+process_text g k Process.Fertilize n = counted_text (codes "fertilize ") n
+process_text g k Process.Generalize n = counted_text (codes "generalize ") n
+process_text g k Process.Irrelevance n = counted_text (codes "irrelevance ") n
+process_text g k Process.Induct n = induct_text g n
+process_text g k Process.Push n = push_text g.name k
+process_text g k Process.Stop n = stop_text n
 
 -- a goal's line, and before it one where simplification ran out of steps
 unfoldable pub limited_text : Name → Bool → List ℕ
@@ -44,7 +55,7 @@ limited_text name true = name_text name ++ line (codes " steplimit")
 abbrev pub mark_text : ℕ → Visit Goal → List ℕ
 mark_text k m =
     limited_text m.task.name m.act.limited
-    ++ name_text m.task.name ++ codes " " ++ line (process_text m.task.name k m.act.process m.children)
+    ++ name_text m.task.name ++ codes " " ++ line (process_text m.task k m.act.process m.children)
 
 -- the number of the next push, after this mark
 abbrev pub next_push : ℕ → Visit Goal → ℕ

@@ -2,12 +2,14 @@
 ghost use Rattle.std.specs.Prelude.{◌≡◌, ◌++◌, ◌+◌, ◌≤◌, ◌<◌, ◌^◌, length, OnOk, IfOk};
 ghost use Rattle.ap_names.specs.Printed.{name_text};
 ghost use Rattle.ap_attempt.specs.Laws.{mark_count};
-ghost use Rattle.ap_events.specs.Lines.{stop_text, counted_text, push_text, process_text, limited_text, mark_text, marks_text, end_text, walk_text, walks_text, is_checkpoint, checkpoint_text, checkpoints_of, checkpoints_in, headed, checkpoints_text};
+ghost use Rattle.ap_events.specs.Lines.{stop_text, counted_text, push_text, call_text, induct_text, process_text, limited_text, mark_text, marks_text, end_text, walk_text, walks_text, is_checkpoint, checkpoint_text, checkpoints_of, checkpoints_in, headed, checkpoints_text};
 
+use ap_induct::chosen;
 use ap_list::{Bytes, NoMemory};
 use ap_names::GoalName;
-use ap_print::print_clause;
+use ap_print::{print_clause, print_term};
 use ap_strategy::Task;
+use ap_term::Term;
 use ap_walk::{End, Mark, Process, Walked};
 use itoa::Buffer;
 use std::alloc::Global;
@@ -50,19 +52,42 @@ fn put_push(alloc: Global, text: &mut Bytes, name: &GoalName, k: u32) -> Result<
     put_name(alloc, text, &name.pushed(alloc, k)?)
 }
 
-/// Adds what a process did: its number of children, the name that the push gets which is the walk's `k`-th,
-/// or why the walk stopped.
+/// Adds the call that an induction goes by, where there is one.
+fn put_call(alloc: Global, text: &mut Bytes, call: &Option<Term>) -> Result<(), NoMemory>
+    ensures { OnOk result (text.new ≡ text.old ++ call_text call.now) }
+{
+    let Some(call) = call else {
+        return Ok(());
+    };
+    text.extend(b" ")?;
+    text.extend(print_term(alloc, call)?.as_slice())
+}
+
+/// Adds `induct`, the number of cases of a goal's induction, and the call that it goes by.
+fn put_induct(alloc: Global, text: &mut Bytes, task: &Task<'_>, cases: u32) -> Result<(), NoMemory>
+    ensures { OnOk result (text.new ≡ text.old ++ induct_text task.now cases) }
+{
+    put_counted(text, b"induct ", cases)?;
+    let w = task.plan.world.world();
+    let theory = &task.settings.theory;
+    let literals = task.clause.0.as_slice();
+    let call = chosen(alloc, w, theory, literals, task.scheme.as_ref())?;
+    put_call(alloc, text, &call)
+}
+
+/// Adds what a process did to a goal: its number of children, the name that the push gets which is the walk's
+/// `k`-th, or why the walk stopped.
 #[tactic(auto, unfolding(crate::specs::Lines::process_text))]
 fn put_process(
     alloc: Global,
     text: &mut Bytes,
-    name: &GoalName,
+    task: &Task<'_>,
     k: u32,
     process: Process,
     children: u32,
 ) -> Result<(), NoMemory>
     requires { 1 ≤ k }
-    ensures { OnOk result (text.new ≡ text.old ++ process_text name.now k process children) }
+    ensures { OnOk result (text.new ≡ text.old ++ process_text task.now k process children) }
 {
     match process {
         Process::Hint => put_counted(text, b"hint ", children),
@@ -71,8 +96,8 @@ fn put_process(
         Process::Fertilize => put_counted(text, b"fertilize ", children),
         Process::Generalize => put_counted(text, b"generalize ", children),
         Process::Irrelevance => put_counted(text, b"irrelevance ", children),
-        Process::Induct => put_counted(text, b"induct ", children),
-        Process::Push => put_push(alloc, text, name, k),
+        Process::Induct => put_induct(alloc, text, task, children),
+        Process::Push => put_push(alloc, text, &task.name, k),
         Process::Stop => text.extend(stop_word(children)),
     }
 }
@@ -99,11 +124,11 @@ fn put_mark(alloc: Global, text: &mut Bytes, k: u32, mark: &Mark<Task<'_>>) -> R
     requires { 1 ≤ k }
     ensures { OnOk result (text.new ≡ text.old ++ mark_text k mark.now) }
 {
-    let name = &mark.task.name;
-    put_limited(alloc, text, name, mark.act.limited)?;
-    put_name(alloc, text, name)?;
+    let task = &mark.task;
+    put_limited(alloc, text, &task.name, mark.act.limited)?;
+    put_name(alloc, text, &task.name)?;
     text.extend(b" ")?;
-    put_process(alloc, text, name, k, mark.act.process, mark.children)?;
+    put_process(alloc, text, task, k, mark.act.process, mark.children)?;
     text.push(10)
 }
 

@@ -1,7 +1,7 @@
 -- Each function of the ground world is found under its name.
 use Rattle.std.proofs.Common.{◌≡◌, Bool, true, Some, refl}
 use Rattle.ap_world.specs.Names.{not_name, implies_name, iff_name, atom_name, endp_name, null_name, eq_name, eql_name, numeric_equal_name, acl2_numberp_name, rationalp_name, booleanp_name, fix_name, ifix_name, natp_name, posp_name, nfix_name, zp_name, zip_name, zerop_name, plusp_name, minusp_name, max_name, min_name, abs_name, integer_abs_name, true_listp_name, len_name, length_name, acl2_count_name, append_name, member_equal_name, make_character_list_name}
-use Rattle.ap_world.specs.Ground.{not_function, implies_function, iff_function, atom_function, endp_function, null_function, eq_function, eql_function, numeric_equal_function, acl2_numberp_function, rationalp_function, booleanp_function, fix_function, ifix_function, natp_function, posp_function, nfix_function, zp_function, zip_function, zerop_function, plusp_function, minusp_function, max_function, min_function, abs_function, integer_abs_function, true_listp_function, len_function, length_function, acl2_count_function, append_function, member_equal_function, make_character_list_function, ground_functions}
+use Rattle.ap_world.specs.Ground.{ground_rules, car_cons, cdr_cons, car_cdr_elim, commutativity_of_plus, associativity_of_plus, commutativity_2_of_plus, unicity_of_0, commutativity_of_times, associativity_of_times, commutativity_2_of_times, unicity_of_1, times_zero, distributivity, code_char_char_code, coerce_inverse, not_function, implies_function, iff_function, atom_function, endp_function, null_function, eq_function, eql_function, numeric_equal_function, acl2_numberp_function, rationalp_function, booleanp_function, fix_function, ifix_function, natp_function, posp_function, nfix_function, zp_function, zip_function, zerop_function, plusp_function, minusp_function, max_function, min_function, abs_function, integer_abs_function, true_listp_function, len_function, length_function, acl2_count_function, append_function, member_equal_function, make_character_list_function, ground_functions}
 use Rattle.ap_world.specs.Sound.{HasFunctions}
 use Rattle.ap_world.proofs.Equations.{names_open}
 use Rattle.ap_ground.proofs.Totality.{G}
@@ -10,6 +10,10 @@ use Rattle.ap_ground.proofs.Totality.{G}
 unfoldable pub functions_open : Bool
 unfolding names_open ground_functions not_function implies_function iff_function atom_function endp_function null_function eq_function eql_function numeric_equal_function acl2_numberp_function rationalp_function booleanp_function fix_function ifix_function natp_function posp_function nfix_function zp_function zip_function zerop_function plusp_function minusp_function max_function min_function abs_function integer_abs_function true_listp_function len_function length_function acl2_count_function append_function member_equal_function make_character_list_function
 functions_open = true
+
+unfoldable pub rules_open : Bool
+unfolding names_open ground_rules car_cons cdr_cons car_cdr_elim commutativity_of_plus associativity_of_plus commutativity_2_of_plus unicity_of_0 commutativity_of_times associativity_of_times commutativity_2_of_times unicity_of_1 times_zero distributivity code_char_char_code coerce_inverse
+rules_open = true
 
 pub has_not : G not_name ≡ Some not_function
 unfolding functions_open

@@ -4,76 +4,60 @@ ghost use Rattle.std.specs.Prelude.{false};
 ghost use Rattle.ap_world.specs.Sound.{GoodTheorem};
 ghost use Rattle.ap_world.specs.World.{function_of, has_name, added};
 ghost use Rattle.ap_world.specs.declared.entry.Entry.TheVariants as Entry;
-ghost use Rattle.ap_world.specs.Ground.{ground, ground_functions, not_function, implies_function, iff_function, atom_function, endp_function, null_function, eq_function, eql_function, numeric_equal_function, acl2_numberp_function, rationalp_function, booleanp_function, fix_function, ifix_function, natp_function, posp_function, nfix_function, zp_function, zip_function, zerop_function, plusp_function, minusp_function, max_function, min_function, abs_function, integer_abs_function, true_listp_function, len_function, length_function, acl2_count_function, append_function, member_equal_function, make_character_list_function};
+ghost use Rattle.ap_world.specs.Ground.{ground, ground_functions, ground_rules};
+ghost use Rattle.ap_ground.specs.Tabled.{truths_and_equality, recognisers, comparisons, lists};
 
-use crate::plain::{
-    abs, acl2_numberp, atom, booleanp, endp, eq, eql, fix, iff, ifix, implies, integer_abs, length,
-    max, min, minusp, natp, nfix, not, null, numeric_equal, plusp, posp, rationalp, zerop, zip, zp,
-};
-use crate::recursive::{acl2_count, append, len, make_character_list, member_equal, true_listp};
-use crate::rules::rules;
+use crate::functions::{COMPARISONS, LISTS, RECOGNISERS, TRUTHS_AND_EQUALITY};
+use crate::rows;
+use crate::rules::RULES;
 use ap_list::{NoMemory, Seq};
 use ap_world::{AddError, Function, Theorem, World};
 use std::alloc::{AllocError, Global};
 
-/// The functions up to `posp`, in the order of the table.
-fn first_functions(alloc: Global) -> Result<Seq<Function>, NoMemory>
-    ensures { IfOk result (λ fs. fs ≡ not_function ∷ implies_function ∷ iff_function ∷ atom_function ∷ endp_function ∷ null_function ∷ eq_function ∷ eql_function ∷ numeric_equal_function ∷ acl2_numberp_function ∷ rationalp_function ∷ booleanp_function ∷ fix_function ∷ ifix_function ∷ natp_function ∷ posp_function ∷ []) }
+/// The functions of truth values, conses and equality.
+fn truths_and_equality(alloc: Global) -> Result<Seq<Function>, NoMemory>
+    ensures { IfOk result (λ fs. fs ≡ truths_and_equality) }
 {
-    let mut list = Seq::new(alloc);
-    list.push(not(alloc)?)?;
-    list.push(implies(alloc)?)?;
-    list.push(iff(alloc)?)?;
-    list.push(atom(alloc)?)?;
-    list.push(endp(alloc)?)?;
-    list.push(null(alloc)?)?;
-    list.push(eq(alloc)?)?;
-    list.push(eql(alloc)?)?;
-    list.push(numeric_equal(alloc)?)?;
-    list.push(acl2_numberp(alloc)?)?;
-    list.push(rationalp(alloc)?)?;
-    list.push(booleanp(alloc)?)?;
-    list.push(fix(alloc)?)?;
-    list.push(ifix(alloc)?)?;
-    list.push(natp(alloc)?)?;
-    list.push(posp(alloc)?)?;
-    Ok(list)
+    rows::functions(alloc, TRUTHS_AND_EQUALITY)
 }
 
-/// The others, in the order of the table.
-fn other_functions(alloc: Global) -> Result<Seq<Function>, NoMemory>
-    ensures { IfOk result (λ fs. fs ≡ nfix_function ∷ zp_function ∷ zip_function ∷ zerop_function ∷ plusp_function ∷ minusp_function ∷ max_function ∷ min_function ∷ abs_function ∷ integer_abs_function ∷ true_listp_function ∷ len_function ∷ length_function ∷ acl2_count_function ∷ append_function ∷ member_equal_function ∷ make_character_list_function ∷ []) }
+/// Those that tell numbers and truth values, and make an integer of a value.
+fn recognisers(alloc: Global) -> Result<Seq<Function>, NoMemory>
+    ensures { IfOk result (λ fs. fs ≡ recognisers) }
 {
-    let mut list = Seq::new(alloc);
-    list.push(nfix(alloc)?)?;
-    list.push(zp(alloc)?)?;
-    list.push(zip(alloc)?)?;
-    list.push(zerop(alloc)?)?;
-    list.push(plusp(alloc)?)?;
-    list.push(minusp(alloc)?)?;
-    list.push(max(alloc)?)?;
-    list.push(min(alloc)?)?;
-    list.push(abs(alloc)?)?;
-    list.push(integer_abs(alloc)?)?;
-    list.push(true_listp(alloc)?)?;
-    list.push(len(alloc)?)?;
-    list.push(length(alloc)?)?;
-    list.push(acl2_count(alloc)?)?;
-    list.push(append(alloc)?)?;
-    list.push(member_equal(alloc)?)?;
-    list.push(make_character_list(alloc)?)?;
-    Ok(list)
+    rows::functions(alloc, RECOGNISERS)
 }
 
-/// The functions, in the order of the table.
-#[tactic(auto, unfolding(ap_world::specs::Ground::ground_functions))]
+/// Those that make a natural of a value, and compare numbers.
+fn comparisons(alloc: Global) -> Result<Seq<Function>, NoMemory>
+    ensures { IfOk result (λ fs. fs ≡ comparisons) }
+{
+    rows::functions(alloc, COMPARISONS)
+}
+
+/// Those of lists.
+fn lists(alloc: Global) -> Result<Seq<Function>, NoMemory>
+    ensures { IfOk result (λ fs. fs ≡ lists) }
+{
+    rows::functions(alloc, LISTS)
+}
+
+/// The functions, in the order of the tables.
 fn functions(alloc: Global) -> Result<Seq<Function>, NoMemory>
     ensures { IfOk result (λ fs. fs ≡ ground_functions) }
 {
-    let mut list = first_functions(alloc)?;
-    let others = other_functions(alloc)?;
-    list.append(others)?;
-    Ok(list)
+    let mut all = truths_and_equality(alloc)?;
+    all.append(recognisers(alloc)?)?;
+    all.append(comparisons(alloc)?)?;
+    all.append(lists(alloc)?)?;
+    Ok(all)
+}
+
+/// The rules, oldest first.
+fn rules(alloc: Global) -> Result<Seq<Theorem>, NoMemory>
+    ensures { IfOk result (λ us. us ≡ ground_rules) }
+{
+    rows::rules(alloc, RULES)
 }
 
 /// Adds a rule.

@@ -1,11 +1,11 @@
 //! The ground world: the functions and rules that every book begins with.
 #![tactic(auto)]
 
+mod functions;
 mod ground;
 pub mod laws;
 mod masks;
-mod plain;
-mod recursive;
+mod rows;
 mod rules;
 mod written;
 

@@ -1,9 +1,5 @@
-pub mod Induct
-pub mod InductBy
-pub mod Varying
-pub mod Moving
-pub mod InductRow
-pub mod Candidate
-pub mod Inducting
 pub mod Samples
-pub mod Row
+pub mod Leading
+pub mod Powers
+pub mod Counted
+pub mod Followed

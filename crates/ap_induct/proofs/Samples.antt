@@ -7,7 +7,7 @@ use Rattle.ap_world.specs.Recursion.{count_of}
 use Rattle.ap_world.specs.Ground.{one, two, a, x, y, append_function}
 use Rattle.ap_world.proofs.Equations.{names_open}
 use Rattle.ap_world.proofs.Written.{speaking, instances, recursion, out_var, out_call}
-use Rattle.ap_induct.specs.Induction.{is_candidate, places_of, induction_at}
+use Rattle.ap_kernel.specs.Induction.{is_candidate, places_of, induction_at}
 
 append_cases : append_function.cases ≡ record { tests = one endp_name x ∷ []; calls = [] } ∷ record { tests = one not_name (one endp_name x) ∷ []; calls = (one cdr_name x ∷ y ∷ []) ∷ [] } ∷ []
 unfolding append_function names_open
@@ -47,3 +47,15 @@ one_replaced = simp (speaking, recursion, instances, out_var, out_call)
 pub not_distinct : is_candidate (x_name ∷ a_name ∷ []) (count_of x_name ∷ count_of a_name ∷ []) gathering (x ∷ x ∷ []) ≡ false
 unfolding names_open
 not_distinct = simp (speaking, recursion, out_var)
+
+-- where the measure mentions both and the call keeps a: (f x (cons y a)) is a candidate, and (f x (cons x a)) is none, since x stands in the actual of a
+abbrev keeping : List Case
+keeping = record { tests = one endp_name x ∷ []; calls = [] } ∷ record { tests = one not_name (one endp_name x) ∷ []; calls = (one cdr_name x ∷ a ∷ []) ∷ [] } ∷ []
+
+pub apart : is_candidate (x_name ∷ a_name ∷ []) (count_of x_name ∷ count_of a_name ∷ []) keeping (x ∷ two cons_name y a ∷ []) ≡ true
+unfolding names_open
+apart = simp (speaking, recursion, term_eq-same, out_var, out_call)
+
+pub not_apart : is_candidate (x_name ∷ a_name ∷ []) (count_of x_name ∷ count_of a_name ∷ []) keeping (x ∷ two cons_name x a ∷ []) ≡ false
+unfolding names_open
+not_apart = simp (speaking, recursion, term_eq-same, out_var, out_call)

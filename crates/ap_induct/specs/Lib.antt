@@ -1,2 +1,1 @@
-pub mod Induction
-pub mod Row
+pub mod Choosing

@@ -1,5 +1,20 @@
-//! Induction as a recursive function suggests it: which calls are candidates, the clauses of the induction by
-//! one, and that they prove the clause. See the manual's topic `induction`. There is no code yet.
+//! Induction as a recursive function suggests it: which calls of a clause are candidates, and which of them
+//! the induction goes by. See the manual's topic `induction`.
+//!
+//! [`scheme`] chooses it, and answers the kernel's row [`ap_kernel::induct`] by it. The laws say why the
+//! clauses of an induction prove the clause.
 #![tactic(auto)]
 
+mod candidates;
+mod choosing;
+mod counting;
+mod found;
 pub mod laws;
+mod schemes;
+mod symbols;
+
+pub use ap_kernel::{Clause, Reduction, Term, World};
+pub use ap_list::NoMemory;
+pub use ap_world::Theory;
+pub use found::Scheme;
+pub use schemes::{chosen, scheme};

@@ -13,3 +13,9 @@ pub mod Opening
 pub mod Applying
 pub mod Laws
 pub mod Linear
+pub mod Swapping
+pub mod Hinting
+pub mod Eliminating
+pub mod Generalising
+pub mod Fertilising
+pub mod Induction

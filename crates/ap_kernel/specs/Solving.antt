@@ -24,6 +24,10 @@ occurs_step x (Term-F.Call f bs) = any_true bs
 abbrev pub occurs : Symbol → Term → Bool
 occurs x = fold-Term Bool (occurs_step x)
 
+-- it occurs in one of some terms
+abbrev pub occurs_in : Symbol → List Term → Bool
+occurs_in x ts = any_true (map (occurs x) ts)
+
 -- a side that is a variable is solved by the other side, where it doesn't occur in it
 abbrev pub side_solved : Term-F Term → Term → Option (Symbol × Term)
 side_solved (Term-F.Var x) u = cond (occurs x u) None (Some (x, u))

@@ -45,8 +45,12 @@
 //! | [`split_if`] | its two cases, for an `if` within a literal | the literals, for each case |
 //! | [`tidy`] | its plain form, or no clause where that holds by itself | the literals that are kept |
 //! | [`use_equality`] | the clause with a variable replaced that a literal solves | the other literals |
-//! | `fertilise`, `generalise`, `eliminate` | what the processes of these names leave | not built yet |
-//! | `use_fact`, `cases`, `induct` | what these hints and inductions leave | not built yet |
+//! | [`cases`] | a case for each of some terms, and the case where none of them holds | the literals, for each case |
+//! | [`use_fact`] | the clause with the negated instance of a theorem before it | the literals |
+//! | [`generalise`] | the clause with a new variable for a term, under what the term's types say | what isn't changed |
+//! | [`eliminate`] | the clause with a variable taken apart into a cons of two new ones, and the case where it is none | what isn't changed |
+//! | [`fertilise`] | the clause with an equation among its hypotheses used in one side of another, and left out | the other literals |
+//! | [`induct`] | the clauses of an induction by a recursive function | what isn't changed |
 //!
 //! A reduction owns both its clause, which is moved, and those that it leads to: so literals that stand in
 //! both are copied once.
@@ -58,7 +62,8 @@
 //! [`if_shape`] ask of a term, [`can_open`] and [`is_constant_call`] what [`open_def`] and [`fold`] do,
 //! [`are_relieved`] what [`apply_theorem`] does, [`is_comparison`] what [`by_certificate`] does,
 //! [`is_choice_in`] and [`is_solvable`] what [`split_if`] and [`use_equality`] ask of a literal, and
-//! [`bare_test`] finds the term whose mask [`if_shape`] is handed. A [`TypeOracle`] says which types a term can
+//! [`bare_test`] finds the term whose mask [`if_shape`] is handed. [`occurs_in`] tells whether a variable is new,
+//! [`contains`] whether a term is a part of another, [`is_led`] which formals lead an induction. A [`TypeOracle`] says which types a term can
 //! have, a [`LinearOracle`] finds certificates. [`shape_of`] tells a term by its head, its parts lent; what
 //! terms the rows build, others build by the same calls ([`if_term`], [`not_term`], [`equal_term`],
 //! [`negated`], [`subst`]).
@@ -70,20 +75,27 @@ mod calls;
 mod chaining;
 mod choices;
 mod constants;
+mod eliminating;
 mod equations;
 mod facts;
+mod fertilising;
+mod generalising;
+mod hints;
+mod induction;
 mod linear;
 mod literals;
 mod negations;
 mod objects;
 mod opening;
 mod parts;
+mod places;
 mod plain;
 mod reductions;
 mod relieving;
 mod shapes;
 mod solving;
 mod splits;
+mod swapping;
 mod tidying;
 mod types;
 
@@ -99,19 +111,26 @@ pub use choices::{bare_test, if_shape, is_choice, not_term};
 pub use constants::{
     equal_symbol, if_symbol, is_acl2, is_nil, is_nil_term, is_t, nil_term, not_symbol, t_term,
 };
+pub use eliminating::eliminate;
 pub use equations::{cons_equal, equal_term, equation_leads, truth_term};
 pub use facts::by_fact;
+pub use fertilising::fertilise;
+pub use generalising::generalise;
+pub use hints::{cases, use_fact};
+pub use induction::{induct, variable_of};
 pub use linear::{LinearOracle, both_not_less, by_certificate, is_comparison};
 pub use literals::{drop_literal, put_at, rewrite_literal};
 pub use negations::double_not;
 pub use objects::{Ctx, Equiv, Mode, Sequent};
 pub use opening::{can_open, fold, is_constant_call, open_def};
 pub use parts::{conclusion, conclusion_part, hypotheses, is_iff};
+pub use places::{is_led, mentions};
 pub use plain::{refl, trans, weaken_mode};
 pub use reductions::{Inference, Reduction};
 pub use relieving::are_relieved;
 pub use shapes::{Head, ShapeRef, head_of, is_equal, is_if, is_implies, is_not, shape_of};
-pub use solving::{is_solvable, use_equality};
+pub use solving::{is_solvable, occurs_in, use_equality};
 pub use splits::{is_choice_in, negated, split_if};
+pub use swapping::{contains, some_contains};
 pub use tidying::{is_among, tidy};
 pub use types::{TypeOracle, by_type};

@@ -4,7 +4,7 @@ ghost use Rattle.ap_term.specs.declared.term.Term.{out-Term};
 ghost use Rattle.ap_world.specs.World.{function_of};
 ghost use Rattle.ap_kernel.specs.Standing.{HasGround};
 ghost use Rattle.ap_kernel.specs.Reductions.{KnownClause, Reduces, to_one};
-ghost use Rattle.ap_kernel.specs.Solving.{any_true, occurs, side_solved, sides_solved, solved_by, solved_made};
+ghost use Rattle.ap_kernel.specs.Solving.{occurs, occurs_in, side_solved, sides_solved, solved_by, solved_made};
 
 use crate::literals::{put_at, to_one};
 use crate::reductions::Reduction;
@@ -17,7 +17,7 @@ use std::alloc::Global;
 
 /// Whether a variable occurs in a term. Takes no memory.
 #[cycle(occurring)]
-fn occurs(x: &Symbol, t: &Term) -> bool
+pub(crate) fn occurs(x: &Symbol, t: &Term) -> bool
     ensures { result ≡ occurs x.now t.now }
 {
     match t {
@@ -28,8 +28,8 @@ fn occurs(x: &Symbol, t: &Term) -> bool
 }
 
 #[cycle(occurring)]
-fn occurs_in(x: &Symbol, ts: &[Term]) -> bool
-    ensures { result ≡ any_true (map (occurs x.now) ts.now) }
+pub fn occurs_in(x: &Symbol, ts: &[Term]) -> bool
+    ensures { result ≡ occurs_in x.now ts.now }
 {
     for t in ts {
         if occurs(x, t) {

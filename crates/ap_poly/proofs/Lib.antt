@@ -1,5 +1,4 @@
 pub mod Narrow
-pub mod SameTerms
 pub mod Walks
 pub mod Integers
 pub mod Sums

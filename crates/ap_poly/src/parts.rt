@@ -1,20 +1,12 @@
 // The atoms of polynomials with their coefficients, in the order of terms.
 ghost use Rattle.std.specs.Prelude.{◌≡◌, [], ◌++◌, pos, IfOk, OnOk};
-ghost use Rattle.ap_term.specs.Equal.{term_eq};
 ghost use Rattle.ap_term.specs.Order.{term_less};
 ghost use Rattle.ap_poly.specs.Polynomials.{with_part, put, add_parts, scale_parts};
 
 use crate::numbers::{narrow_product, narrow_sum};
 use ap_list::{NoMemory, Seq};
-use ap_term::{Term, copy_term, same_term, term_less};
+use ap_term::{Term, copy_term, is_same, term_less};
 use std::alloc::{AllocError, Global};
-
-/// Whether two terms are one, as the test that definitions choose by. Takes no memory.
-fn is_same(a: &Term, b: &Term) -> bool
-    ensures { result ≡ term_eq a.now b.now }
-{
-    same_term(a, b)
-}
 
 /// Whether a term comes before another in the order of terms. A term whose nodes pass 64 bits has no place
 /// in memory but by sharing: it is answered as want of memory. See the manual's topic `term-order`.

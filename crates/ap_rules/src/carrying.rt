@@ -19,11 +19,21 @@ use std::alloc::{AllocError, Global};
 /// The rules of a world's entries by their heads. `heads` has the head of each rule, in the order of the
 /// entries, and `starts` for each entry how many come before its own, so that they are found again when
 /// entries are taken away.
-#[derive(Drop)]
 pub(crate) struct Carrier {
     pub rules: RuleIndex,
     pub heads: Seq<Symbol>,
     pub starts: Seq<usize>,
+}
+
+// One call wherever a world with its index is let go.
+impl Drop for Carrier {
+    fn drop(self) {
+        let Carrier {
+            rules: _rules,
+            heads: _heads,
+            starts: _starts,
+        } = self;
+    }
 }
 
 /// The head of a rule's left side.
@@ -114,9 +124,7 @@ impl Carrier {
         ensures { Carried [] result.rules.groups result.heads result.starts }
     {
         Carrier {
-            rules: RuleIndex {
-                groups: Groups::new(alloc),
-            },
+            rules: RuleIndex::new(alloc),
             heads: Seq::new(alloc),
             starts: Seq::new(alloc),
         }

@@ -38,6 +38,17 @@ pub struct RuleIndex {
     pub groups: Groups,
 }
 
+impl RuleIndex {
+    /// No rules. Takes no memory.
+    pub(crate) fn new(alloc: Global) -> RuleIndex
+        ensures { result.groups ≡ [] }
+    {
+        RuleIndex {
+            groups: Groups::new(alloc),
+        }
+    }
+}
+
 impl Groups {
     /// No rules. Takes no memory.
     pub(crate) fn new(alloc: Global) -> Groups

@@ -14,6 +14,7 @@ use ap_value::{Symbol, Value};
 use ap_world::{AddError, Function, RuleClass, Theory, World};
 use std::alloc::Global;
 use std::marker::Model;
+use std::mem;
 
 /// A world with the index of its rules. A theorem that is added costs its own rules, whatever the world has
 /// already. Contracts see the world.
@@ -43,8 +44,8 @@ impl Model for Ruled {
 pub fn index(alloc: Global, w: &World) -> Result<RuleIndex, NoMemory>
     ensures { IfOk result (λ ix. IsIndex ix w.now.entries) }
 {
-    let Carrier { rules, .. } = Carrier::of(alloc, w.entries())?;
-    Ok(rules)
+    let mut carrier = Carrier::of(alloc, w.entries())?;
+    Ok(mem::replace(&mut carrier.rules, RuleIndex::new(alloc)))
 }
 
 impl Ruled {

@@ -1,12 +1,12 @@
 -- The laws of the waterfall's step, proved. They stand here, and what they stand on, since the step's `impl` cites
 -- them.
-use Rattle.std.proofs.Common.{◌≡◌, ◌<◌, nat_le, nat_lt, Bool, true, false, cond, List, [], ◌∷◌, length, map, Option, Some, None, refl, arith}
+use Rattle.std.proofs.Common.{◌≡◌, ◌<◌, ◌+◌, ◌-◌, ℕ, nat_le, nat_lt, Bool, true, false, cond, List, [], ◌∷◌, length, map, Option, Some, None, IfSome, refl, sym, ◌∙◌, subst, true≢false, arith}
 use Rattle.std.proofs.lemmas.Bool.{leb-false}
 use Rattle.ap_list.specs.Lists.{Each}
 use Rattle.ap_term.specs.declared.term.Term.{Term}
 use Rattle.ap_term.specs.declared.term.Clause.{Clause}
 use Rattle.ap_world.specs.Meaning.{Defs, Valid}
-use Rattle.ap_world.specs.Sound.{Sound, HasFunctions}
+use Rattle.ap_world.specs.Sound.{known, Sound, HasFunctions}
 use Rattle.ap_world.specs.World.{are_distinct}
 use Rattle.ap_world.specs.Ground.{not_function, ground_functions}
 use Rattle.ap_names.specs.Names.{Name}
@@ -16,13 +16,16 @@ use Rattle.ap_walk.specs.declared.act.Out.{Out}
 use Rattle.ap_walk.specs.declared.act.Stepped.{Stepped}
 use Rattle.ap_walk.specs.Visits.{Tells, IsSplit, out_children}
 use Rattle.ap_kernel.specs.Standing.{HasGround}
-use Rattle.ap_kernel.specs.Reductions.{KnownClause}
+use Rattle.ap_kernel.specs.declared.reductions.Inference.{Inference}
+use Rattle.ap_kernel.specs.Reductions.{KnownClause, Follows}
 use Rattle.ap_rewrite.specs.Arithmetic.{no_arithmetic}
 use Rattle.ap_rewrite.specs.SoundSettings.{SoundSetting}
 use Rattle.ap_rewrite.proofs.ArithmeticSound.{nothing_sound}
 use Rattle.ap_rewrite.proofs.InWorldStands.{sound_setting}
+use Rattle.ap_induct.specs.Choosing.{scheme_of}
+use Rattle.ap_induct.proofs.Followed.{scheme_follows}
 use Rattle.ap_strategy.specs.Goals.{Goal, defs_of}
-use Rattle.ap_strategy.specs.Steps.{setting_of, simplified, is_alone, counted_down, named, child, children, done, stop_step, simplify_step, clause_step, induct_step, step_of, depth_of, IsGood}
+use Rattle.ap_strategy.specs.Steps.{setting_of, simplified, is_alone, counted_down, named, child, children, cases, scheme_below, done, stop_step, simplify_step, clause_step, scheme_step, induct_step, step_of, depth_of, KnownScheme, IsGood}
 use Rattle.ap_strategy.specs.Reduced.{simplified_reduces}
 
 -- what the kernel asks of a world is the first of its functions
@@ -30,58 +33,89 @@ pub kernel_ground : (D : Defs) → HasFunctions D → HasGround D
 unfolding ground_functions not_function
 kernel_ground D functions = functions.0
 
--- what is so of a step that stops, of one that pushes, and of one that simplifies, is so of each step
+-- the induction of a goal by its scheme
+abbrev pub scheme_for : Goal → Option (Term × Inference)
+scheme_for g = scheme_of (defs_of g.plan) g.settings.theory g.clause g.scheme
+
+-- what is so of a step that stops, of one that pushes, of one that simplifies, and of one that inducts, is so of
+-- each step
 module _ (P : Goal → Stepped Goal → Type 0) (g : Goal)
     (stops : (missed : Bool) (r : Reason) → P g (stop_step missed r))
     (pushes : (limited : Bool) → P g (done Process.Push true limited Out.Push))
-    (splits : (ds : List Clause) → g.depth < 250 → simplified (setting_of g) g.plan.step_limit g.clause ≡ Some ds → P g (done Process.Simplify false false (Out.Split (children g ds)))) where
-  of_simplified : (o : Option (List Clause)) → g.depth < 250 → simplified (setting_of g) g.plan.step_limit g.clause ≡ o → P g (simplify_step g o)
-  of_simplified None above q = pushes true
-  of_simplified (Some ds) above q = go (is_alone g.clause ds)
+    (splits : (ds : List Clause) → g.induct ≡ false → g.depth < 250 → simplified (setting_of g) g.plan.step_limit g.clause ≡ Some ds → P g (done Process.Simplify false false (Out.Split (children g ds))))
+    (inducts : (p : Term × Inference) → g.induct ≡ true → nat_lt 9 (length g.name.induction) ≡ false → scheme_for g ≡ Some p → P g (done Process.Induct false false (Out.Split (cases g p.1.to)))) where
+  of_simplified : (o : Option (List Clause)) → g.induct ≡ false → g.depth < 250 → simplified (setting_of g) g.plan.step_limit g.clause ≡ o → P g (simplify_step g o)
+  of_simplified None plain above q = pushes true
+  of_simplified (Some ds) plain above q = go (is_alone g.clause ds)
     where
       go : (b : Bool) → P g (cond b (done Process.Push true false Out.Push) (done Process.Simplify false false (Out.Split (children g ds))))
       go true = pushes false
-      go false = splits ds above q
+      go false = splits ds plain above q
 
-  of_clause : (us : List Term) → P g (clause_step g us)
-  of_clause [] = stops true Reason.EmptyClause
-  of_clause (u ∷ us) = go (nat_le 250 g.depth) refl
+  of_clause : (us : List Term) → g.induct ≡ false → P g (clause_step g us)
+  of_clause [] plain = stops true Reason.EmptyClause
+  of_clause (u ∷ us) plain = go (nat_le 250 g.depth) refl
     where
       go : (b : Bool) → nat_le 250 g.depth ≡ b → P g (cond b (stop_step false Reason.PathDepth) (simplify_step g (simplified (setting_of g) g.plan.step_limit g.clause)))
       go true q = stops false Reason.PathDepth
-      go false q = of_simplified (simplified (setting_of g) g.plan.step_limit g.clause) (above q) refl
+      go false q = of_simplified (simplified (setting_of g) g.plan.step_limit g.clause) plain (above q) refl
         where
           above : nat_le 250 g.depth ≡ false → g.depth < 250
           above q = leb-false 250 g.depth q
 
+  of_scheme : (o : Option (Term × Inference)) → g.induct ≡ true → nat_lt 9 (length g.name.induction) ≡ false → scheme_for g ≡ o → P g (scheme_step g o)
+  of_scheme None q few h = stops false Reason.NoScheme
+  of_scheme (Some p) q few h = inducts p q few h
+
+  of_induction : g.induct ≡ true → P g (induct_step g)
+  of_induction q = go (nat_lt 9 (length g.name.induction)) refl
+    where
+      go : (b : Bool) → nat_lt 9 (length g.name.induction) ≡ b → P g (cond b (stop_step false Reason.InductionDepth) (scheme_step g (scheme_for g)))
+      go true few = stops false Reason.InductionDepth
+      go false few = of_scheme (scheme_for g) q few refl
+
   pub of_step : P g (step_of g)
   unfolding step_of
-  of_step = go g.induct
+  of_step = go g.induct refl
     where
-      go : (b : Bool) → P g (cond b (induct_step g) (clause_step g g.clause.0))
-      go true = stops false (cond (nat_lt 9 (length g.name.induction)) Reason.InductionDepth Reason.NoScheme)
-      go false = of_clause g.clause.0
+      go : (b : Bool) → g.induct ≡ b → P g (cond b (induct_step g) (clause_step g g.clause.0))
+      go true q = of_induction q
+      go false q = of_clause g.clause.0 q
 
 pub tells : (g : Goal) → Tells (step_of g).act.process (step_of g).out
-tells g = of_step (λ g s. Tells s.act.process s.out) g (λ missed r. refl) (λ limited. refl) (λ ds above q. ((λ e. cc), (λ e. cc)))
+tells g = of_step (λ g s. Tells s.act.process s.out) g (λ missed r. refl) (λ limited. refl) (λ ds plain above q. ((λ e. cc), (λ e. cc))) (λ p q few h. ((λ e. cc), (λ e. cc)))
 
--- each child is one deeper
-less_deep : (g : Goal) (ps : List (Name × Clause)) → g.depth < 250 → Each (λ c. depth_of c < depth_of g) (map (child g) ps)
+-- each child is one deeper, and the cases of an induction are at the head of new paths
+one_deeper : (b : Bool) (n : ℕ) → (b ≡ false → n < 250) → 250 - (n + 1) < cond b 250 (250 - n)
+one_deeper true n h = omega arith
+one_deeper false n h = let below = h refl in omega arith
+
+less_deep : (g : Goal) (ps : List (Name × Clause)) → (g.induct ≡ false → g.depth < 250) → Each (λ c. depth_of c < depth_of g) (map (child g) ps)
 less_deep g [] h = tt
-less_deep g (p ∷ ps) h = (omega arith, less_deep g ps h)
+less_deep g (p ∷ ps) h = (one_deeper g.induct g.depth h, less_deep g ps h)
 
 pub deeper : (g : Goal) → Each (λ c. depth_of c < depth_of g) (out_children (step_of g).out)
-deeper g = of_step (λ g s. Each (λ c. depth_of c < depth_of g) (out_children s.out)) g (λ missed r. tt) (λ limited. tt) (λ ds above q. less_deep g (named g.name ds) above)
+deeper g = of_step (λ g s. Each (λ c. depth_of c < depth_of g) (out_children s.out)) g (λ missed r. tt) (λ limited. tt)
+    (λ ds plain above q. less_deep g (named g.name ds) (λ e. above))
+    (λ p q few h. less_deep g (counted_down g.name p.1.to) (λ e. absurd (true≢false (sym q ∙ e))))
+
+-- what a goal's children are inducted by is known where the goal's is
+scheme_kept : (g : Goal) → KnownScheme g → IfSome (scheme_below g) (λ u. known (defs_of g.plan) u ≡ true)
+scheme_kept g h = go g.induct
+  where
+    go : (b : Bool) → IfSome (cond b None g.scheme) (λ u. known (defs_of g.plan) u ≡ true)
+    go true = tt
+    go false = h
 
 -- the clauses of children that are good are valid
-module _ (g : Goal) (functions : HasFunctions (defs_of g.plan)) (sound : Sound g.plan.world.entries) (distinct : are_distinct g.plan.world.entries ≡ true) where
+module _ (g : Goal) (functions : HasFunctions (defs_of g.plan)) (sound : Sound g.plan.world.entries) (distinct : are_distinct g.plan.world.entries ≡ true) (given : KnownScheme g) where
   counted_valid : (name : Name) (ds : List Clause) → Each (KnownClause (defs_of g.plan)) ds → Each IsGood (map (child g) (counted_down name ds)) → Each (λ (d : Clause). Valid (defs_of g.plan) d.0) ds
   counted_valid name [] ks gs = tt
-  counted_valid name (d ∷ ds) ks gs = (gs.0 functions sound distinct ks.0, counted_valid name ds ks.1 gs.1)
+  counted_valid name (d ∷ ds) ks gs = (gs.0 functions sound distinct ks.0 (scheme_kept g given), counted_valid name ds ks.1 gs.1)
 
   children_valid : (ds : List Clause) → Each (KnownClause (defs_of g.plan)) ds → Each IsGood (children g ds) → Each (λ (d : Clause). Valid (defs_of g.plan) d.0) ds
   children_valid [] ks gs = tt
-  children_valid (d ∷ []) ks gs = (gs.0 functions sound distinct ks.0, tt)
+  children_valid (d ∷ []) ks gs = (gs.0 functions sound distinct ks.0 (scheme_kept g given), tt)
   children_valid (d ∷ e ∷ ds) ks gs = counted_valid g.name (d ∷ e ∷ ds) ks gs
 
 -- what the goal's literals are rewritten by is right
@@ -90,10 +124,15 @@ setting_is_sound g functions sound distinct =
     sound_setting g.plan.world g.settings.theory g.settings.expand no_arithmetic sound (kernel_ground (defs_of g.plan) functions) distinct (nothing_sound (defs_of g.plan))
 
 split_good : (g : Goal) (ds : List Clause) → simplified (setting_of g) g.plan.step_limit g.clause ≡ Some ds → Each IsGood (children g ds) → IsGood g
-split_good g ds q gs functions sound distinct k =
+split_good g ds q gs functions sound distinct k given =
     let r = simplified_reduces (setting_of g) (setting_is_sound g functions sound distinct) g.plan.step_limit g.clause ds k q in
-    r.valid (children_valid g functions sound distinct ds r.goals gs)
+    r.valid (children_valid g functions sound distinct given ds r.goals gs)
+
+induction_good : (g : Goal) (p : Term × Inference) → scheme_for g ≡ Some p → Each IsGood (cases g p.1.to) → IsGood g
+induction_good g p h gs functions sound distinct k given =
+    let (start, r) = scheme_follows g.plan.world.entries sound distinct functions g.settings.theory g.clause g.scheme p k given h in
+    subst (λ (d : Clause). Valid (defs_of g.plan) d.0) start (r.valid (counted_valid g functions sound distinct given g.name p.1.to r.goals gs))
 
 -- where all children of a goal that splits are good, the goal is
 pub whole : (g : Goal) → IsSplit (step_of g).out → Each IsGood (out_children (step_of g).out) → IsGood g
-whole g = of_step (λ g s. IsSplit s.out → Each IsGood (out_children s.out) → IsGood g) g (λ missed r h. absurd h) (λ limited h. absurd h) (λ ds above q h. split_good g ds q)
+whole g = of_step (λ g s. IsSplit s.out → Each IsGood (out_children s.out) → IsGood g) g (λ missed r h. absurd h) (λ limited h. absurd h) (λ ds plain above q h. split_good g ds q) (λ p q few s h. induction_good g p s)

@@ -1,12 +1,13 @@
--- The waterfall's step on a goal: it is simplified, or it is pushed, or the attempt stops at it.
-use Rattle.std.specs.Prelude.{◌≡◌, ℕ, ◌+◌, ◌-◌, Bool, true, false, cond, nat_le, nat_lt, List, [], ◌∷◌, ◌++◌, length, map, Option, Some, None}
+-- The waterfall's step on a goal: it is simplified, or it is pushed, or the attempt stops at it; a pushed goal's
+-- induction splits into its cases.
+use Rattle.std.specs.Prelude.{◌≡◌, ℕ, ◌+◌, ◌-◌, Bool, true, false, cond, nat_le, nat_lt, List, [], ◌∷◌, ◌++◌, length, map, Option, Some, None, IsTrue, IfSome}
 use Rattle.std.specs.Option.{option_map}
 use Rattle.ap_list.specs.Lists.{is_among, joined}
 use Rattle.ap_term.specs.declared.term.Term.{Term}
 use Rattle.ap_term.specs.declared.term.Clause.{Clause}
 use Rattle.ap_world.specs.Meaning.{Valid}
 use Rattle.ap_world.specs.Recursion.{args_eq}
-use Rattle.ap_world.specs.Sound.{Sound, HasFunctions}
+use Rattle.ap_world.specs.Sound.{known, Sound, HasFunctions}
 use Rattle.ap_world.specs.World.{are_distinct}
 use Rattle.ap_names.specs.Names.{Name, child_of, primed_of}
 use Rattle.ap_walk.specs.declared.act.Reason.{Reason}
@@ -21,6 +22,7 @@ use Rattle.ap_rewrite.specs.Settings.{Setting}
 use Rattle.ap_rewrite.specs.Arithmetic.{no_arithmetic}
 use Rattle.ap_rewrite.specs.InWorld.{setting_in}
 use Rattle.ap_rewrite.specs.Literals.{simplify_of}
+use Rattle.ap_induct.specs.Choosing.{scheme_of}
 use Rattle.ap_strategy.specs.declared.plan.Plan.{Plan}
 use Rattle.ap_strategy.specs.declared.plan.Settings.{Settings}
 use Rattle.ap_strategy.specs.Goals.{Goal, defs_of}
@@ -93,11 +95,19 @@ abbrev pub named : Name → List Clause → List (Name × Clause)
 named name (d ∷ []) = (primed_of name, d) ∷ []
 named name ds = counted_down name ds
 
+-- the call that is given for an induction is for that one alone
+abbrev pub scheme_below : Goal → Option Term
+scheme_below g = cond g.induct None g.scheme
+
 abbrev pub child : Goal → Name × Clause → Goal
-child g p = record g { name = p.0; clause = p.1; depth = g.depth + 1 }
+child g p = record g { name = p.0; clause = p.1; depth = g.depth + 1; induct = false; scheme = scheme_below g }
 
 abbrev pub children : Goal → List Clause → List Goal
 children g ds = map (child g) (named g.name ds)
+
+-- the cases of an induction are numbered also where there is only one, since the name of a pushed goal has no primes
+abbrev pub cases : Goal → List Clause → List Goal
+cases g ds = map (child g) (counted_down g.name ds)
 
 abbrev pub done : Process → Bool → Bool → Out Goal → Stepped Goal
 done process missed limited out = record { act = record { process = process; missed = missed; limited = limited }; out = out }
@@ -115,20 +125,33 @@ abbrev pub clause_step : Goal → List Term → Stepped Goal
 clause_step g [] = stop_step true Reason.EmptyClause
 clause_step g us = cond (nat_le 250 g.depth) (stop_step false Reason.PathDepth) (simplify_step g (simplified (setting_of g) g.plan.step_limit g.clause))
 
--- there is no induction yet
+-- the clauses of an induction
+abbrev pub cases_in : Term × Inference → List Clause
+cases_in p = p.1.to
+
+-- the cases of the induction that is chosen, if there is one
+abbrev pub scheme_step : Goal → Option (Term × Inference) → Stepped Goal
+scheme_step g None = stop_step false Reason.NoScheme
+scheme_step g (Some p) = done Process.Induct false false (Out.Split (cases g (cases_in p)))
+
 abbrev pub induct_step : Goal → Stepped Goal
-induct_step g = stop_step false (cond (nat_lt 9 (length g.name.induction)) Reason.InductionDepth Reason.NoScheme)
+induct_step g =
+    cond (nat_lt 9 (length g.name.induction)) (stop_step false Reason.InductionDepth) (scheme_step g (scheme_of (defs_of g.plan) g.settings.theory g.clause g.scheme))
 
 unfoldable pub step_of : Goal → Stepped Goal
 step_of g = cond g.induct (induct_step g) (clause_step g g.clause.0)
 
--- the clauses that may still stand below
+-- the clauses that may still stand below; an induction begins new paths
 abbrev pub depth_of : Goal → ℕ
-depth_of g = 250 - g.depth
+depth_of g = cond g.induct 250 (250 - g.depth)
+
+-- the call that an induction is to be by is a term of the world
+abbrev pub KnownScheme : Goal → Type 0
+KnownScheme g = IfSome g.scheme (λ u. IsTrue (known (defs_of g.plan) u))
 
 -- what a proof of a goal establishes: in its plan's world, where that is sound, the clause is valid
 abbrev pub IsGood : Goal → Type 0
-IsGood g = HasFunctions (defs_of g.plan) → Sound g.plan.world.entries → are_distinct g.plan.world.entries ≡ true → KnownClause (defs_of g.plan) g.clause → Valid (defs_of g.plan) g.clause.0
+IsGood g = HasFunctions (defs_of g.plan) → Sound g.plan.world.entries → are_distinct g.plan.world.entries ≡ true → KnownClause (defs_of g.plan) g.clause → KnownScheme g → Valid (defs_of g.plan) g.clause.0
 
 -- as inferences of the kernel
 abbrev pub reduced_to : Clause → List Clause → Inference

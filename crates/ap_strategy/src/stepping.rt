@@ -1,24 +1,37 @@
-ghost use Rattle.std.specs.Prelude.{◌≡◌, ◌+◌, ◌^◌, ◌<◌, ◌≤◌, IfOk, map, length, false, true};
+ghost use Rattle.std.specs.Prelude.{◌≡◌, ◌+◌, ◌^◌, ◌<◌, ◌≤◌, IfOk, IfSome, map, length, false, true};
+ghost use Rattle.std.specs.Option.{option_map};
 ghost use Rattle.ap_list.specs.Lists.{Each};
 ghost use Rattle.ap_names.specs.Names.{is_pushed};
 ghost use Rattle.ap_walk.specs.declared.act.Process.{Process};
 ghost use Rattle.ap_walk.specs.declared.act.Out.{Out};
 ghost use Rattle.ap_walk.specs.declared.act.Reason.{Reason};
 ghost use Rattle.ap_kernel.specs.Reductions.{KnownClause};
+ghost use Rattle.ap_induct.specs.Choosing.{scheme_of};
 ghost use Rattle.ap_strategy.specs.Goals.{defs_of, IsGoal};
-ghost use Rattle.ap_strategy.specs.Steps.{setting_of, child, counted_down, children, done, stop_step, simplify_step, simplified, clause_step, induct_step, step_of};
+ghost use Rattle.ap_strategy.specs.Steps.{setting_of, scheme_below, child, counted_down, children, cases_in, done, stop_step, simplify_step, simplified, clause_step, induct_step, step_of};
 
 use crate::clauses::{copy_clause, is_alone};
 use crate::plan::copy_settings;
 use crate::simplifying::simplify;
 use crate::task::{Task, copy_scheme};
+use ap_induct::scheme;
 use ap_list::{NoMemory, Seq};
 use ap_names::GoalName;
-use ap_term::Clause;
+use ap_term::{Clause, Term};
 use ap_walk::{Act, Out, Process, Reason, Stepped};
 use std::alloc::Global;
 
-/// A task below another one, with a name and a clause of its own.
+/// The call that is given for the inductions below a task: an induction's own is for that one alone.
+fn scheme_below(alloc: Global, task: &Task<'_>) -> Result<Option<Term>, NoMemory>
+    ensures { IfOk result (λ s. s ≡ scheme_below task.now) }
+{
+    if task.induct {
+        return Ok(None);
+    }
+    copy_scheme(alloc, &task.scheme)
+}
+
+/// A task below another one, with a name and a clause of its own. It is no induction.
 fn child<'a>(
     alloc: Global,
     task: &Task<'a>,
@@ -26,14 +39,13 @@ fn child<'a>(
     clause: Clause,
 ) -> Result<Task<'a>, NoMemory>
     requires above { task.now.depth < 250 }
-    requires plain { task.now.induct ≡ false }
     requires unpushed { is_pushed name ≡ false }
     requires primes { name.primes ≤ task.now.depth + 1 }
     requires clause { KnownClause (defs_of task.now.plan) clause }
     ensures { IfOk result (λ t. t ≡ child task.now (name, clause)) }
 {
     let settings = copy_settings(alloc, &task.settings)?;
-    let scheme = copy_scheme(alloc, &task.scheme)?;
+    let scheme = scheme_below(alloc, task)?;
     Ok(Task {
         plan: task.plan,
         name,
@@ -41,7 +53,7 @@ fn child<'a>(
         depth: task.depth + 1,
         under: task.under,
         settings,
-        induct: task.induct,
+        induct: false,
         scheme,
     })
 }
@@ -53,7 +65,6 @@ fn counted_down<'a>(
     clauses: Seq<Clause>,
 ) -> Result<Seq<Task<'a>>, NoMemory>
     requires above { task.now.depth < 250 }
-    requires plain { task.now.induct ≡ false }
     requires few { length clauses < 2 ^ 32 }
     requires clauses { Each (KnownClause (defs_of task.now.plan)) clauses }
     ensures { IfOk result (λ ts. ts ≡ map (child task.now) (counted_down task.now.name clauses)) }
@@ -164,15 +175,48 @@ fn clause_step<'a>(alloc: Global, task: &Task<'a>) -> Result<Stepped<Task<'a>>, 
     simplify_step(alloc, task)
 }
 
-/// The step of a task that is an induction.
-fn induct_step<'a>(task: &Task<'a>) -> Stepped<Task<'a>>
-    ensures { result ≡ induct_step task.now }
+/// The clauses of the induction of a task, if there is one.
+fn cases(alloc: Global, task: &Task<'_>) -> Result<Option<Seq<Clause>>, NoMemory>
+    ensures made { IfOk result (λ o. o ≡ option_map cases_in (scheme_of (defs_of task.now.plan) task.now.settings.theory task.now.clause task.now.scheme)) }
+    ensures known { IfOk result (λ o. IfSome o (Each (KnownClause (defs_of task.now.plan)))) }
+    ensures few { IfOk result (λ o. IfSome o (λ cs. length cs < 2 ^ 32)) }
+{
+    task.is_goal();
+    let w = task.plan.world.world();
+    let theory = &task.settings.theory;
+    let Some(found) = scheme(alloc, w, theory, &task.clause, task.scheme.as_ref())? else {
+        return Ok(None);
+    };
+    let (_, clauses) = found.reduction.into_parts();
+    Ok(Some(clauses))
+}
+
+/// The step of a task whose induction has these cases.
+fn inducted<'a>(cases: Seq<Task<'a>>) -> Stepped<Task<'a>>
+    ensures { result ≡ done Process.Induct false false (Out.Split cases.entry) }
+{
+    Stepped {
+        act: Act {
+            process: Process::Induct,
+            missed: false,
+            limited: false,
+        },
+        out: Out::Split(cases),
+    }
+}
+
+/// The step of a task that is an induction: its cases, unless it is under too many inductions or has no scheme.
+fn induct_step<'a>(alloc: Global, task: &Task<'a>) -> Result<Stepped<Task<'a>>, NoMemory>
+    requires induction { task.now.induct ≡ true }
+    ensures { IfOk result (λ s. s ≡ induct_step task.now) }
 {
     if task.name.induction.len() > 9 {
-        stopped(false, Reason::InductionDepth)
-    } else {
-        stopped(false, Reason::NoScheme)
+        return Ok(stopped(false, Reason::InductionDepth));
     }
+    let Some(clauses) = cases(alloc, task)? else {
+        return Ok(stopped(false, Reason::NoScheme));
+    };
+    Ok(inducted(counted_down(alloc, task, clauses)?))
 }
 
 /// The step of a task.
@@ -181,7 +225,7 @@ pub(crate) fn step_of<'a>(alloc: Global, task: &Task<'a>) -> Result<Stepped<Task
     ensures { IfOk result (λ s. s ≡ step_of task.now) }
 {
     if task.induct {
-        return Ok(induct_step(task));
+        return induct_step(alloc, task);
     }
     clause_step(alloc, task)
 }

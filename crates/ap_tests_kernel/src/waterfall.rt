@@ -262,9 +262,66 @@ fn expect_inductions(rt: &impl Abort, alloc: Global, plan: &Plan) -> Result<(), 
 }
 
 #[test]
-fn an_induction_stops(rt: HostRuntime) -> Result<(), NoMemory> {
+fn an_induction_without_a_scheme_or_under_nine_others_stops(
+    rt: HostRuntime,
+) -> Result<(), NoMemory> {
     let plan = first_plan(rt.alloc(), 9)?;
     expect_inductions(&rt, rt.alloc(), &plan)
+}
+
+/// A conjecture that is proved by induction: appending is associative.
+const ASSOCIATIVE: &str =
+    "(EQUAL (BINARY-APPEND (BINARY-APPEND X Y) Z) (BINARY-APPEND X (BINARY-APPEND Y Z)))";
+
+/// The names of tasks, with a comma between two.
+fn task_names(alloc: Global, tasks: &[Task<'_>]) -> Result<Bytes, NoMemory> {
+    let mut text = Seq::new(alloc);
+    for task in tasks {
+        if !text.is_empty() {
+            text.extend(b", ")?;
+        }
+        text.append(task.name.print(alloc)?)?;
+    }
+    Ok(text)
+}
+
+/// The names of the cases that a step made, where it is an induction's.
+fn case_names(alloc: Global, stepped: &Stepped<Task<'_>>) -> Result<Bytes, NoMemory> {
+    match (stepped.act.process, &stepped.out) {
+        (Process::Induct, Out::Split(cases)) => task_names(alloc, cases.as_slice()),
+        _ => Ok(Bytes::new(alloc)),
+    }
+}
+
+fn expect_cases(
+    rt: &impl Abort,
+    alloc: Global,
+    plan: &Plan,
+    task: &Task<'_>,
+) -> Result<(), NoMemory> {
+    let induction = Boxed::new(alloc, induct_task(alloc, task, 1)?)?;
+    let stepped = Acl2Step::new(plan).step(alloc, induction.get())?;
+    let names = case_names(alloc, &stepped)?;
+    expect(
+        rt,
+        "the cases",
+        names.as_slice(),
+        "Subgoal *1/2, Subgoal *1/1",
+    );
+    Ok(())
+}
+
+fn expect_split(rt: &impl Abort, alloc: Global, plan: &Plan) -> Result<(), NoMemory>
+    requires { HasFunctions (defs_of plan.now) }
+{
+    let task = Boxed::new(alloc, written_task(alloc, plan, ASSOCIATIVE)?)?;
+    expect_cases(rt, alloc, plan, task.get())
+}
+
+#[test]
+fn an_induction_splits_into_its_cases(rt: HostRuntime) -> Result<(), NoMemory> {
+    let plan = first_plan(rt.alloc(), 9)?;
+    expect_split(&rt, rt.alloc(), &plan)
 }
 
 /// Whether a copy is the same task.

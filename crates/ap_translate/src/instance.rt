@@ -5,10 +5,9 @@ ghost use Rattle.ap_term.specs.declared.term.Term.TheVariants.{Var};
 ghost use Rattle.ap_term.specs.Terms.{term_size};
 ghost use Rattle.ap_translate.specs.Instances.{nodes_found, sum_known, nodes_of, more_than, known_pairs, kept_instance, kept_in_turn, kept_either, kept_by};
 
-use crate::names::is_same;
 use crate::sizes::{MOST_NODES, more_nodes};
 use ap_list::{NoMemory, Seq};
-use ap_term::{Subst, Term, copy_term, subst};
+use ap_term::{Subst, Term, copy_term, is_symbol, subst};
 use ap_value::{Symbol, copy_symbol};
 use std::alloc::Global;
 use std::slice::from_ref;
@@ -23,7 +22,7 @@ fn found<'a>(names: &[Symbol], terms: &'a [Option<Term>], name: &Symbol) -> Opti
         let [value, more @ ..] = values else {
             return None;
         };
-        if is_same(name, first) {
+        if is_symbol(name, first) {
             return Some(value);
         }
         left = rest;

@@ -7,7 +7,8 @@ ghost use Rattle.ap_translate.specs.Names.{is_constant, is_starred, can_be_bound
 
 use crate::macros::is_macro;
 use ap_list::NoMemory;
-use ap_value::{Symbol, same_symbol};
+use ap_term::is_symbol;
+use ap_value::Symbol;
 use ap_world::Primitive;
 use std::alloc::Global;
 
@@ -40,20 +41,13 @@ pub(crate) fn is_starred(name: &[u8]) -> bool
     name.len() >= 3 && name[0] == b'*' && name[name.len() - 1] == b'*'
 }
 
-/// Whether two symbols are one, as the definitions test it.
-pub(crate) fn is_same(a: &Symbol, b: &Symbol) -> bool
-    ensures { result ≡ symbol_eq a.now b.now }
-{
-    same_symbol(a, b)
-}
-
 /// Whether a symbol is one of the list.
 pub(crate) fn is_among(symbol: &Symbol, list: &[Symbol]) -> bool
     ensures { result ≡ is_among symbol_eq symbol.now list.now }
 {
     let mut left = list;
     while let [first, rest @ ..] = left {
-        if is_same(symbol, first) {
+        if is_symbol(symbol, first) {
             return true;
         }
         left = rest;

@@ -83,9 +83,16 @@ impl Rune {
 
 /// A theory, by the runes that it disables: every other rune is enabled. Copies share the runes, and a table
 /// of them. Contracts see the list of the runes.
-#[derive(Debug, Drop)]
+#[derive(Debug)]
 pub struct Theory {
     shared: Option<Shared<Disabled>>,
+}
+
+// One call wherever a theory is let go, whether or not it disables any.
+impl Drop for Theory {
+    fn drop(self) {
+        let Theory { shared: _shared } = self;
+    }
 }
 
 impl Model for Theory {

@@ -36,10 +36,19 @@ impl From<AllocError> for AddError {
 /// What a book has admitted so far: functions, theorems and constants in their order, and the current
 /// theory. Contracts see the entries and the theory. Its type keeps that the entries are sound: every
 /// function is total and every theorem is non-`nil` under every assignment.
-#[derive(Drop)]
 pub struct World {
     entries: Entries,
     theory: Theory,
+}
+
+// One call wherever a world is let go, whatever its tables hold.
+impl Drop for World {
+    fn drop(self) {
+        let World {
+            entries: _entries,
+            theory: _theory,
+        } = self;
+    }
 }
 
 impl Model for World {

@@ -1,5 +1,5 @@
-use Rattle.ap_induct.proofs.Inducting.{sound_induct, known_induct}
-use Rattle.ap_induct.proofs.Row.{induction_follows}
+use Rattle.ap_kernel.proofs.Inducting.{sound_induct, known_induct}
+use Rattle.ap_kernel.proofs.InductFollows.{induction_follows}
 use Rattle.ap_induct.proofs.laws.induction_is_sound.Goals as goal
 
 pub returns-clause-sound : goal.returns-clause-sound

@@ -1,0 +1,11 @@
+use Rattle.std.proofs.Common.{◌≡◌, Some, rules}
+use Rattle.ap_world.specs.World.{theorem_of}
+use Rattle.ap_kernel.proofs.Reduced.{reduces_by}
+use Rattle.ap_kernel.proofs.Hinted.{used_follows}
+use Rattle.ap_kernel.proofs.hints.use_fact.Goals as goal
+
+pub returns-clause-stands : goal.returns-clause-stands
+returns-clause-stands c =
+    let found : theorem_of c.args.w.now.entries c.args.name.now ≡ Some c.in-Some.theorem.now = search rules in
+    reduces_by c.args.w.now c.in_ok-answer.answer _ (search rules)
+    (used_follows c.args.w.now.entries c.is_sound.ensures c.requires.ground c.args.c c.args.name.now c.in-Some.theorem.now c.args.s.now.0 found c.requires.clause c.requires.pairs)
