@@ -1,5 +1,5 @@
 -- A definition keeps the world sound.
-use Rattle.std.proofs.Common.{◌≡◌, true, false, true≢false, List, [], ◌∷◌, Some, None, map, refl, ap, sym, ◌∙◌, subst}
+use Rattle.std.proofs.Common.{◌≡◌, ℕ, true, false, true≢false, List, [], ◌∷◌, Some, None, Result, Ok, IfOk, map, refl, ap, sym, ◌∙◌, subst}
 use Rattle.ap_list.specs.Lists.{Each, is_distinct, is_within}
 use Rattle.ap_value.specs.declared.symbol.Symbol.{Symbol}
 use Rattle.ap_value.specs.declared.value.Value.TheVariants.{Sym}
@@ -20,12 +20,19 @@ use Rattle.ap_world.proofs.Grounded.{given_free}
 use Rattle.ap_world.proofs.Knowing.{known_quote}
 use Rattle.ap_world.proofs.Starting.{has_all}
 use Rattle.ap_world.proofs.Written.{vars_quote}
+use Rattle.ap_translate.specs.declared.fault.TransKind.{TransKind}
+use Rattle.ap_translate.specs.Answers.{Answer, refused as refused_at}
 use Rattle.ap_translate.specs.Laws.{HasMacroFunctions}
+use Rattle.ap_terminate.specs.declared.measures.TerminateError.{TerminateError}
 use Rattle.ap_admit.specs.Admission.{with_function}
 use Rattle.ap_admit.specs.Condition.{admitted_by, admitted, owed, clause_of, IsAdmissible}
 use Rattle.ap_admit.proofs.Definitions.{admitted_is_sound}
 use Rattle.ap_admit.proofs.Masked.{stubs_know}
-use Rattle.ap_events.specs.Definitions.{stub, function_with}
+use Rattle.ap_events.specs.declared.limits.Limits.{Limits}
+use Rattle.ap_events.specs.declared.end.RuledEnd.{RuledEnd}
+use Rattle.ap_events.specs.Ends.{step_in, Follows}
+use Rattle.ap_events.specs.Texts.{translation_text, termination_text}
+use Rattle.ap_events.specs.Definitions.{stub, function_with, refused_definition, owing_definition, unmeasured, measured_definition, admitted_definition, defined_step}
 use Rattle.ap_events.specs.Prepared.{IsPrepared}
 
 -- the functions that macros stand for are among the given ones
@@ -78,3 +85,42 @@ sound_recursive w d m sound functions free p recurs measure valid =
     subst (λ b. Sound (with_function w.entries (admitted_by b w d m))) recurs
     (admitted_is_sound w d m (map clause_of (owed d m)) sound functions (admissible w d m free p (λ _. measure))
     (λ _. record { all = refl; valid = valid }))
+
+-- what holds in a world holds in it as it was
+pub functions_as_were : (w v : Shown) → v ≡ w → HasFunctions (function_of w.entries) → HasFunctions (function_of v.entries)
+functions_as_were w v same h = subst (λ (u : Shown). HasFunctions (function_of u.entries)) (sym same) h
+
+pub free_as_was : (w v : Shown) (n m : Symbol) → v ≡ w → m ≡ n → has_name w.entries n ≡ false → has_name v.entries m ≡ false
+free_as_was w v n m same is h = ap (λ (u : Shown). has_name u.entries m) same ∙ ap (has_name w.entries) is ∙ h
+
+pub prepared_as_was : (w v : Shown) (d : Defun) → v ≡ w → IsPrepared w.entries d → IsPrepared v.entries d
+prepared_as_was w v d same h = subst (λ (u : Shown). IsPrepared u.entries d) (sym same) h
+
+pub follows_as_was : {E : Type 0} (r : Result RuledEnd E) (w v : Shown) → v ≡ w → IfOk r (Follows v) → IfOk r (Follows w)
+follows_as_was r w v same h = subst (λ u. IfOk r (Follows u)) same h
+
+-- the event of a definition whose parts are translated, in the world as it was
+pub translated_step : {E : Type 0} (r : Result RuledEnd E) (limits : Limits) (w v : Shown) (n : Symbol) (a : Answer Defun) (d : Defun) → v ≡ w → a ≡ Ok d
+    → IfOk r (λ e. step_in e ≡ admitted_definition limits v d) → IfOk r (λ e. step_in e ≡ defined_step limits w n a)
+unfolding defined_step
+translated_step r limits w v n a d same is h =
+    subst (λ b. IfOk r (λ e. step_in e ≡ defined_step limits w n b)) (sym is)
+    (subst (λ u. IfOk r (λ e. step_in e ≡ admitted_definition limits u d)) same h)
+
+pub untranslated_step : {E : Type 0} (r : Result RuledEnd E) (limits : Limits) (w : Shown) (n : Symbol) (a : Answer Defun) (p : ℕ) (k : TransKind) → a ≡ refused_at p k
+    → IfOk r (λ e. step_in e ≡ refused_definition n [] (translation_text k)) → IfOk r (λ e. step_in e ≡ defined_step limits w n a)
+unfolding defined_step
+untranslated_step r limits w n a p k is h = subst (λ b. IfOk r (λ e. step_in e ≡ defined_step limits w n b)) (sym is) h
+
+-- the event of a definition that calls itself, by its measure
+pub measured_step : {E : Type 0} (r : Result RuledEnd E) (limits : Limits) (w : Shown) (d : Defun) (m : Measure) → measure_of d ≡ Some m.0
+    → IfOk r (λ e. step_in e ≡ owing_definition limits w d m) → IfOk r (λ e. step_in e ≡ measured_definition limits w d (measure_of d))
+unfolding measured_definition
+measured_step r limits w d m is h = subst (λ o. IfOk r (λ e. step_in e ≡ measured_definition limits w d o)) (sym is) h
+
+pub unmeasured_step : {E : Type 0} (r : Result RuledEnd E) (limits : Limits) (w : Shown) (d : Defun) (t : TerminateError) → (measure_of d ≡ None) × (unmeasured d ≡ t)
+    → IfOk r (λ e. step_in e ≡ refused_definition d.name [] (termination_text t)) → IfOk r (λ e. step_in e ≡ measured_definition limits w d (measure_of d))
+unfolding measured_definition
+unmeasured_step r limits w d t why h =
+    subst (λ o. IfOk r (λ e. step_in e ≡ measured_definition limits w d o)) (sym why.0)
+    (subst (λ (t : TerminateError). IfOk r (λ e. step_in e ≡ refused_definition d.name [] (termination_text t))) (sym why.1) h)

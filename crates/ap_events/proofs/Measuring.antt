@@ -1,5 +1,5 @@
 -- Why a definition has no measure.
-use Rattle.std.proofs.Common.{◌≡◌, Bool, true, false, cond, not, ◌&&◌, nat_le, length, List, Option, Some, None, Result, Err, IsTrue, is_none, refl, ap, sym, ◌∙◌}
+use Rattle.std.proofs.Common.{◌≡◌, Bool, true, false, true≢false, cond, not, ◌&&◌, nat_le, length, List, Option, Some, None, Result, Err, IsTrue, is_none, refl, ap, sym, ◌∙◌}
 use Rattle.std.specs.Prelude.{◌↔◌, IsErrOf}
 use Rattle.ap_value.specs.declared.symbol.Symbol.{Symbol}
 use Rattle.ap_term.specs.declared.term.Term.{Term}
@@ -13,7 +13,7 @@ use Rattle.ap_events.specs.Definitions.{unmeasured}
 
 both : (a b : Bool) → (a && b) ≡ true → (a ≡ true) × (b ≡ true)
 both true b h = (refl, h)
-both false b h = cc
+both false b h = absurd (true≢false (sym h))
 
 none_left : (b : Bool) (m : List Term) → not b ≡ true → cond b (Some m) None ≡ None
 none_left true m h = cc
@@ -30,7 +30,7 @@ bad_none (Some m) formals ks h = none_left (is_well_formed m) m.0 h
 
 lacking_none : (o : Option Measure) (formals : List Symbol) (ks : List Case) → is_lacking o formals ks ≡ true → (is_bad o ≡ false) × (measure_by o formals ks ≡ None)
 lacking_none None formals ks h = (refl, not_there (chosen_measure formals ks) h)
-lacking_none (Some m) formals ks h = cc
+lacking_none (Some m) formals ks h = absurd (true≢false (sym h))
 
 nested_by : (u : Bool) (o : Option (List Term)) → not u ≡ true → cond u o None ≡ None
 nested_by true o h = cc

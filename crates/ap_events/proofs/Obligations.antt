@@ -1,5 +1,6 @@
 -- The obligations of a definition, one after another.
-use Rattle.std.proofs.Common.{◌≡◌, ℕ, suc, ◌+◌, ◌<◌, length, drop, get_or, drop-cons, add-one, List, [], ◌∷◌, ◌++◌, Some, None, Option, true, map, refl, ap, sym, ◌∙◌, subst, append_assoc, append-nil}
+use Rattle.std.proofs.Common.{◌≡◌, ℕ, suc, ◌+◌, ◌<◌, ◌≤◌, length, drop, get_or, drop-cons, add-one, List, [], ◌∷◌, ◌++◌, Some, None, Option, true, map, refl, ap, sym, ◌∙◌, subst, append_assoc, append-nil}
+use Rattle.std.proofs.lemmas.List.{drop_all}
 use Rattle.ap_list.specs.Lists.{Each, all_true}
 use Rattle.ap_term.specs.declared.term.Term.{Term}
 use Rattle.ap_term.specs.declared.term.Clause.{Clause}
@@ -33,6 +34,9 @@ first_left P xs i x h is each = subst (Each P) (at_place xs i x h is) each
 pub first_done : {A : Type 0} (P : A → Type 0) (xs : List A) (i : ℕ) (x : A) → i < length xs → x ≡ get_or xs i x → P x → Each P (drop (i + 1) xs) → Each P (drop i xs)
 first_done P xs i x h is one others = subst (Each P) (sym (at_place xs i x h is)) (one, others)
 
+abbrev ended_by : List ℕ → Option Reason → Owing
+ended_by text o = record { lines = text; failed = o }
+
 with_more : (text more : List ℕ) (o : Owing) → with_lines text (with_lines more o) ≡ with_lines (text ++ more) o
 with_more text more o = ap (λ ls. record { lines = ls; failed = o.failed }) (sym (append_assoc text more o.lines))
 
@@ -60,7 +64,7 @@ pub failed_here : (limits : Limits) (plan : Plan) (cs : List Clause) (i : ℕ) (
     → with_lines text (obligations_tried limits plan (i + 1) (drop i cs)) ≡ all
     → record { lines = next; failed = Some r } ≡ all
 failed_here limits plan cs i c text next all r h is failed grown told =
-    ap (λ t. record { lines = t; failed = Some r }) (grown ∙ ap (λ t. text ++ t) (sym (append-nil (obligation_text (i + 1) a))))
+    ap (λ t. ended_by t (Some r)) (grown ∙ ap (λ t. text ++ t) (sym (append-nil (obligation_text (i + 1) a))))
     ∙ ap (λ o. with_lines text (with_lines (obligation_text (i + 1) a) (then_others o others))) (sym failed)
     ∙ ap (λ ds. with_lines text (obligations_tried limits plan (i + 1) ds)) (sym (at_place cs i c h is))
     ∙ told
@@ -70,3 +74,14 @@ failed_here limits plan cs i c text next all r h is failed grown told =
 
     others : Owing
     others = obligations_tried limits plan (i + 1 + 1) (drop (i + 1) cs)
+
+-- where none is left
+pub all_done : (limits : Limits) (plan : Plan) (cs : List Clause) (i : ℕ) (text : List ℕ) (all : Owing) → length cs ≤ i
+    → with_lines text (obligations_tried limits plan (i + 1) (drop i cs)) ≡ all → record { lines = text; failed = None } ≡ all
+all_done limits plan cs i text all h told =
+    ap (λ t. ended_by t None) (sym (append-nil text))
+    ∙ ap (λ ds. with_lines text (obligations_tried limits plan (i + 1) ds)) (sym (drop_all i cs h))
+    ∙ told
+
+pub all_hold : {A : Type 0} (P : A → Type 0) (xs : List A) (i : ℕ) → length xs ≤ i → (Each P (drop i xs) → Each P xs) → Each P xs
+all_hold P xs i h others = others (subst (Each P) (sym (drop_all i xs h)) tt)

@@ -85,7 +85,8 @@ fn try_each(
 {
     let mut lines = opening;
     for i in 0..clauses.len() {
-        if let Some(reason) = try_one(alloc, plan, limits, i + 1, &clauses[i], &mut lines)? {
+        let failed = try_one(alloc, plan, limits, i + 1, &clauses[i], &mut lines)?;
+        if let Some(reason) = failed {
             return Ok(Owing {
                 lines,
                 failed: Some(reason),
