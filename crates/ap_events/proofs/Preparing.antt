@@ -4,6 +4,7 @@ use Rattle.std.proofs.Math.Seq.{take-append_seam}
 use Rattle.ap_list.specs.Lists.{Each, all_true, is_distinct}
 use Rattle.ap_value.specs.declared.symbol.Symbol.{Symbol}
 use Rattle.ap_value.specs.Values.{symbol_eq}
+use Rattle.ap_reader.specs.declared.form.Form.{Form}
 use Rattle.ap_term.specs.declared.term.Term.{Term}
 use Rattle.ap_world.specs.declared.entry.Defun.{Defun}
 use Rattle.ap_world.specs.declared.entry.Entry.{Entry}
@@ -20,7 +21,7 @@ use Rattle.ap_translate.specs.Table.{translated}
 use Rattle.ap_translate.proofs.Fails.{then_fails}
 use Rattle.ap_admit.specs.Admission.{with_function}
 use Rattle.ap_events.specs.Shapes.{Defined}
-use Rattle.ap_events.specs.Definitions.{stub, prepared_definition, formal_names, guard_forms, translated_all, translated_measure, translated_parts, translated_definition}
+use Rattle.ap_events.specs.Definitions.{stub, prepared_definition, formal_names, component_forms, guard_forms, translated_all, translated_measure, translated_parts, translated_definition}
 use Rattle.ap_events.specs.Prepared.{IsPrepared}
 use Rattle.ap_events.proofs.Defining.{macro_functions}
 
@@ -115,3 +116,11 @@ formals_given x W d names is h = gives_after x (formal_names [] d.formals) names
 pub when_given : {A : Type 0} (r : Result A TransError) (a : A) (P : A → Type 0) → Gives r (Ok a) → P a → IfOk r P
 when_given (Ok x) a P h p = let e : a ≡ x = cc in subst P e p
 when_given (Err e) a P h p = tt
+
+-- a measure that is given is that of its components
+pub components_fail : (e : TransError) (W : List Entry) (names : List Symbol) (f : Form) → Fails e (translated_all W names (component_forms f)) → Fails e (translated_measure W names (Some f))
+components_fail e W names f h = then_fails e (translated_all W names (component_forms f)) (λ ms. Ok (Some (record { 0 = ms }))) h
+
+pub components_given : (W : List Entry) (names : List Symbol) (f : Form) (ms : List Term) → translated_all W names (component_forms f) ≡ Ok ms
+    → translated_measure W names (Some f) ≡ Ok (Some (record { 0 = ms }))
+components_given W names f ms is = ap (λ (a : Answer (List Term)). a >>= λ us. Ok (Some (record { 0 = us }))) is

@@ -1,10 +1,13 @@
-use Rattle.std.proofs.Common.{sym, ◌∙◌}
+use Rattle.std.proofs.Common.{refl, sym, ◌∙◌}
 use Rattle.ap_term.specs.declared.term.Clause.{Clause}
 use Rattle.ap_world.specs.Meaning.{Valid}
 use Rattle.ap_kernel.specs.Reductions.{KnownClause}
 use Rattle.ap_strategy.specs.Goals.{defs_of}
 use Rattle.ap_events.proofs.Obligations.{first_left, first_done, proved_next, failed_here, all_done, all_hold}
 use Rattle.ap_events.proofs.owing.try_each.Goals as goal
+
+pub loop-i-init : goal.loop-i-init
+loop-i-init c = record { known = c.requires.known; valid = λ all. all; told = refl }
 
 pub try_one-requires-clause-known : goal.try_one-requires-clause-known
 try_one-requires-clause-known c =
