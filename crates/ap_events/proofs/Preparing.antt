@@ -118,9 +118,12 @@ when_given (Ok x) a P h p = let e : a ≡ x = cc in subst P e p
 when_given (Err e) a P h p = tt
 
 -- a measure that is given is that of its components
+abbrev measure_by : List Term → Answer (Option Measure)
+measure_by ms = Ok (Some (record { 0 = ms }))
+
 pub components_fail : (e : TransError) (W : List Entry) (names : List Symbol) (f : Form) → Fails e (translated_all W names (component_forms f)) → Fails e (translated_measure W names (Some f))
-components_fail e W names f h = then_fails e (translated_all W names (component_forms f)) (λ ms. Ok (Some (record { 0 = ms }))) h
+components_fail e W names f h = then_fails e (translated_all W names (component_forms f)) measure_by h
 
 pub components_given : (W : List Entry) (names : List Symbol) (f : Form) (ms : List Term) → translated_all W names (component_forms f) ≡ Ok ms
     → translated_measure W names (Some f) ≡ Ok (Some (record { 0 = ms }))
-components_given W names f ms is = ap (λ (a : Answer (List Term)). a >>= λ us. Ok (Some (record { 0 = us }))) is
+components_given W names f ms is = ap (λ (a : Answer (List Term)). a >>= measure_by) is
