@@ -222,8 +222,10 @@ fn measure(alloc: Global, w: &Ruled, d: &Defun) -> Result<Result<Measure, Termin
 {
     match measure_for(alloc, w.world(), d) {
         Ok(m) => Ok(Ok(m)),
+        Err(TerminateError::NestedRecursion) => Ok(Err(TerminateError::NestedRecursion)),
+        Err(TerminateError::BadMeasure) => Ok(Err(TerminateError::BadMeasure)),
+        Err(TerminateError::NoMeasure) => Ok(Err(TerminateError::NoMeasure)),
         Err(TerminateError::NoMemory) => Err(AllocError),
-        Err(error) => Ok(Err(error)),
     }
 }
 

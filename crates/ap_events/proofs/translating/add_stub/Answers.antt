@@ -7,19 +7,21 @@ use Rattle.ap_admit.specs.Admission.{with_function}
 use Rattle.ap_events.proofs.Defining.{sound_stub}
 use Rattle.ap_events.proofs.translating.add_stub.Goals as goal
 
-pub add_function-requires-clause-sound : goal.add_function-requires-clause-sound
-add_function-requires-clause-sound c = λ free.
-    subst (λ (f : Function). Sound (with_function c.args.w.old.entries f)) (sym c.in_ok-stub.ensures)
-    (sound_stub c.args.w.old.entries c.args.name.now c.args.formals.now c.requires.sound c.requires.functions c.requires.free c.requires.distinct)
+pub add_function-requires : goal.add_function-requires
+add_function-requires c = record {
+  sound = λ free.
+      subst (λ (f : Function). Sound (with_function c.args.w.now.entries f)) (sym c.in_ok-stub.ensures)
+      (sound_stub c.args.w.now.entries c.args.name.now c.args.formals.now c.requires.sound c.requires.functions c.requires.free c.requires.distinct);
+}
 
 pub unreachable-requires : goal.unreachable-requires
 unreachable-requires c =
-    let taken : has_name c.args.w.old.entries c.in_ok-stub.stub.name ≡ true = c.add_function.ensures.taken.0 (c.in-Err-NameTaken.is ∙ ap Err c.in-Err-NameTaken.field-0-is) in
-    let free : has_name c.args.w.old.entries c.in_ok-stub.stub.name ≡ false = ap (λ (f : Function). has_name c.args.w.old.entries f.name) c.in_ok-stub.ensures ∙ c.requires.free in
+    let taken : has_name c.args.w.now.entries c.in_ok-stub.stub.name ≡ true = c.add_function.ensures.taken.0 (c.in-Err-NameTaken.is ∙ ap Err c.in-Err-NameTaken.field-0-is) in
+    let free : has_name c.args.w.now.entries c.in_ok-stub.stub.name ≡ false = ap (λ (f : Function). has_name c.args.w.now.entries f.name) c.in_ok-stub.ensures ∙ c.requires.free in
     cc (free, taken)
 
 pub returns-in-Ok-clause-ok : goal.returns-in-Ok-clause-ok
-returns-in-Ok-clause-ok c = c.in-Ok.ensures.ok ∙ ap (λ (f : Function). added c.args.w.old (entry.Function f)) c.in_ok-stub.ensures
+returns-in-Ok-clause-ok c = c.in-Ok.ensures.ok ∙ ap (λ (f : Function). added c.args.w.now (entry.Function f)) c.in_ok-stub.ensures
 
 pub returns-in-Err-NoMemory-clause-err : goal.returns-in-Err-NoMemory-clause-err
-returns-in-Err-NoMemory-clause-err c = subst (λ r. OnErr r (c.add_function.new.self ≡ c.args.w.old)) c.in-Err-NoMemory.is c.add_function.ensures.err
+returns-in-Err-NoMemory-clause-err c = subst (λ r. OnErr r (c.add_function.new.self ≡ c.args.w.now)) c.in-Err-NoMemory.is c.add_function.ensures.err

@@ -8,9 +8,11 @@ use Rattle.ap_events.specs.Definitions.{translated_all}
 use Rattle.ap_events.proofs.Defining.{macro_functions}
 use Rattle.ap_events.proofs.translating.measure_terms.Goals as goal
 
-pub terms-requires-clause-macros : goal.terms-requires-clause-macros
-terms-requires-clause-macros c =
-    subst (λ (u : Shown). HasMacroFunctions (function_of u.entries)) (sym c.world.ensures) (macro_functions (function_of c.args.w.now.entries) c.requires.functions)
+pub terms-requires : goal.terms-requires
+terms-requires c = record {
+  macros =
+      subst (λ (u : Shown). HasMacroFunctions (function_of u.entries)) (sym c.world.ensures) (macro_functions (function_of c.args.w.now.entries) c.requires.functions);
+}
 
 pub returns-clause-made : goal.returns-clause-made
 returns-clause-made c =

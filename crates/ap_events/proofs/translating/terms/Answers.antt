@@ -30,7 +30,7 @@ loop-form-preserved c =
 
 pub returns-in_err-translate-clause-made : goal.returns-in_err-translate-clause-made
 returns-in_err-translate-clause-made c =
-    gives_err c.from_residual-in_err-translate.result c.in_err-translate.field-0.0 _ c.from_residual-in_err-translate.ensures.1
+    gives_err c.from_residual.result c.in_err-translate.field-0.0 _ c.from_residual.ensures.1
     (after_fails (translated c.args.w.now.entries (Some c.args.formals.now)) c.loop-form.terms c.args.forms.now c.loop-form.form-index c.form-item.result _ c.in_err-translate.field-0.0
     c.loop-form-test.true c.form-item.is c.loop-form.invariant.told c.in_err-translate.ensures.made)
 
