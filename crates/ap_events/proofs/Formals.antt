@@ -1,12 +1,16 @@
--- The formals of a definition.
-use Rattle.std.proofs.Common.{◌≡◌, ℕ, suc, ◌+◌, ◌<◌, length, drop, get_or, drop-cons, add-one, Some, Bool, true, false, ◌&&◌, ◌||◌, not, List, [], ◌∷◌, ◌++◌, refl, ap, sym, ◌∙◌, true≢false, append_assoc, Ok, Err}
-use Rattle.ap_list.specs.Lists.{is_among, is_distinct}
+-- The formals of a definition, and the terms of forms one after another.
+use Rattle.std.proofs.Common.{◌≡◌, ℕ, suc, ◌+◌, ◌<◌, ◌≤◌, length, drop, get_or, drop-cons, add-one, Some, Bool, true, false, ◌&&◌, ◌||◌, not, List, [], ◌∷◌, ◌++◌, refl, ap, sym, ◌∙◌, true≢false, append_assoc, append-nil, subst, Ok, Err}
+use Rattle.std.proofs.lemmas.List.{drop_all}
+use Rattle.ap_list.specs.Lists.{Each, is_among, is_distinct}
+use Rattle.ap_list.proofs.Eachs.{each_append}
 use Rattle.ap_value.specs.declared.symbol.Symbol.{Symbol}
 use Rattle.ap_value.specs.Values.{symbol_eq}
 use Rattle.ap_value.proofs.Equals.{symbol_eq-true, symbol_eq-same}
 use Rattle.ap_reader.specs.declared.form.Form.{Form}
 use Rattle.ap_events.specs.Definitions.{formal_in, formal_names_by, formal_names}
-use Rattle.ap_translate.specs.Answers.{Answer, Refusal, each, ◌>>=◌}
+use Rattle.ap_translate.specs.declared.fault.TransError.{TransError}
+use Rattle.ap_translate.specs.declared.fault.TransError.TheVariants as errors
+use Rattle.ap_translate.specs.Answers.{Answer, Refusal, Fails, each, ◌>>=◌}
 use Rattle.ap_translate.specs.Names.{is_constant, is_starred, can_be_bound}
 
 at_form : {F : Type 0} (items : List F) (i : ℕ) (f : F) → i < length items → f ≡ get_or items i f → drop i items ≡ f ∷ drop (i + 1) items
@@ -84,3 +88,26 @@ after_first g us f fs u h = ap (λ (a : Answer _). after us (a >>= λ y. each g 
 
 pub after_refused : {F A : Type 0} (g : F → Answer A) (us : List A) (f : F) (fs : List F) (e : Refusal) → g f ≡ Err e → after us (each g (f ∷ fs)) ≡ Err e
 after_refused g us f fs e h = ap (λ (a : Answer _). after us (a >>= λ y. each g fs >>= λ ys. Ok (y ∷ ys))) h
+
+-- one form more of those that are left
+pub after_next : {F A : Type 0} (g : F → Answer A) (us next : List A) (fs : List F) (i : ℕ) (f : F) (u : A) (all : Answer (List A)) → i < length fs → f ≡ get_or fs i f
+    → g f ≡ Ok u → next ≡ us ++ u ∷ [] → after us (each g (drop i fs)) ≡ all → after next (each g (drop (i + 1) fs)) ≡ all
+after_next g us next fs i f u all h is made grown told =
+    ap (λ ns. after ns (each g (drop (i + 1) fs))) grown
+    ∙ sym (after_first g us f (drop (i + 1) fs) u made)
+    ∙ sym (ap (λ ds. after us (each g ds)) (at_form fs i f h is)) ∙ told
+
+-- where it is refused all are
+pub after_fails : {F A : Type 0} (g : F → Answer A) (us : List A) (fs : List F) (i : ℕ) (f : F) (all : Answer (List A)) (e : TransError) → i < length fs → f ≡ get_or fs i f
+    → after us (each g (drop i fs)) ≡ all → Fails e (g f) → Fails e all
+after_fails g us fs i f all errors.NoMemory h is told failed = tt
+after_fails g us fs i f all (errors.Fault p k) h is told failed =
+    sym told ∙ ap (λ ds. after us (each g ds)) (at_form fs i f h is) ∙ after_refused g us f (drop (i + 1) fs) _ failed
+
+-- where none is left
+pub after_all : {F A : Type 0} (g : F → Answer A) (us : List A) (fs : List F) (i : ℕ) (all : Answer (List A)) → length fs ≤ i
+    → after us (each g (drop i fs)) ≡ all → all ≡ Ok us
+after_all g us fs i all h told = sym told ∙ ap (λ ds. after us (each g ds)) (drop_all i fs h) ∙ ap Ok (append-nil us)
+
+pub each_next : {A : Type 0} (P : A → Type 0) (us next : List A) (u : A) → next ≡ us ++ u ∷ [] → Each P us → P u → Each P next
+each_next P us next u grown h one = subst (Each P) (sym grown) (each_append P us (u ∷ []) h (one, tt))

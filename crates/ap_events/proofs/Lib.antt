@@ -2,5 +2,8 @@ pub mod Attempted
 pub mod Defining
 pub mod Ending
 pub mod Formals
-pub mod Within
+pub mod Measuring
+pub mod Obligations
 pub mod Refusing
+pub mod Preparing
+pub mod Within

@@ -2,13 +2,15 @@
 use Rattle.std.specs.Prelude.{ℕ, ◌≤◌, false, true, Option, Some, None}
 use Rattle.std.proofs.Common.{arith}
 use Rattle.ap_term.specs.declared.term.Term.{Term}
+use Rattle.ap_term.specs.declared.term.Clause.{Clause}
 use Rattle.ap_world.specs.World.{Shown}
+use Rattle.ap_names.specs.Names.{root}
 use Rattle.ap_walk.specs.declared.act.Reason.{Reason}
 use Rattle.ap_walk.specs.declared.rule.Rule.{Rule}
 use Rattle.ap_attempt.specs.declared.verdict.Verdict.{Verdict}
 use Rattle.ap_attempt.specs.Attempts.{Course, walks_of, attempt}
 use Rattle.ap_strategy.specs.declared.plan.Plan.{Plan}
-use Rattle.ap_strategy.specs.Goals.{Goal, root_goal, inducted}
+use Rattle.ap_strategy.specs.Goals.{Goal, first_settings, root_goal, inducted}
 use Rattle.ap_strategy.specs.Steps.{step_of, depth_of}
 use Rattle.ap_events.specs.declared.limits.Limits.{Limits}
 use Rattle.ap_events.specs.declared.attempting.Tried.{Tried}
@@ -26,9 +28,9 @@ first_rule limits = record {
   limited = (limits.within.goals_some, goals_fit limits.goals limits.within.goals_few);
 }
 
--- the attempt on a term by a plan: it starts from the term's clause under the name `Goal`
-abbrev pub attempt_on : Limits → Plan → Term → Course Goal
-attempt_on limits plan u = attempt step_of depth_of inducted (root_goal plan u) false (first_rule limits) (root_goal plan u)
+-- the attempt that starts from a goal
+abbrev pub attempt_from : Limits → Goal → Course Goal
+attempt_from limits g = attempt step_of depth_of inducted g false (first_rule limits) g
 
 -- its lines, why it failed, if it did, and its checkpoints
 abbrev pub reason_in : Verdict → Option Reason
@@ -38,9 +40,29 @@ reason_in (Verdict.Failed r) = Some r
 abbrev pub told : Course Goal → Tried
 told a = record { lines = walks_text (walks_of a); failed = reason_in a.verdict; checkpoints = checkpoints_text (walks_of a) }
 
-unfoldable pub tried : Limits → Plan → Term → Tried
-tried limits plan u = told (attempt_on limits plan u)
+unfoldable pub tried_from : Limits → Goal → Tried
+tried_from limits g = told (attempt_from limits g)
 
--- the plan of a theorem: no hints are built
+-- that on a term by a plan starts from the term's clause under the name `Goal`
+abbrev pub tried : Limits → Plan → Term → Tried
+tried limits plan u = tried_from limits (root_goal plan u)
+
+-- so does that on a clause
+abbrev pub clause_goal : Plan → Clause → Goal
+clause_goal plan c = record {
+  plan = plan;
+  name = root;
+  clause = c;
+  depth = 0;
+  under = false;
+  settings = first_settings plan;
+  induct = false;
+  scheme = None;
+}
+
+abbrev pub tried_clause : Limits → Plan → Clause → Tried
+tried_clause limits plan c = tried_from limits (clause_goal plan c)
+
+-- the plan of a theorem, and of obligations: no hints are built
 abbrev pub plan_for : Limits → Shown → Plan
 plan_for limits w = record { world = w; step_limit = limits.steps }

@@ -27,20 +27,20 @@ unfoldable pub disabled_theorem : Limits → Shown → Option Stated → Step
 disabled_theorem limits w None = bad_event theorem_head
 disabled_theorem limits w (Some s) = disabled_statement limits w s
 
-abbrev pub disabled_function : Shown → Defined → Step
-disabled_function w d = disabled d.name (plain_definition w definition_head d)
+abbrev pub disabled_function : Limits → Shown → Defined → Step
+disabled_function limits w d = disabled d.name (plain_definition limits w definition_head d)
 
-unfoldable pub disabled_definition : Shown → Option Defined → Step
-disabled_definition w None = bad_event definition_head
-disabled_definition w (Some d) = disabled_function w d
+unfoldable pub disabled_definition : Limits → Shown → Option Defined → Step
+disabled_definition limits w None = bad_event definition_head
+disabled_definition limits w (Some d) = disabled_function limits w d
 
 unfoldable pub named_event : Limits → Shown → Form → Symbol → Step
 named_event limits w f h =
     cond (symbol_eq h (acl2 (codes "DEFTHM"))) (theorem_step limits w h (statement_of f))
-    (cond (symbol_eq h (acl2 (codes "DEFUN"))) (definition_step w h (definition_of f))
+    (cond (symbol_eq h (acl2 (codes "DEFUN"))) (definition_step limits w h (definition_of f))
     (cond (symbol_eq h (acl2 (codes "DEFCONST"))) (constant_step w h (constant_of f))
     (cond (symbol_eq h (acl2 (codes "DEFTHMD"))) (disabled_theorem limits w (statement_of f))
-    (cond (symbol_eq h (acl2 (codes "DEFUND"))) (disabled_definition w (definition_of f))
+    (cond (symbol_eq h (acl2 (codes "DEFUND"))) (disabled_definition limits w (definition_of f))
     (cond (symbol_eq h (acl2 (codes "IN-THEORY"))) (theory_step w h (changes_of f)) (not_supported h))))))
 
 unfoldable pub headed_event : Limits → Shown → Form → Option Symbol → Step

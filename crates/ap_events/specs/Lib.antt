@@ -8,6 +8,7 @@ pub mod Ends
 pub mod Events
 pub mod Limits
 pub mod Lines
+pub mod Prepared
 pub mod Runes
 pub mod Shapes
 pub mod Texts

@@ -1,8 +1,11 @@
 -- The printed lines of events.
 use Rattle.std.specs.Prelude.{ℕ, List, [], ◌∷◌, ◌++◌, codes, decimal}
 use Rattle.ap_value.specs.declared.symbol.Symbol.{Symbol}
-use Rattle.ap_term.specs.Printed.{symbol_text}
+use Rattle.ap_value.specs.Values.{acl2}
+use Rattle.ap_term.specs.declared.term.Term.{Term, Call}
+use Rattle.ap_term.specs.Printed.{symbol_text, term_text}
 use Rattle.ap_rules.specs.declared.refusing.RuleError.{RuleError}
+use Rattle.ap_terminate.specs.declared.measures.TerminateError.{TerminateError}
 use Rattle.ap_translate.specs.declared.fault.TransKind.{TransKind}
 use Rattle.ap_translate.specs.declared.fault.TransKind.TheVariants as kinds
 use Rattle.ap_translate.specs.Answers as translation
@@ -52,6 +55,13 @@ rule_text RuleError.NotInequality = codes "5.4 NotInequality"
 rule_text RuleError.NotTypeForm = codes "5.5 NotTypeForm"
 rule_text RuleError.NoMemory = []
 
+-- why a function that calls itself has no measure
+unfoldable pub termination_text : TerminateError → List ℕ
+termination_text TerminateError.NoMeasure = codes "7.1 NoMeasure"
+termination_text TerminateError.NestedRecursion = codes "7.2 NestedRecursion"
+termination_text TerminateError.BadMeasure = codes "7.3 BadMeasure"
+termination_text TerminateError.NoMemory = []
+
 unfoldable pub reason_text : Reason → List ℕ
 reason_text Reason.NoScheme = codes "NoScheme"
 reason_text Reason.EmptyClause = codes "EmptyClause"
@@ -66,6 +76,18 @@ failure_text r = codes "8." ++ decimal (reason_number r) ++ codes " " ++ reason_
 -- what an event with a name prints: its opening line, other lines, and what became of it
 abbrev pub event_text : List ℕ → Symbol → List ℕ → List ℕ → List ℕ
 event_text head n lines said = event_line head n [] ++ lines ++ event_line head n said
+
+-- the line of a measure: its one component, or `(LEX m1 .. mk)`
+abbrev pub measure_term : List Term → Term
+measure_term (m ∷ []) = m
+measure_term ms = Call (acl2 (codes "LEX")) ms
+
+unfoldable pub measure_line : List Term → List ℕ
+measure_line ms = codes "Measure " ++ line (term_text (measure_term ms))
+
+-- the line of an obligation
+unfoldable pub obligation_line : ℕ → List ℕ
+obligation_line k = codes "Obligation " ++ line (decimal k)
 
 -- a constant's event has the last line alone
 abbrev pub constant_line : Symbol → List ℕ → List ℕ

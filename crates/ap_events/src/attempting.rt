@@ -1,16 +1,21 @@
-ghost use Rattle.std.specs.Prelude.{◌≡◌, [], ◌∷◌, None, IfOk, IsTrue};
+ghost use Rattle.std.specs.Prelude.{◌≡◌, [], ◌∷◌, None, IfOk, IsTrue, true};
 ghost use Rattle.ap_world.specs.Meaning.{Valid};
-ghost use Rattle.ap_world.specs.Sound.{known, HasFunctions};
+ghost use Rattle.ap_world.specs.Sound.{known, HasFunctions, Sound};
+ghost use Rattle.ap_world.specs.World.{are_distinct};
+ghost use Rattle.ap_names.specs.Names.{root};
+ghost use Rattle.ap_kernel.specs.Reductions.{KnownClause};
 ghost use Rattle.ap_strategy.specs.Goals.{defs_of};
-ghost use Rattle.ap_events.specs.Attempts.{first_rule, reason_in, tried};
+ghost use Rattle.ap_strategy.specs.Steps.{IsGood};
+ghost use Rattle.ap_events.specs.Attempts.{first_rule, reason_in, tried_from, tried, clause_goal, tried_clause};
 
 use crate::limits::Limits;
 use crate::lines::{checkpoint_lines, walk_lines};
 use crate::prover::Proving;
 use ap_attempt::{Verdict, prove};
-use ap_list::{Bytes, NoMemory};
-use ap_strategy::{Acl2Step, Plan, root_task};
-use ap_term::Term;
+use ap_list::{Bytes, NoMemory, Seq};
+use ap_names::GoalName;
+use ap_strategy::{Acl2Step, Plan, Task, first_settings, root_task};
+use ap_term::{Clause, Term, copy_terms};
 use ap_walk::{Reason, Rule};
 use std::alloc::Global;
 
@@ -43,23 +48,17 @@ fn reason(verdict: Verdict) -> Option<Reason>
     }
 }
 
-/// Tries to prove a term of a plan's world. Where it doesn't fail, the term is valid.
-#[tactic(auto, unfolding(crate::specs::Attempts::tried))]
-pub(crate) fn attempt(
+/// Works the attempt that starts from a task. Where it doesn't fail, the task is good.
+#[tactic(auto, unfolding(crate::specs::Attempts::tried_from))]
+fn attempt_from(
     alloc: Global,
     plan: &Plan,
     limits: &Limits,
-    term: &Term,
+    root: Task<'_>,
 ) -> Result<Tried, NoMemory>
-    requires functions { HasFunctions (defs_of plan.now) }
-    requires known { IsTrue (known (defs_of plan.now) term.now) }
-    ensures tried { IfOk result (λ t. t ≡ tried limits.now plan.now term.now) }
-    ensures valid { IfOk result (λ t. t.failed ≡ None → Valid (defs_of plan.now) (term.now ∷ [])) }
+    ensures tried { IfOk result (λ t. t ≡ tried_from limits.now root.entry) }
+    ensures good { IfOk result (λ t. t.failed ≡ None → IsGood root.entry) }
 {
-    let world = plan.world.world();
-    world.is_sound();
-    world.has_distinct_names();
-    let root = root_task(alloc, plan, term)?;
     let prover = Proving {
         step: Acl2Step::new(plan),
     };
@@ -71,4 +70,80 @@ pub(crate) fn attempt(
         failed: reason(done.verdict),
         checkpoints,
     })
+}
+
+/// A plan's world is sound, and its names are distinct. Costs nothing.
+fn is_sound(plan: &Plan)
+    ensures sound { Sound plan.now.world.entries }
+    ensures distinct { are_distinct plan.now.world.entries ≡ true }
+{
+    let world = plan.world.world();
+    world.is_sound();
+    world.has_distinct_names();
+}
+
+/// Tries to prove a term of a plan's world. Where it doesn't fail, the term is valid.
+pub(crate) fn attempt(
+    alloc: Global,
+    plan: &Plan,
+    limits: &Limits,
+    term: &Term,
+) -> Result<Tried, NoMemory>
+    requires functions { HasFunctions (defs_of plan.now) }
+    requires known { IsTrue (known (defs_of plan.now) term.now) }
+    ensures tried { IfOk result (λ t. t ≡ tried limits.now plan.now term.now) }
+    ensures valid { IfOk result (λ t. t.failed ≡ None → Valid (defs_of plan.now) (term.now ∷ [])) }
+{
+    is_sound(plan);
+    let root = root_task(alloc, plan, term)?;
+    attempt_from(alloc, plan, limits, root)
+}
+
+/// The name `Goal`.
+fn root_name(alloc: Global) -> GoalName
+    ensures { result ≡ root }
+{
+    GoalName {
+        induction: Seq::new(alloc),
+        case: None,
+        path: Seq::new(alloc),
+        primes: 0,
+    }
+}
+
+/// The task that the attempt on a clause starts from.
+fn clause_task<'a>(alloc: Global, plan: &'a Plan, clause: &Clause) -> Result<Task<'a>, NoMemory>
+    requires functions { HasFunctions (defs_of plan.now) }
+    requires known { KnownClause (defs_of plan.now) clause.now }
+    ensures { IfOk result (λ t. t ≡ clause_goal plan.now clause.now) }
+{
+    let clause = Clause(copy_terms(alloc, clause.0.as_slice())?);
+    let settings = first_settings(alloc, plan)?;
+    Ok(Task {
+        plan,
+        name: root_name(alloc),
+        clause,
+        depth: 0,
+        under: false,
+        settings,
+        induct: false,
+        scheme: None,
+    })
+}
+
+/// Tries to prove a clause of a plan's world. Where it doesn't fail, the clause is valid.
+pub(crate) fn attempt_clause(
+    alloc: Global,
+    plan: &Plan,
+    limits: &Limits,
+    clause: &Clause,
+) -> Result<Tried, NoMemory>
+    requires functions { HasFunctions (defs_of plan.now) }
+    requires known { KnownClause (defs_of plan.now) clause.now }
+    ensures tried { IfOk result (λ t. t ≡ tried_clause limits.now plan.now clause.now) }
+    ensures valid { IfOk result (λ t. t.failed ≡ None → Valid (defs_of plan.now) clause.now.0) }
+{
+    is_sound(plan);
+    let root = clause_task(alloc, plan, clause)?;
+    attempt_from(alloc, plan, limits, root)
 }

@@ -44,13 +44,19 @@ fn theorem_event(
 }
 
 #[tactic(auto, unfolding(crate::specs::Definitions::definition_step))]
-fn definition_event(alloc: Global, w: Ruled, head: &Symbol, f: &Form) -> Result<RuledEnd, NoMemory>
+fn definition_event(
+    alloc: Global,
+    w: Ruled,
+    head: &Symbol,
+    f: &Form,
+    limits: &Limits,
+) -> Result<RuledEnd, NoMemory>
     requires functions { HasFunctions (function_of w.entries) }
-    ensures step { IfOk result (λ e. step_in e ≡ definition_step w head.now (definition_of f.now)) }
+    ensures step { IfOk result (λ e. step_in e ≡ definition_step limits.now w head.now (definition_of f.now)) }
     ensures follows { IfOk result (λ e. Follows w e) }
 {
     match definition_in(f) {
-        Some(definition) => define(alloc, w, head, &definition),
+        Some(definition) => define(alloc, w, head, &definition, limits),
         None => bad_event(alloc, w, head),
     }
 }
@@ -107,25 +113,31 @@ fn disabled_function(
     w: Ruled,
     head: &Symbol,
     definition: &Definition<'_>,
+    limits: &Limits,
 ) -> Result<RuledEnd, NoMemory>
     requires head { head.now ≡ definition_head }
     requires functions { HasFunctions (function_of w.entries) }
-    ensures step { IfOk result (λ e. step_in e ≡ disabled_function w (as_defined definition.now)) }
+    ensures step { IfOk result (λ e. step_in e ≡ disabled_function limits.now w (as_defined definition.now)) }
     ensures follows { IfOk result (λ e. Follows w e) }
 {
-    let end = define(alloc, w, head, definition)?;
+    let end = define(alloc, w, head, definition, limits)?;
     disable(alloc, definition.name, end)
 }
 
 #[tactic(auto, unfolding(crate::specs::Events::disabled_definition))]
-fn disabled_definition_event(alloc: Global, w: Ruled, f: &Form) -> Result<RuledEnd, NoMemory>
+fn disabled_definition_event(
+    alloc: Global,
+    w: Ruled,
+    f: &Form,
+    limits: &Limits,
+) -> Result<RuledEnd, NoMemory>
     requires functions { HasFunctions (function_of w.entries) }
-    ensures step { IfOk result (λ e. step_in e ≡ disabled_definition w (definition_of f.now)) }
+    ensures step { IfOk result (λ e. step_in e ≡ disabled_definition limits.now w (definition_of f.now)) }
     ensures follows { IfOk result (λ e. Follows w e) }
 {
     let head = acl2(alloc, b"DEFUN")?;
     match definition_in(f) {
-        Some(definition) => disabled_function(alloc, w, &head, &definition),
+        Some(definition) => disabled_function(alloc, w, &head, &definition, limits),
         None => bad_event(alloc, w, &head),
     }
 }
@@ -157,13 +169,13 @@ fn named(
     if is_named(head, b"DEFTHM") {
         theorem_event(alloc, w, head, f, limits)
     } else if is_named(head, b"DEFUN") {
-        definition_event(alloc, w, head, f)
+        definition_event(alloc, w, head, f, limits)
     } else if is_named(head, b"DEFCONST") {
         constant_event(alloc, w, head, f)
     } else if is_named(head, b"DEFTHMD") {
         disabled_theorem_event(alloc, w, f, limits)
     } else if is_named(head, b"DEFUND") {
-        disabled_definition_event(alloc, w, f)
+        disabled_definition_event(alloc, w, f, limits)
     } else if is_named(head, b"IN-THEORY") {
         theory_event(alloc, w, head, f)
     } else {

@@ -1,6 +1,6 @@
-//! One event of a book: what it prints, and the world after it. So far a theorem without hints, a function whose
-//! body doesn't call it, a constant, and a change of the current theory. See the manual's topics `defthm`,
-//! `rule-classes`, `defun`, `defconst` and `in-theory`.
+//! One event of a book: what it prints, and the world after it. So far a theorem without hints, a function without
+//! hints, a constant, and a change of the current theory. See the manual's topics `defthm`, `rule-classes`,
+//! `defun`, `measure`, `defconst` and `in-theory`.
 //!
 //! [`work`] does an event in a world with the index of its rules, which goes on to the next event. [`event`] does
 //! one in a world alone, and makes the index first.
@@ -16,12 +16,14 @@ mod forms;
 mod heads;
 mod limits;
 mod lines;
+mod owing;
 mod prover;
 mod runes;
 mod shapes;
 mod taken;
 mod texts;
 mod theorem;
+mod translating;
 
 pub use ap_list::{Bytes, NoMemory, Seq};
 pub use ap_reader::Form;

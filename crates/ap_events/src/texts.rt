@@ -1,14 +1,15 @@
 //! The printed lines of events.
 ghost use Rattle.std.specs.Prelude.{◌≡◌, IfOk};
 ghost use Rattle.ap_term.specs.Printed.{symbol_text};
-ghost use Rattle.ap_events.specs.Texts.{no_head_text, not_supported_text, bad_event_text, event_line, event_text, constant_line, theory_line, refused_as, kind_text, translation_text, rule_text, reason_text, failure_text};
+ghost use Rattle.ap_events.specs.Texts.{no_head_text, not_supported_text, bad_event_text, event_line, event_text, constant_line, theory_line, refused_as, measure_term, measure_line, obligation_line, kind_text, translation_text, rule_text, termination_text, reason_text, failure_text};
 
 use ap_list::{Bytes, NoMemory};
 use ap_print::print_term;
 use ap_rules::RuleError;
-use ap_term::Term;
+use ap_term::{Term, copy_term, copy_terms};
+use ap_terminate::TerminateError;
 use ap_translate::TransKind;
-use ap_value::{Symbol, copy_symbol};
+use ap_value::{Symbol, acl2, copy_symbol};
 use ap_walk::Reason;
 use itoa::Buffer;
 use std::alloc::Global;
@@ -75,6 +76,43 @@ pub(crate) fn event_text(
     let mut text = event_line(alloc, head, name, b"")?;
     text.extend(lines)?;
     text.extend(event_line(alloc, head, name, said)?.as_slice())?;
+    Ok(text)
+}
+
+/// A measure as a term: its one component, or `(LEX m1 .. mk)`.
+fn measure_term(alloc: Global, components: &[Term]) -> Result<Term, NoMemory>
+    ensures { IfOk result (λ t. t ≡ measure_term components.now) }
+{
+    match components {
+        [component] => copy_term(alloc, component),
+        _ => {
+            let head = acl2(alloc, b"LEX")?;
+            Term::call(alloc, head, copy_terms(alloc, components)?)
+        }
+    }
+}
+
+/// The line of a measure.
+#[tactic(auto, unfolding(crate::specs::Texts::measure_line))]
+pub(crate) fn measure_line(alloc: Global, components: &[Term]) -> Result<Bytes, NoMemory>
+    ensures { IfOk result (λ text. text ≡ measure_line components.now) }
+{
+    let term = measure_term(alloc, components)?;
+    let mut text = Bytes::from_slice(alloc, b"Measure ")?;
+    text.extend(print_term(alloc, &term)?.as_slice())?;
+    text.push(10)?;
+    Ok(text)
+}
+
+/// The line of an obligation, by its number.
+#[tactic(auto, unfolding(crate::specs::Texts::obligation_line))]
+pub(crate) fn obligation_line(alloc: Global, k: usize) -> Result<Bytes, NoMemory>
+    ensures { IfOk result (λ text. text ≡ obligation_line k) }
+{
+    let mut number = Buffer::new();
+    let mut text = Bytes::from_slice(alloc, b"Obligation ")?;
+    text.extend(number.format(k).as_bytes())?;
+    text.push(10)?;
     Ok(text)
 }
 
@@ -146,6 +184,19 @@ pub(crate) fn rule(error: RuleError) -> &'static [u8]
         RuleError::NotInequality => b"5.4 NotInequality",
         RuleError::NotTypeForm => b"5.5 NotTypeForm",
         RuleError::NoMemory => b"",
+    }
+}
+
+/// Why a function that calls itself has no measure, by its number and name; nothing where memory is wanting.
+#[tactic(auto, unfolding(crate::specs::Texts::termination_text))]
+pub(crate) fn termination(error: TerminateError) -> &'static [u8]
+    ensures { result.now ≡ termination_text error }
+{
+    match error {
+        TerminateError::NoMeasure => b"7.1 NoMeasure",
+        TerminateError::NestedRecursion => b"7.2 NestedRecursion",
+        TerminateError::BadMeasure => b"7.3 BadMeasure",
+        TerminateError::NoMemory => b"",
     }
 }
 

@@ -1,4 +1,3 @@
 pub mod Calling
 pub mod Casing
-pub mod Measured
 pub mod Falling

@@ -1,16 +1,13 @@
 ghost use Rattle.std.specs.Prelude.{◌≡◌, ◌↔◌, [], ◌∷◌, IfOk, IsErrOf, IsTrue, None, Some, map, zip};
 ghost use Rattle.std.specs.Option.{option_map};
-ghost use Rattle.ap_list.specs.Lists.{all_true, is_among};
-ghost use Rattle.ap_value.specs.Values.{symbol_eq};
+ghost use Rattle.ap_list.specs.Lists.{all_true};
 ghost use Rattle.ap_term.specs.declared.term.Term.TheVariants.{Var};
 ghost use Rattle.ap_term.specs.Equal.{term_eq};
-ghost use Rattle.ap_term.specs.Terms.{vars_after};
-ghost use Rattle.ap_world.specs.Recursion.{count_of, mentions, is_changed, suits, chosen_measure, measure_of};
-ghost use Rattle.ap_kernel.specs.Solving.{any_true};
+ghost use Rattle.ap_world.specs.Recursion.{count_of, is_changed, suits, chosen_measure, measure_of};
 ghost use Rattle.ap_terminate.specs.Refusals.{is_nested, is_well_formed, has_bad_measure, lacks_measure};
 
 use crate::cases::is_unnested;
-use ap_kernel::is_symbol;
+use ap_kernel::{is_symbol, mentions};
 use ap_list::{NoMemory, Seq};
 use ap_term::{Term, copy_terms};
 use ap_value::{Fixed, Symbol, copy_symbol, named};
@@ -40,46 +37,8 @@ impl From<AllocError> for TerminateError {
     }
 }
 
-/// Whether a variable occurs in a term. Takes no memory.
-#[cycle(occurring)]
-#[tactic(auto, using(crate::proofs::Measured::occurring))]
-fn occurs(x: &Symbol, t: &Term) -> bool
-    ensures { result ≡ is_among symbol_eq x.now (vars_after t.now []) }
-{
-    match t {
-        Term::Var(y) => is_symbol(x, y),
-        Term::Quote(_) => false,
-        Term::Call(_, ts) => occurs_in(x, ts.as_slice()),
-    }
-}
-
-/// Whether it occurs in one of some terms. Takes no memory.
-#[cycle(occurring)]
-fn occurs_in(x: &Symbol, ts: &[Term]) -> bool
-    ensures { result ≡ any_true (map (λ t. is_among symbol_eq x.now (vars_after t [])) ts.now) }
-{
-    for t in ts {
-        if occurs(x, t) {
-            return true;
-        }
-    }
-    false
-}
-
-/// Whether a test mentions a variable. Takes no memory.
-fn mentions(x: &Symbol, tests: &[Term]) -> bool
-    ensures { result ≡ mentions x.now tests.now }
-{
-    for test in tests {
-        if occurs(x, test) {
-            return true;
-        }
-    }
-    false
-}
-
 /// Whether a term is a variable of this name. Takes no memory.
-#[tactic(auto, using(crate::proofs::Measured::comparing))]
+#[tactic(auto, using(ap_kernel::proofs::Mentioned::comparing))]
 fn is_variable(t: &Term, x: &Symbol) -> bool
     ensures { result ≡ term_eq t.now (Var x.now) }
 {

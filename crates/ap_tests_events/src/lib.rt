@@ -4,4 +4,8 @@
 #[cfg(test)]
 mod events;
 #[cfg(test)]
+mod recursion;
+#[cfg(test)]
 mod theories;
+#[cfg(test)]
+mod working;

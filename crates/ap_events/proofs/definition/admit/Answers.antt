@@ -1,11 +1,8 @@
-use Rattle.std.proofs.Common.{[], ◌∷◌, ◌++◌, subst, sym}
+use Rattle.std.proofs.Common.{◌≡◌, IfOk, subst}
 use Rattle.ap_world.specs.declared.entry.Entry.TheVariants as entry
-use Rattle.ap_world.specs.Sound.{Sound}
-use Rattle.ap_events.proofs.Defining.{sound_definition}
+use Rattle.ap_events.specs.Ends.{admitted, step_in}
 use Rattle.ap_events.proofs.definition.admit.Goals as goal
 
-pub add-requires-clause-sound : goal.add-requires-clause-sound
-add-requires-clause-sound c =
-    let made = c.in_ok-made.ensures in
-    subst (λ f. Sound (c.args.w.entries ++ entry.Function f ∷ [])) (sym c.function-function.ensures)
-    (sound_definition c.args.w.entries c.args.name.now _ _ c.args.translated c.prepared_in.ensures.sound c.requires.functions c.requires.free c.requires.distinct c.requires.speaks c.requires.known made.name made.holds)
+pub returns-clause-step : goal.returns-clause-step
+returns-clause-step c =
+    subst (λ text. IfOk c.add.result (λ e. step_in e ≡ admitted c.args.w (entry.Function c.args.function) text)) c.in_ok-text.ensures c.add.ensures.step

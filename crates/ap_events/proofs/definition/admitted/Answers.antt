@@ -1,0 +1,12 @@
+use Rattle.std.proofs.Common.{◌≡◌, ◌∙◌, sym, subst, cond, false, [], None, IfOk}
+use Rattle.ap_world.specs.Recursion.{has_no_call, measure_of}
+use Rattle.ap_events.specs.Ends.{step_in}
+use Rattle.ap_events.specs.Definitions.{added_definition, function_with, measured_definition, admitted_definition}
+use Rattle.ap_events.proofs.definition.admitted.Goals as goal
+
+pub returns-else-has_no_call-clause-step : goal.returns-else-has_no_call-clause-step
+unfolding admitted_definition
+returns-else-has_no_call-clause-step c =
+    let no : has_no_call c.args.d.name c.args.d.body ≡ false = sym c.has_no_call.ensures ∙ c.if-has_no_call.false in
+    subst (λ b. IfOk c.measured.result (λ e. step_in e ≡ cond b (added_definition c.args.w (function_with c.args.w c.args.d None []) []) (measured_definition c.args.limits.now c.args.w c.args.d (measure_of c.args.d))))
+    (sym no) c.measured.ensures.step
