@@ -64,7 +64,7 @@ fn less_term(alloc: Global, a: &Term, b: &Term) -> Result<Term, NoMemory>
     let mut sides = Seq::new(alloc);
     sides.push(copy_term(alloc, a)?)?;
     sides.push(copy_term(alloc, b)?)?;
-    Ok(Term::Call(named(Fixed::Less), sides))
+    Term::call(alloc, named(Fixed::Less), sides)
 }
 
 /// A comparison is `'NIL` where it is refuted.

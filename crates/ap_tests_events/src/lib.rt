@@ -2,7 +2,11 @@
 #![tactic(auto)]
 
 #[cfg(test)]
+mod arithmetic;
+#[cfg(test)]
 mod events;
+#[cfg(test)]
+mod induction;
 #[cfg(test)]
 mod recursion;
 #[cfg(test)]
