@@ -37,6 +37,6 @@ pub mod Ran
 pub mod Sure
 pub mod Simplified
 pub mod Ruled
-pub mod Using
+pub mod LinearUsed
 pub mod Triggers
 pub mod Refuted

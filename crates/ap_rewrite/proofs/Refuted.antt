@@ -38,7 +38,7 @@ use Rattle.ap_rewrite.specs.Leading.{said_of}
 use Rattle.ap_rewrite.specs.Answering.{From, got_if, got_any, right_of, used_each}
 use Rattle.ap_rewrite.proofs.Ruled.{after_out, after_some}
 use Rattle.ap_rewrite.proofs.Triggers.{all_triggered}
-use Rattle.ap_rewrite.proofs.Using.{Triggered, found_all}
+use Rattle.ap_rewrite.proofs.LinearUsed.{Triggered, found_all}
 
 -- the list that is refuted, by the rules that the index gives
 module _ (w : Shown) (h : Theory) (us : List Term) (r : Inner) (p : Place) (u : Term) (s : Bool) (n : ℕ) where

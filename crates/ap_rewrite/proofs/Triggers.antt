@@ -15,7 +15,7 @@ use Rattle.ap_kernel.proofs.Reduced.{each_append}
 use Rattle.ap_rules.specs.declared.linear.LinearRule.{LinearRule}
 use Rattle.ap_rules.specs.Linear.{linear_part, linear_from, linear_of_term, linear_in_entry, all_linear}
 use Rattle.ap_rules.specs.Shapes.{is_call, is_trigger, first_trigger, trigger_of, told, is_linear, all_inequalities}
-use Rattle.ap_rewrite.proofs.Using.{Triggered}
+use Rattle.ap_rewrite.proofs.LinearUsed.{Triggered}
 
 first_called : (u : Term) (xs : List Term) (x : Term) → first_trigger u xs ≡ Some x → is_call (out-Term x) ≡ true
 first_called u [] x e = cc

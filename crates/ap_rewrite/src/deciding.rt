@@ -1,5 +1,5 @@
 // What linear arithmetic decides of a comparison.
-ghost use Rattle.std.specs.Prelude.{◌≡◌, ◌×◌, ◌∷◌, [], IsTrue, IfOk, IfSome, true};
+ghost use Rattle.std.specs.Prelude.{◌≡◌, IsTrue, IfOk, IfSome, true};
 ghost use Rattle.ap_term.specs.declared.term.Term.{Call};
 ghost use Rattle.ap_world.specs.Facts.{KnownFacts};
 ghost use Rattle.ap_world.specs.Sound.{known};

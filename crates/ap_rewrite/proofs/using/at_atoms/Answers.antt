@@ -6,7 +6,7 @@ use Rattle.ap_world.specs.Sound.{known}
 use Rattle.ap_kernel.proofs.Typed.{each_at}
 use Rattle.ap_rewrite.specs.Answering.{defs_in, setting_of, inner_of, seen_at}
 use Rattle.ap_rewrite.proofs.Arguments.{from_place}
-use Rattle.ap_rewrite.proofs.Using.{atoms_full, atom_out, atom_next, atoms_end}
+use Rattle.ap_rewrite.proofs.LinearUsed.{atoms_full, atom_out, atom_next, atoms_end}
 use Rattle.ap_rewrite.proofs.using.at_atoms.Goals as goal
 
 pub at_atom-requires-clause-atom : goal.at_atom-requires-clause-atom

@@ -4,7 +4,7 @@ use Rattle.ap_term.specs.declared.term.Term.{Term}
 use Rattle.ap_world.specs.Sound.{known}
 use Rattle.ap_rewrite.specs.Relieving.{relieve}
 use Rattle.ap_rewrite.specs.Answering.{defs_in, setting_of, inner_of, seen_at}
-use Rattle.ap_rewrite.proofs.Using.{match_out, match_none, match_some}
+use Rattle.ap_rewrite.proofs.LinearUsed.{match_out, match_none, match_some}
 use Rattle.ap_rewrite.proofs.using.at_match.Goals as goal
 
 pub relieve-requires-clause-hyps : goal.relieve-requires-clause-hyps
