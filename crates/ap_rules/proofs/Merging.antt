@@ -191,7 +191,7 @@ module _ {G : Type 0} where
       go true e = ap (λ ks. g ∷ ks) e
       go false e = e
 
-  turned : (g : G) (gs : List G) → reverse (g ∷ gs) ≡ reverse gs ++ g ∷ []
+  pub turned : (g : G) (gs : List G) → reverse (g ∷ gs) ≡ reverse gs ++ g ∷ []
   turned g gs = reverse-append (g ∷ []) gs
 
   kept_turned : (test : G → Bool) (gs : List G) → kept test (reverse gs) ≡ reverse (kept test gs)
