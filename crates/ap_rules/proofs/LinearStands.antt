@@ -1,5 +1,5 @@
 -- The linear rules of a sound world hold.
-use Rattle.std.proofs.Common.{◌≡◌, ◌≢◌, ℕ, ◌+◌, Bool, true, false, cond, ◌&&◌, List, [], ◌∷◌, ◌++◌, reverse, Option, Some, None, inl, inr, refl, ap, sym, ◌∙◌, subst}
+use Rattle.std.proofs.Common.{◌≡◌, ◌≢◌, ℕ, ◌+◌, Bool, true, false, cond, ◌&&◌, List, [], ◌∷◌, ◌++◌, reverse, Option, Some, None, inl, inr, refl, sym, ◌∙◌, subst}
 use Rattle.ap_list.specs.Lists.{Each}
 use Rattle.ap_list.proofs.Eachs.{each_append, each_parts}
 use Rattle.ap_value.specs.declared.symbol.Symbol.{Symbol}
@@ -25,7 +25,6 @@ use Rattle.ap_world.proofs.Equations.{nil-eq, eq-not_nil}
 use Rattle.ap_world.proofs.Starting.{val_not}
 use Rattle.ap_world.proofs.Given.{implies_is}
 use Rattle.ap_world.proofs.RulesStand.{conjuncts_known, conjuncts_alike, stated_at, stated_var, stated_quote, stated_called}
-use Rattle.ap_rules.specs.declared.linear.LinearRule.{LinearRule}
 use Rattle.ap_rules.specs.Shapes.{signed_by, signed_in, signed, trigger_of, all_inequalities, is_linear}
 use Rattle.ap_rules.specs.Linear.{linear_part, linear_from, linear_of_term, linear_in_entry, all_linear, LinearHolds}
 use Rattle.ap_rules.specs.Laws.{LinearRulesHold}
