@@ -156,19 +156,19 @@ keeps_none table hs same (r ∷ rs) e f k =
     let some : map Some hs ≡ head_in r ∷ map head_in rs = k.headed in
     absurd (cc (none, some))
 
-take_less : {A : Type 0} (n m : ℕ) (xs : List A) → n ≤ m → take n (take m xs) ≡ take n xs
+pub take_less : {A : Type 0} (n m : ℕ) (xs : List A) → n ≤ m → take n (take m xs) ≡ take n xs
 take_less zero m xs h = refl
 take_less (suc n) zero xs h = absurd (omega arith)
 take_less (suc n) (suc m) [] h = refl
 take_less (suc n) (suc m) (x ∷ xs) h = ap (λ ys. x ∷ ys) (take_less n m xs (omega arith))
 
-take_whole : {A : Type 0} (n : ℕ) (xs : List A) → length xs ≤ n → take n xs ≡ xs
+pub take_whole : {A : Type 0} (n : ℕ) (xs : List A) → length xs ≤ n → take n xs ≡ xs
 take_whole zero [] h = refl
 take_whole (suc n) [] h = refl
 take_whole zero (x ∷ xs) h = absurd (omega arith)
 take_whole (suc n) (x ∷ xs) h = ap (λ ys. x ∷ ys) (take_whole n xs (omega arith))
 
-take_front : {A : Type 0} (xs ys : List A) → take (length xs) (xs ++ ys) ≡ xs
+pub take_front : {A : Type 0} (xs ys : List A) → take (length xs) (xs ++ ys) ≡ xs
 take_front [] ys = refl
 take_front (x ∷ xs) ys = ap (λ zs. x ∷ zs) (take_front xs ys)
 

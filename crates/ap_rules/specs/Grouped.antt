@@ -11,8 +11,12 @@ use Rattle.ap_rules.specs.Made.{rule_in}
 abbrev pub Table : Type 0
 Table = List (Symbol × List RewriteRule)
 
+-- what a table has for a head
+abbrev pub at_head : {G : Type 0} → List (Symbol × List G) → Symbol → List G
+at_head table f = unwrap_or (lookup (symbol_eq f) table) []
+
 abbrev pub group_at : Table → Symbol → List RewriteRule
-group_at table f = unwrap_or (lookup (symbol_eq f) table) []
+group_at table f = at_head table f
 
 abbrev pub grouped_at : Table → Symbol → List Rule
 grouped_at table f = map rule_in (group_at table f)

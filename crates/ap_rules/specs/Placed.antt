@@ -1,11 +1,11 @@
 -- Linear rules by their places in a list, and the places by the heads of the triggers.
-use Rattle.std.specs.Prelude.{◌≡◌, ℕ, ◌+◌, ◌-◌, nat_eq, nat_lt, Bool, false, cond, List, [], ◌∷◌, ◌++◌, length, take, Option, Some, None, unwrap_or}
-use Rattle.std.specs.Map.{lookup}
+use Rattle.std.specs.Prelude.{◌≡◌, ℕ, ◌+◌, ◌-◌, nat_eq, nat_lt, Bool, false, cond, List, [], ◌∷◌, ◌++◌, length, take, Option, Some, None}
 use Rattle.ap_value.specs.declared.symbol.Symbol.{Symbol}
 use Rattle.ap_value.specs.Values.{symbol_eq}
 use Rattle.ap_term.specs.declared.term.Term.{Term, out-Term}
 use Rattle.ap_term.specs.declared.term.Term.TheOpen.{Term-F}
 use Rattle.ap_rules.specs.declared.linear.LinearRule.{LinearRule}
+use Rattle.ap_rules.specs.Grouped.{at_head}
 
 -- the places of those of a list that pass a test, counted from n
 abbrev pub places_from : {R : Type 0} → (R → Bool) → ℕ → List R → List ℕ
@@ -22,7 +22,7 @@ is_of f g = is_headed f (out-Term g.trigger)
 
 -- for each head the places of its rules
 abbrev pub places_at : List (Symbol × List ℕ) → Symbol → List ℕ
-places_at table f = unwrap_or (lookup (symbol_eq f) table) []
+places_at table f = at_head table f
 
 abbrev pub Placed : List (Symbol × List ℕ) → List LinearRule → Type 0
 Placed table gs = (f : Symbol) → places_at table f ≡ places_from (is_of f) 0 gs

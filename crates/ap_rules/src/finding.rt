@@ -1,5 +1,6 @@
 // The linear rules that may bear on atoms, found by the heads of their triggers.
-ghost use Rattle.std.specs.Prelude.{◌≡◌, Bool, List, Some, ◌||◌, map, reverse, slice_get, option_copied, IfOk};
+ghost use Rattle.std.specs.Prelude.{◌≡◌, [], ◌∷◌, ◌++◌, Bool, List, Some, ◌||◌, map, reverse, slice_get, option_copied, IfOk};
+ghost use Rattle.ap_term.specs.declared.term.Term.{Term};
 ghost use Rattle.ap_rules.specs.declared.linear.LinearRule.{LinearRule};
 ghost use Rattle.ap_rules.specs.Indexed.{kept};
 ghost use Rattle.ap_rules.specs.Linear.{may_match};
@@ -49,15 +50,29 @@ fn merged(alloc: Global, xs: &[usize], ys: &[usize]) -> Result<Seq<usize>, NoMem
     Ok(out)
 }
 
+/// Adds the places of the rules whose trigger is a call of the head of one atom more.
+fn with_atom(
+    alloc: Global,
+    rules: &Linears,
+    places: Seq<usize>,
+    atom: &Term,
+) -> Result<Seq<usize>, NoMemory>
+    ensures { IfOk result (λ is. (xs : List Term) → places ≡ places_from (may_match xs) 0 rules.now → is ≡ places_from (may_match (xs ++ atom.now ∷ [])) 0 rules.now) }
+{
+    match atom {
+        Term::Call(f, _) => merged(alloc, places.as_slice(), rules.places_of(f)),
+        Term::Var(_) => Ok(places),
+        Term::Quote(_) => Ok(places),
+    }
+}
+
 /// The places of the rules whose trigger is a call of the head of one of the atoms, rising.
 fn rising(alloc: Global, rules: &Linears, atoms: &[Term]) -> Result<Seq<usize>, NoMemory>
     ensures { IfOk result (λ is. is ≡ places_from (may_match atoms.now) 0 rules.now) }
 {
     let mut places = Seq::new(alloc);
     for atom in atoms {
-        if let Term::Call(f, _) = atom {
-            places = merged(alloc, places.as_slice(), rules.places_of(f))?;
-        }
+        places = with_atom(alloc, rules, places, atom)?;
     }
     Ok(places)
 }

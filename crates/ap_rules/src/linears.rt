@@ -38,14 +38,24 @@ impl Model for Linears {
     ghost invariant = { λ g. Placed g.places.entries g.rules };
 }
 
-/// The head of a trigger, copied, where it is a call.
-fn head_of(alloc: Global, t: &Term) -> Result<Option<Symbol>, NoMemory>
-    ensures { IfOk result (λ o. o ≡ called (out-Term t.now)) }
+/// The head of a trigger, lent, where it is a call.
+fn head_of(t: &Term) -> Option<&Symbol>
+    ensures { option_copied result ≡ called (out-Term t.now) }
 {
     match t {
-        Term::Call(f, _) => Ok(Some(copy_symbol(alloc, f)?)),
-        Term::Var(_) => Ok(None),
-        Term::Quote(_) => Ok(None),
+        Term::Call(f, _) => Some(f),
+        Term::Var(_) => None,
+        Term::Quote(_) => None,
+    }
+}
+
+/// The same, copied.
+fn copy_head(alloc: Global, t: &Term) -> Result<Option<Symbol>, NoMemory>
+    ensures { IfOk result (λ o. o ≡ called (out-Term t.now)) }
+{
+    match head_of(t) {
+        Some(f) => Ok(Some(copy_symbol(alloc, f)?)),
+        None => Ok(None),
     }
 }
 
@@ -120,7 +130,7 @@ impl Linears {
         ensures ok { OnOk result (self.new ≡ self.old ++ rule ∷ []) }
         ensures err { OnErr result (self.new ≡ self.old) }
     {
-        let head = head_of(alloc, &rule.trigger)?;
+        let head = copy_head(alloc, &rule.trigger)?;
         let place = self.rules.len();
         self.rules.push(rule)?;
         if let Some(head) = head {
@@ -137,8 +147,8 @@ impl Linears {
         ensures { self.new ≡ take (length self.old - 1) self.old }
     {
         if let Some(rule) = self.rules.pop() {
-            if let Term::Call(f, _) = &rule.trigger {
-                remove_place(&mut self.places, f);
+            if let Some(head) = head_of(&rule.trigger) {
+                remove_place(&mut self.places, head);
             }
         }
     }

@@ -4,8 +4,8 @@ use Rattle.ap_rules.proofs.carrying.cut_linear.Goals as goal
 
 pub returns-in-Some : goal.returns-in-Some
 returns-in-Some c = λ W k.
-    linear_less W c.args.count c.in-Some.start.now c.args.linear.now c.truncate.new.self c.args.starts.now c.truncate-2.new.self
-    (sym c.in-Some.ensures.value) c.truncate-2.ensures c.truncate.ensures k
+    linear_less W c.args.count c.in-Some.start.now c.args.linear.now c.truncate.new.self c.args.starts.now c.truncate-in-Some.new.self
+    (sym c.in-Some.ensures.value) c.truncate-in-Some.ensures c.truncate.ensures k
 
 pub returns-in_default : goal.returns-in_default
 returns-in_default c = λ W k.

@@ -1,7 +1,7 @@
 use Rattle.std.proofs.Common.{◌≡◌, [], ◌∷◌, Some, None, is_some, sym, ap, ◌∙◌, subst}
 use Rattle.std.proofs.lemmas.Result.{on_ok_weaker, on_err_weaker}
 use Rattle.ap_rules.specs.Grouped.{group_at}
-use Rattle.ap_rules.proofs.Updates.{Updated, added_first, left_as_were, had_group}
+use Rattle.ap_rules.proofs.Updates.{Updated, changed_by, left_as_were, had_group}
 use Rattle.ap_rules.proofs.table.Groups.add.Goals as goal
 
 -- the rules that a head had, and the table after its rules are written
@@ -15,7 +15,7 @@ changed c = subst (λ t. Updated t (c.get_mut.follows.lender c.add.new.self).ent
 pub returns-in-Some-clause-ok : goal.returns-in-Some-clause-ok
 returns-in-Some-clause-ok c =
     on_ok_weaker c.add.result
-    (added_first c.args.self.now (c.get_mut.follows.lender c.add.new.self).entries c.args.head c.add.new.self c.in-Some.group.now (changed c) (had c) c.args.rule)
+    (changed_by c.args.self.now (c.get_mut.follows.lender c.add.new.self).entries c.args.head c.add.new.self c.in-Some.group.now (changed c) (had c) (λ gs. c.args.rule ∷ gs))
     c.add.ensures.ok
 
 pub returns-in-Some-clause-err : goal.returns-in-Some-clause-err
@@ -30,5 +30,5 @@ returns-in_ok-insert-in-None-clause-ok c =
     let written : Updated c.get_mut.follows.lender-at-none.entries c.insert.new.self.entries c.args.head c.add-in-None.new.self = c.in_ok-insert-in-None.ensures.updates.0 in
     let changed : Updated c.args.self.now c.insert.new.self.entries c.args.head c.add-in-None.new.self =
     subst (λ t. Updated t c.insert.new.self.entries c.args.head c.add-in-None.new.self) (ap (λ m. m.entries) c.get_mut.follows.holds-at-none ∙ c.self.view_is) written in
-    added_first c.args.self.now c.insert.new.self.entries c.args.head c.add-in-None.new.self [] changed none c.args.rule
+    changed_by c.args.self.now c.insert.new.self.entries c.args.head c.add-in-None.new.self [] changed none (λ gs. c.args.rule ∷ gs)
     (c.in_ok-add-in-None.ensures.ok ∙ ap (λ xs. c.args.rule ∷ xs) c.new-group.ensures)

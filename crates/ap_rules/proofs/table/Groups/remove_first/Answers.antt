@@ -1,9 +1,9 @@
-use Rattle.std.proofs.Common.{◌≡◌, Some, None, is_some, sym, ap, ◌∙◌, subst}
+use Rattle.std.proofs.Common.{◌≡◌, drop, refl, Some, None, is_some, sym, ap, ◌∙◌, subst}
 use Rattle.std.specs.Map.{lookup}
 use Rattle.ap_rules.specs.Grouped.{Table, group_at, without_first}
 use Rattle.ap_value.specs.declared.symbol.Symbol.{Symbol}
 use Rattle.ap_value.specs.Values.{symbol_eq}
-use Rattle.ap_rules.proofs.Updates.{Updated, removed_first, removed_none, had_group}
+use Rattle.ap_rules.proofs.Updates.{Updated, changed_by, unchanged_by, had_group}
 use Rattle.ap_rules.proofs.table.Groups.remove_first.Goals as goal
 use Rattle.ap_rules.proofs.table.Groups.remove_first.Goals.{in-Some, in_default}
 
@@ -20,11 +20,11 @@ returns c = elim c.match-get_mut.branch [
       subst (λ t. Updated t (c.get_mut.follows.lender w.remove_first.new.self).entries c.args.head.now w.remove_first.new.self) c.self.view_is
       ((c.get_mut.follows.holds w.remove_first.new.self).3 (ap is_some (sym w.in-Some.ensures.value))).0 in
       subst (λ (t : Table). Removed c.args.self.now t c.args.head.now) (ap (λ i. i.groups.entries) (sym w.self-inside-is))
-      (removed_first c.args.self.now (c.get_mut.follows.lender w.remove_first.new.self).entries c.args.head.now w.remove_first.new.self w.in-Some.group.now changed had w.remove_first.ensures)
+      (changed_by c.args.self.now (c.get_mut.follows.lender w.remove_first.new.self).entries c.args.head.now w.remove_first.new.self w.in-Some.group.now changed had (drop 1) w.remove_first.ensures)
   | in_default w ↦
       let none : lookup (symbol_eq c.args.head.now) c.args.self.now ≡ None =
       subst (λ (t : Table). lookup (symbol_eq c.args.head.now) t ≡ None) c.self.view_is (sym w.in_default.ensures.value) in
       subst (λ (t : Table). Removed c.args.self.now t c.args.head.now)
       (sym (ap (λ i. i.groups.entries) w.self-inside-is ∙ ap (λ m. m.entries) c.get_mut.follows.holds-at-none ∙ c.self.view_is))
-      (removed_none c.args.self.now c.args.head.now none)
+      (unchanged_by c.args.self.now c.args.head.now (drop 1) refl none)
 ]
