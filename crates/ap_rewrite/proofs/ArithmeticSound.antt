@@ -11,7 +11,7 @@ use Rattle.ap_poly.proofs.Certified.{lin_certifies, certificates_refute}
 use Rattle.ap_poly.proofs.LiteralsHold.{literals_hold}
 use Rattle.ap_world.specs.World.{function_of}
 use Rattle.ap_rules.specs.Linear.{linear_rules_in, LinearHolds}
-use Rattle.ap_rules.proofs.LinearHolding.{linear_rules_hold}
+use Rattle.ap_rules.proofs.LinearStands.{linear_rules_hold}
 use Rattle.ap_rewrite.specs.Arithmetic.{is_usable}
 use Rattle.ap_rewrite.specs.Laws.{NothingIsSound, PolynomialsAreSound, WorldsIsSound}
 use Rattle.ap_rewrite.proofs.Indexing.{each_kept}

@@ -44,7 +44,7 @@ after_same : {A B : Type 0} (g : Got A) (k l : A → By B) → ((a : A) (m : ℕ
 after_same None k l h = refl
 after_same (Some p) k l h = h p.0 p.1
 
-got_one : ℕ → List Polynomial → Got (List Polynomial)
+abbrev got_one : ℕ → List Polynomial → Got (List Polynomial)
 got_one m ps = Some (ps, m)
 
 -- an instance of a rule
@@ -127,7 +127,7 @@ module _ (S : Setting) (r : Inner) (p : Place) where
       go false (Some s) q h = cc
 
   -- rules one after another
-  each_used : List LinearRule → List Term → List Polynomial → By (List Polynomial)
+  abbrev each_used : List LinearRule → List Term → List Polynomial → By (List Polynomial)
   each_used [] xs ps n = answer ps n
   each_used (g ∷ gs) xs ps n = after (used S r p g xs ps n) (each_used gs xs)
 

@@ -1,8 +1,11 @@
 -- What refuting a comparison answers, and what that decides.
-use Rattle.std.proofs.Common.{◌≡◌, ℕ, Bool, true, false, not, cond, List, [], ◌∷◌, ◌++◌, map, reverse, take, slice_get, Option, Some, None, is_some, IfSome, refl, sym, ap, ◌∙◌, subst}
+use Rattle.std.proofs.Common.{◌≡◌, ℕ, Bool, true, false, not, cond, List, [], ◌∷◌, ◌++◌, map, reverse, take, length, get_or, slice_get, suc, ◌≤◌, ◌<◌, arith, Option, Some, None, is_some, IfSome, refl, sym, ap, ◌∙◌, subst}
 use Rattle.std.specs.Option.{option_map}
-use Rattle.ap_list.specs.Lists.{Each}
-use Rattle.ap_term.specs.declared.term.Term.{Term}
+use Rattle.ap_list.specs.Lists.{Each, lookup_by}
+use Rattle.ap_value.specs.declared.symbol.Symbol.{Symbol}
+use Rattle.ap_value.specs.Values.{symbol_eq}
+use Rattle.ap_value.proofs.Equals.{symbol_eq-true}
+use Rattle.ap_term.specs.declared.term.Term.{Term, Call}
 use Rattle.ap_term.specs.declared.term.Term.TheVariants.{outs-Call}
 use Rattle.ap_term.specs.Metered.{Got, By, after, known as answer}
 use Rattle.ap_world.specs.declared.entry.Entry.{Entry}
@@ -11,7 +14,8 @@ use Rattle.ap_world.specs.declared.theory.Theory.{Theory}
 use Rattle.ap_world.specs.declared.primitive.Primitive.{Primitive as Prim}
 use Rattle.ap_world.specs.Meaning.{Defs}
 use Rattle.ap_world.specs.Names.{less_name, equal_name}
-use Rattle.ap_world.specs.Primitives.{prim_of}
+use Rattle.ap_world.specs.declared.primitive.Primitive.TheVariants as prim
+use Rattle.ap_world.specs.Primitives.{prim_of, primitives}
 use Rattle.ap_world.specs.Sound.{known}
 use Rattle.ap_world.specs.World.{Shown, function_of}
 use Rattle.ap_world.proofs.Equations.{prim_of_less, prim_of_equal}
@@ -93,6 +97,40 @@ to_squeezed w c a b q h = ap (λ (x : Sequent). x.rhs) h.says
 pub neither_order : (w : Shown) (c : Ctx) (a b : Term) (p q : Equiv) (m n : Mask) → IntegersWithin (function_of w.entries) c.0 a b m n → Refutes w c (less_of a b) true p → Refutes w c (less_of b a) true q
     → NeitherLess (function_of w.entries) c p.says q.says m n
 neither_order w c a b p q m n i j k = record { left = a; right = b; less = j.says; more = k.says; left_mask = i.left; right_mask = i.right }
+
+-- a name of `equal` is `EQUAL`
+named : (k : Symbol) (p : Prim) (xs : List (Symbol × Prim)) → Each (λ (x : Symbol × Prim). x.1 ≡ p → x.0 ≡ k) xs → (f : Symbol) → lookup_by symbol_eq xs f ≡ Some p → f ≡ k
+named k p [] h f e = cc
+named k p (x ∷ xs) h f e = go (symbol_eq f x.0) refl e (named k p xs h.1 f)
+  where
+    go : (b : Bool) → symbol_eq f x.0 ≡ b → cond b (Some x.1) (lookup_by symbol_eq xs f) ≡ Some p → (lookup_by symbol_eq xs f ≡ Some p → f ≡ k) → f ≡ k
+    go true q r later = let same : x.1 ≡ p = cc in symbol_eq-true f x.0 q ∙ h.0 same
+    go false q r later = later r
+
+equal_named : (f : Symbol) → prim_of f ≡ Some prim.Equal → f ≡ equal_name
+unfolding prim_of primitives
+equal_named f e = named equal_name prim.Equal primitives
+    (λ q. cc, (λ q. refl, (λ q. cc, (λ q. cc, (λ q. cc, (λ q. cc, (λ q. cc, (λ q. cc, (λ q. cc, (λ q. cc, (λ q. cc, (λ q. cc, (λ q. cc, (λ q. cc, (λ q. cc, (λ q. cc, (λ q. cc, (λ q. cc, tt))))))))))))))))))
+    f e
+
+-- a list of two
+pub two_of : (us : List Term) (a b : Term) → 2 ≤ length us → length us < 3 → a ≡ get_or us 0 a → b ≡ get_or us 1 b → us ≡ a ∷ b ∷ []
+two_of [] a b few many p q = absurd (no few)
+  where
+    no : 2 ≤ 0 → ⊥
+    no h = omega arith
+two_of (x ∷ []) a b few many p q = absurd (no few)
+  where
+    no : 2 ≤ 1 → ⊥
+    no h = omega arith
+two_of (x ∷ y ∷ []) a b few many p q = sym (ap (λ z. z ∷ b ∷ []) p ∙ ap (λ z. x ∷ z ∷ []) q)
+two_of (x ∷ y ∷ z ∷ us) a b few many p q = absurd (no (length us) many)
+  where
+    no : (n : ℕ) → suc (suc (suc n)) < 3 → ⊥
+    no n h = omega arith
+
+pub equation_of : (u : Term) (f : Symbol) (us : List Term) (a b : Term) → u ≡ Call f us → us ≡ a ∷ b ∷ [] → prim_of f ≡ Some prim.Equal → u ≡ equal_of a b
+equation_of u f us a b e k p = e ∙ ap (Call f) k ∙ ap (λ x. Call x (a ∷ b ∷ [])) (equal_named f p)
 
 -- comparisons, and their sides
 pub less_compares : (a b : Term) → is_comparison (less_of a b) ≡ true

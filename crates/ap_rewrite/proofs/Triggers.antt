@@ -19,13 +19,13 @@ use Rattle.ap_rewrite.proofs.LinearUsed.{Triggered}
 
 first_called : (u : Term) (xs : List Term) (x : Term) → first_trigger u xs ≡ Some x → is_call (out-Term x) ≡ true
 first_called u [] x e = cc
-first_called u (y ∷ ys) x e = go (is_trigger u y) refl e
+first_called u (y ∷ ys) x e = go (is_trigger u y) refl e (first_called u ys x)
   where
-    go : (b : Bool) → is_trigger u y ≡ b → cond b (Some y) (first_trigger u ys) ≡ Some x → is_call (out-Term x) ≡ true
-    go true q h =
+    go : (b : Bool) → is_trigger u y ≡ b → cond b (Some y) (first_trigger u ys) ≡ Some x → (first_trigger u ys ≡ Some x → is_call (out-Term x) ≡ true) → is_call (out-Term x) ≡ true
+    go true q h later =
         let same : y ≡ x = cc in
         subst (λ z. is_call (out-Term z) ≡ true) same (both (is_call (out-Term y)) (is_within symbol_eq (vars_after u []) (vars_after y [])) q).0
-    go false q h = first_called u ys x h
+    go false q h later = later h
 
 part_triggered : (name : Symbol) (hs : List Term) (i : ℕ) (u : Term) (o : Option Term) → trigger_of u ≡ o → Each Triggered (linear_part name hs i u o)
 part_triggered name hs i u None e = tt

@@ -14,9 +14,3 @@ pub returns-in-None : goal.returns-in-None
 returns-in-None g c =
     ap (λ (x : Option Pairs). at_match (setting_of c.args.l.now.r.now) (inner_of c.args.l.now.r.now c.args.l.now.levels) (seen_at c.args.at.now) c.args.g.now c.args.polys x c.args.run.now.left)
     ((rw c.in-None.is at c.in_ok-one_way_match.ensures) ∙ ap (λ (s : Pairs). matched c.args.g.now.trigger c.args.atom.now s) c.new.ensures)
-
-pub returns-in-Some : goal.returns-in-Some
-returns-in-Some g c =
-    subst (λ (x : Option Pairs). IfOk c.at_match.result (λ o. got_polys o c.at_match.new.run.left ≡ at_match (setting_of c.args.l.now.r.now) (inner_of c.args.l.now.r.now c.args.l.now.levels) (seen_at c.args.at.now) c.args.g.now c.args.polys x c.args.run.now.left))
-    ((rw c.in-Some.is at c.in_ok-one_way_match.ensures) ∙ ap (λ (s : Pairs). matched c.args.g.now.trigger c.args.atom.now s) c.new.ensures)
-    c.at_match.ensures

@@ -17,16 +17,11 @@ at_atom-requires-clause-atom g c =
 pub loop-x-preserved : goal.loop-x-preserved
 loop-x-preserved g c =
     atom_next (setting_of c.args.l.now.r.now) (inner_of c.args.l.now.r.now c.args.l.now.levels) (seen_at c.args.at.now) c.args.g.now _ _ _ _ _ _ c.at_atom.new.run.left (from_place c.args.atoms.now c.loop-x.x-index c.x-item.result (omega arith) c.x-item.is) c.loop-x.invariant (sym c.is_full.ensures ∙ c.if-is_full.false) c.in-Some.more
-    (rw c.in-Some.is at c.in_ok-at_atom.ensures)
+    (rw c.in-Some.is at c.in_ok-more.ensures)
 
 pub returns-then-is_full : goal.returns-then-is_full
 returns-then-is_full g c =
     atoms_full (setting_of c.args.l.now.r.now) (inner_of c.args.l.now.r.now c.args.l.now.levels) (seen_at c.args.at.now) c.args.g.now _ _ _ _ _ _ 0 (from_place c.args.atoms.now c.loop-x.x-index c.x-item.result (omega arith) c.x-item.is) c.loop-x.invariant (sym c.is_full.ensures ∙ c.if-is_full.true)
-
-pub returns-in-None : goal.returns-in-None
-returns-in-None g c =
-    atom_out (setting_of c.args.l.now.r.now) (inner_of c.args.l.now.r.now c.args.l.now.levels) (seen_at c.args.at.now) c.args.g.now _ _ _ _ _ _ c.at_atom.new.run.left (from_place c.args.atoms.now c.loop-x.x-index c.x-item.result (omega arith) c.x-item.is) c.loop-x.invariant (sym c.is_full.ensures ∙ c.if-is_full.false)
-    (rw c.in-None.is at c.in_ok-at_atom.ensures)
 
 pub returns : goal.returns
 returns g c = atoms_end (setting_of c.args.l.now.r.now) (inner_of c.args.l.now.r.now c.args.l.now.levels) (seen_at c.args.at.now) c.args.g.now _ _ _ _ (drop_all c.loop-x.x-index c.args.atoms.now (omega arith)) c.loop-x.invariant

@@ -22,11 +22,3 @@ returns-in-Some-None g c =
     match_none (setting_of c.args.l.now.r.now) (inner_of c.args.l.now.r.now c.args.l.now.levels) (seen_at c.args.at.now) c.args.g.now c.args.polys c.args.s.0 c.args.run.now.left c.relieve.new.run.left
     ((rw there at c.in_ok-relieve.ensures.is)
     ∙ ap (λ (hs : List Term). relieve (inner_of c.args.l.now.r.now c.args.l.now.levels) (seen_at c.args.at.now) hs c.args.s.0 c.args.run.now.left) c.as_slice.ensures)
-
-pub returns-in-Some-Some : goal.returns-in-Some-Some
-returns-in-Some-Some g c =
-    let there : c.in_ok-relieve.field-0 ≡ Some (Some c.in-Some-Some.found) = c.in-Some-Some.is ∙ ap Some c.in-Some-Some.field-0-is in
-    match_some (setting_of c.args.l.now.r.now) (inner_of c.args.l.now.r.now c.args.l.now.levels) (seen_at c.args.at.now) c.args.g.now c.args.polys c.args.s.0 c.args.run.now.left c.relieve.new.run.left c.in-Some-Some.found.pairs.0 _
-    ((rw there at c.in_ok-relieve.ensures.is)
-    ∙ ap (λ (hs : List Term). relieve (inner_of c.args.l.now.r.now c.args.l.now.levels) (seen_at c.args.at.now) hs c.args.s.0 c.args.run.now.left) c.as_slice.ensures)
-    c.in_ok-more.ensures
