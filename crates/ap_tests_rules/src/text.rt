@@ -72,6 +72,16 @@ pub(crate) fn term(alloc: Global, text: &str) -> Result<Term, NoMemory> {
     }
 }
 
+/// The terms of a text's forms.
+pub(crate) fn terms(alloc: Global, text: &str) -> Result<Seq<Term>, NoMemory> {
+    let read = all_forms(alloc, text);
+    let mut out = Seq::new(alloc);
+    for form in read.as_slice() {
+        out.push(term_of(alloc, form, 9)?)?;
+    }
+    Ok(out)
+}
+
 /// The classes whose initials a text has: `r`, `l`, `t` and `e`.
 pub(crate) fn classes(alloc: Global, text: &str) -> Result<Seq<RuleClass>, NoMemory> {
     let mut out = Seq::new(alloc);
@@ -87,6 +97,15 @@ pub(crate) fn classes(alloc: Global, text: &str) -> Result<Seq<RuleClass>, NoMem
     Ok(out)
 }
 
+/// Writes hypotheses.
+pub(crate) fn put_hyps(alloc: Global, out: &mut Bytes, hyps: &[Term]) -> Result<(), NoMemory> {
+    for hyp in hyps {
+        out.extend(b" if ")?;
+        out.extend(print_term(alloc, hyp)?.as_slice())?;
+    }
+    Ok(())
+}
+
 /// Writes a rule: its theorem's name and its number, its sides with `=` or `~` between, and its hypotheses.
 fn put_rule(alloc: Global, out: &mut Bytes, rule: &RewriteRule) -> Result<(), NoMemory> {
     out.extend(rule.theorem.name.as_slice())?;
@@ -95,11 +114,7 @@ fn put_rule(alloc: Global, out: &mut Bytes, rule: &RewriteRule) -> Result<(), No
     out.extend(print_term(alloc, &rule.lhs)?.as_slice())?;
     out.extend(if rule.iff { b" ~ " } else { b" = " })?;
     out.extend(print_term(alloc, &rule.rhs)?.as_slice())?;
-    for hyp in rule.hyps.as_slice() {
-        out.extend(b" if ")?;
-        out.extend(print_term(alloc, hyp)?.as_slice())?;
-    }
-    Ok(())
+    put_hyps(alloc, out, rule.hyps.as_slice())
 }
 
 /// The rules as text, with a `;` between.
