@@ -17,11 +17,11 @@ use Rattle.ap_kernel.specs.declared.objects.Mode.TheVariants.{Equal, Iff}
 use Rattle.ap_kernel.specs.declared.objects.Sequent.{Sequent}
 use Rattle.ap_kernel.specs.declared.objects.Equiv.{Equiv}
 use Rattle.ap_kernel.specs.Standing.{Stands}
-use Rattle.ap_kernel.specs.Applying.{mode_in, AllLead, PartRelieved, LeadsToTrue}
+use Rattle.ap_kernel.specs.Applying.{mode_in, AllLead, PartRelieved}
 use Rattle.ap_rewrite.specs.declared.facts.Relieved.{Relieved}
 use Rattle.ap_rewrite.specs.Settings.{Place, Inner, relieving}
 use Rattle.ap_rewrite.specs.Relieving.{if_so, by_sign, relieve_one}
-use Rattle.ap_rewrite.specs.Relieved.{Relieves, RelievedFrom}
+use Rattle.ap_rewrite.specs.Relieved.{RelievedFrom}
 use Rattle.ap_rewrite.specs.Rewriting.{fits_mode}
 use Rattle.ap_rewrite.specs.Leading.{leads_made, Serves}
 use Rattle.ap_rewrite.specs.Answering.{From}

@@ -35,7 +35,7 @@ use Rattle.ap_poly.specs.Holding.{PolyHolds}
 use Rattle.ap_poly.specs.Bounds.{PolyKnown}
 use Rattle.ap_rules.specs.declared.linear.LinearRule.{LinearRule}
 use Rattle.ap_rules.specs.Linear.{LinearHolds}
-use Rattle.ap_rewrite.specs.Linear.{most_polys, of_facts, bounds, given, with_instance, at_match, at_atoms, with_rules, refuted, or_refuted, then_refuted, by_truth, by_less, if_refuted, by_orders, by_equal, by_equation, are_integers, by_pair, by_arithmetic}
+use Rattle.ap_rewrite.specs.Linear.{most_polys, of_facts, bounds, given, with_instance, at_match, at_atoms, with_rules, refuted, or_refuted, then_refuted, by_less, if_refuted, by_equal, are_integers, by_pair, by_arithmetic}
 use Rattle.ap_rewrite.specs.SoundSettings.{defs_of, SoundSetting}
 use Rattle.ap_rewrite.proofs.Yields.{Yields, When, yields_known, yields_after, yields_cond, yields_same}
 use Rattle.ap_world.proofs.Instances.{known_subst, match_fits}

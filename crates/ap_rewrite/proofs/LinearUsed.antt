@@ -3,9 +3,7 @@ use Rattle.std.proofs.Common.{◌≡◌, ℕ, nat_le, Bool, true, false, cond, �
 use Rattle.std.proofs.lemmas.List.{reverse-reverse}
 use mathlib.Core.List.{reverse_aux}
 use Rattle.ap_list.specs.Lists.{Each}
-use Rattle.ap_value.specs.declared.symbol.Symbol.{Symbol}
-use Rattle.ap_value.specs.Values.{symbol_eq}
-use Rattle.ap_term.specs.declared.term.Term.{Term, Var, Quote, Call, out-Term}
+use Rattle.ap_term.specs.declared.term.Term.{Term, out-Term}
 use Rattle.ap_term.specs.declared.term.Term.TheOpen.{Term-F}
 use Rattle.ap_term.specs.declared.term.Term.TheVariants.{outs-Call, outs-Var, outs-Quote}
 use Rattle.ap_term.specs.Metered.{Got, By, after, known as answer}
@@ -20,7 +18,7 @@ use Rattle.ap_rules.specs.Shapes.{is_call}
 use Rattle.ap_rewrite.specs.Arithmetic.{is_usable}
 use Rattle.ap_rewrite.specs.Settings.{Setting, Place, Inner}
 use Rattle.ap_rewrite.specs.Relieving.{relieve}
-use Rattle.ap_rewrite.specs.Linear.{most_polys, with_instance, at_match, at_atoms, with_rules}
+use Rattle.ap_rewrite.specs.Linear.{most_polys, at_match, at_atoms, with_rules}
 use Rattle.ap_rewrite.specs.Answering.{used, used_at, used_each}
 use Rattle.ap_rewrite.proofs.Ruled.{taken, passed, after_out, after_some}
 

@@ -7,8 +7,7 @@ use Rattle.ap_value.specs.Values.{symbol_eq}
 use Rattle.ap_value.proofs.Equals.{symbol_eq-true}
 use Rattle.ap_term.specs.declared.term.Term.{Term, Call}
 use Rattle.ap_term.specs.declared.term.Term.TheVariants.{outs-Call}
-use Rattle.ap_term.specs.Metered.{Got, By, after, known as answer}
-use Rattle.ap_world.specs.declared.entry.Entry.{Entry}
+use Rattle.ap_term.specs.Metered.{Got}
 use Rattle.ap_world.specs.declared.entry.Mask.{Mask}
 use Rattle.ap_world.specs.declared.theory.Theory.{Theory}
 use Rattle.ap_world.specs.declared.primitive.Primitive.{Primitive as Prim}
@@ -19,7 +18,7 @@ use Rattle.ap_world.specs.Primitives.{prim_of, primitives}
 use Rattle.ap_world.specs.Sound.{known}
 use Rattle.ap_world.specs.World.{Shown, function_of}
 use Rattle.ap_world.proofs.Equations.{prim_of_less, prim_of_equal}
-use Rattle.ap_world.proofs.Knowing.{known_by, known_args, each_true, true_each}
+use Rattle.ap_world.proofs.Knowing.{known_by, true_each}
 use Rattle.ap_poly.specs.Polynomials.{Polynomial}
 use Rattle.ap_poly.specs.Elimination.{lin}
 use Rattle.ap_poly.specs.Bounds.{first_atoms}
@@ -31,15 +30,15 @@ use Rattle.ap_kernel.specs.declared.objects.Sequent.{Sequent}
 use Rattle.ap_kernel.specs.declared.objects.Equiv.{Equiv}
 use Rattle.ap_kernel.specs.declared.objects.Mode.TheVariants.{Equal}
 use Rattle.ap_kernel.specs.Equations.{equal_of, truth_constant}
-use Rattle.ap_kernel.specs.Linear.{is_comparison, less_of, refuted_made, not_less_made, equal_made, NeitherLess}
+use Rattle.ap_kernel.specs.Linear.{is_comparison, less_of, refuted_made, NeitherLess}
 use Rattle.ap_kernel.specs.Standing.{Stands}
 use Rattle.ap_rewrite.specs.Arithmetic.{is_usable}
 use Rattle.ap_rewrite.specs.Settings.{Setting, Place, Inner}
 use Rattle.ap_rewrite.specs.InWorld.{world_setting}
-use Rattle.ap_rewrite.specs.Linear.{most_polys, bounds, given, with_rules, refuted, or_refuted, then_refuted, if_refuted, by_truth, by_less, by_orders, by_equal}
+use Rattle.ap_rewrite.specs.Linear.{most_polys, bounds, given, with_rules, refuted, by_truth, by_less, by_orders, by_equal}
 use Rattle.ap_rewrite.specs.Refuting.{Refutes, Squeezes, IntegersWithin}
 use Rattle.ap_rewrite.specs.Leading.{said_of}
-use Rattle.ap_rewrite.specs.Answering.{From, got_if, got_any, right_of, used_each}
+use Rattle.ap_rewrite.specs.Answering.{From, got_if, used_each}
 use Rattle.ap_rewrite.proofs.Ruled.{after_out, after_some}
 use Rattle.ap_rewrite.proofs.Triggers.{all_triggered}
 use Rattle.ap_rewrite.proofs.LinearUsed.{Triggered, found_all}

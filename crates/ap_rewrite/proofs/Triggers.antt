@@ -1,5 +1,5 @@
 -- The trigger of each linear rule of a world is a call.
-use Rattle.std.proofs.Common.{◌≡◌, ℕ, ◌+◌, Bool, true, false, cond, ◌&&◌, List, [], ◌∷◌, ◌++◌, Option, Some, None, refl, subst}
+use Rattle.std.proofs.Common.{◌≡◌, ℕ, ◌+◌, Bool, true, false, cond, ◌&&◌, List, [], ◌∷◌, Option, Some, None, refl, subst}
 use Rattle.ap_list.specs.Lists.{Each, is_within}
 use Rattle.ap_value.specs.declared.symbol.Symbol.{Symbol}
 use Rattle.ap_value.specs.Values.{symbol_eq}
@@ -12,7 +12,6 @@ use Rattle.ap_world.specs.declared.entry.Entry.TheVariants as entry
 use Rattle.ap_world.specs.Clauses.{conjuncts}
 use Rattle.ap_world.specs.Rules.{stated}
 use Rattle.ap_kernel.proofs.Reduced.{each_append}
-use Rattle.ap_rules.specs.declared.linear.LinearRule.{LinearRule}
 use Rattle.ap_rules.specs.Linear.{linear_part, linear_from, linear_of_term, linear_in_entry, all_linear}
 use Rattle.ap_rules.specs.Shapes.{is_call, is_trigger, first_trigger, trigger_of, told, is_linear, all_inequalities}
 use Rattle.ap_rewrite.proofs.LinearUsed.{Triggered}

@@ -15,9 +15,7 @@ use crate::rewriter::{Level, Place, Rewriter, Run, deeper};
 use crate::rows::follow;
 use crate::settling::in_mode;
 use crate::trying::tried;
-use ap_kernel::{
-    Ctx, Equiv, LinearOracle, Mode, NoMemory, Seq, Symbol, Term, TypeOracle, cong,
-};
+use ap_kernel::{Ctx, Equiv, LinearOracle, Mode, NoMemory, Seq, Symbol, Term, TypeOracle, cong};
 
 /// The arguments of a call, from left to right, under equality.
 fn rewrite_args<

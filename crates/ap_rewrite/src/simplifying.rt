@@ -15,8 +15,8 @@ use crate::literals::literal;
 use crate::rewriter::Rewriter;
 use ap_clausify::split;
 use ap_kernel::{
-    LinearOracle, Mode, NoMemory, Reduction, Seq, TypeOracle, World, chain, is_constant, others_false, refl,
-    rewrite_literal, tidy,
+    LinearOracle, Mode, NoMemory, Reduction, Seq, TypeOracle, World, chain, is_constant,
+    others_false, refl, rewrite_literal, tidy,
 };
 use ap_term::{Clause, Steps, copy_terms};
 use std::alloc::Global;

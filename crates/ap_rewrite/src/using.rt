@@ -110,10 +110,7 @@ fn at_atoms<
 }
 
 /// A rule at each atom, where the theory enables it.
-fn used<
-    O: TypeOracle,
-    F: Fn(&mut Run, Mode, &Place<'_>, &Term) -> Result<Option<Equiv>, NoMemory>,
->(
+fn used<O: TypeOracle, F: Fn(&mut Run, Mode, &Place<'_>, &Term) -> Result<Option<Equiv>, NoMemory>>(
     l: &Level<'_, '_, O, F>,
     run: &mut Run,
     at: &Place<'_>,

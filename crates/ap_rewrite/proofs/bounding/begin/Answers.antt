@@ -1,4 +1,4 @@
-use Rattle.std.proofs.Common.{◌≡◌, ◌++◌, true, sym, subst, rules}
+use Rattle.std.proofs.Common.{◌≡◌, true, sym, subst, rules}
 use Rattle.ap_list.specs.Lists.{Each}
 use Rattle.ap_world.specs.Sound.{known}
 use Rattle.ap_poly.specs.Bounds.{first_atoms}

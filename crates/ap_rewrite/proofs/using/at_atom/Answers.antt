@@ -1,8 +1,8 @@
-use Rattle.std.proofs.Common.{◌≡◌, ◌∙◌, IfOk, Option, refl, sym, ap, subst}
+use Rattle.std.proofs.Common.{◌∙◌, Option, sym, ap}
 use Rattle.ap_term.specs.Matching.{Pairs, matched}
 use Rattle.ap_world.proofs.Instances.{match_fits}
 use Rattle.ap_rewrite.specs.Linear.{at_match}
-use Rattle.ap_rewrite.specs.Answering.{defs_in, setting_of, inner_of, seen_at, got_polys}
+use Rattle.ap_rewrite.specs.Answering.{defs_in, setting_of, inner_of, seen_at}
 use Rattle.ap_rewrite.proofs.using.at_atom.Goals as goal
 
 pub at_match-requires-clause-pairs : goal.at_match-requires-clause-pairs

@@ -1,4 +1,4 @@
-use Rattle.std.proofs.Common.{◌≡◌, ◌∙◌, true, Some, None, refl, sym, ap, arith}
+use Rattle.std.proofs.Common.{◌≡◌, ◌∙◌, true, refl, sym, arith}
 use Rattle.std.proofs.lemmas.List.{drop_all}
 use Rattle.std.proofs.lemmas.Option.{slice_get_read}
 use Rattle.ap_term.specs.declared.term.Term.{Term}
@@ -6,7 +6,7 @@ use Rattle.ap_world.specs.Sound.{known}
 use Rattle.ap_kernel.proofs.Typed.{each_at}
 use Rattle.ap_rewrite.specs.Answering.{defs_in, setting_of, inner_of, seen_at}
 use Rattle.ap_rewrite.proofs.Arguments.{from_place}
-use Rattle.ap_rewrite.proofs.LinearUsed.{atoms_full, atom_out, atom_next, atoms_end}
+use Rattle.ap_rewrite.proofs.LinearUsed.{atoms_full, atom_next, atoms_end}
 use Rattle.ap_rewrite.proofs.using.at_atoms.Goals as goal
 
 pub at_atom-requires-clause-atom : goal.at_atom-requires-clause-atom

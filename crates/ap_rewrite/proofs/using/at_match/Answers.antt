@@ -1,10 +1,10 @@
-use Rattle.std.proofs.Common.{◌≡◌, ◌∙◌, IsTrue, List, Some, None, refl, sym, ap, subst}
+use Rattle.std.proofs.Common.{◌≡◌, ◌∙◌, IsTrue, List, Some, None, sym, ap, subst}
 use Rattle.ap_list.specs.Lists.{Each}
 use Rattle.ap_term.specs.declared.term.Term.{Term}
 use Rattle.ap_world.specs.Sound.{known}
 use Rattle.ap_rewrite.specs.Relieving.{relieve}
 use Rattle.ap_rewrite.specs.Answering.{defs_in, setting_of, inner_of, seen_at}
-use Rattle.ap_rewrite.proofs.LinearUsed.{match_out, match_none, match_some}
+use Rattle.ap_rewrite.proofs.LinearUsed.{match_out, match_none}
 use Rattle.ap_rewrite.proofs.using.at_match.Goals as goal
 
 pub relieve-requires-clause-hyps : goal.relieve-requires-clause-hyps
