@@ -21,3 +21,5 @@ pub mod Hearing
 pub mod Adding
 pub mod Marked
 pub mod Splitting
+pub mod Gathered
+pub mod Noted
