@@ -57,7 +57,8 @@ fn add_own<S: Step>(
         goal_limit: 1,
     };
     let own = serial(alloc, step, task, rule)?;
-    marks.append(own.marks)
+    marks.append(own.marks)?;
+    Ok(())
 }
 
 /// Puts the marks that are kept of a node, and of the nodes so many levels below it, behind others: its walk
@@ -80,7 +81,10 @@ fn gather<S: Step>(
     }
     let node = &nodes[i];
     match &node.stage {
-        Stage::Put(walked) => return add_copies(alloc, step, walked.marks.as_slice(), marks),
+        Stage::Put(walked) => {
+            add_copies(alloc, step, walked.marks.as_slice(), marks)?;
+            return Ok(());
+        }
         Stage::Closed(_) => {}
         _ => return Ok(()),
     }

@@ -99,6 +99,13 @@ impl<S: Step> TableState<S> {
         is_done(&self.nodes, 0)
     }
 
+    /// The steps that were taken, in their order.
+    pub fn history(&self) -> &[Entry]
+        ensures { result.now ≡ self.now.history }
+    {
+        self.history.as_slice()
+    }
+
     /// Puts the children of a job's task into the table. A stranger is a job that isn't the table's, or one
     /// whose node has three families above it, or there would be more than 1,000,000 nodes. What is handed
     /// in comes back where nothing is changed.
