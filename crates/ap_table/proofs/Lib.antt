@@ -23,3 +23,4 @@ pub mod Marked
 pub mod Splitting
 pub mod Gathered
 pub mod Noted
+pub mod Licences
