@@ -1,6 +1,7 @@
 -- The marks that are gathered from the kept nodes, and why they make the root's walk.
 use Rattle.std.proofs.Common.{◌≡◌, ◌≢◌, ℕ, zero, suc, ◌+◌, ◌-◌, ◌≤◌, ◌<◌, Bool, true, false, cond, nat_le, List, [], ◌∷◌, ◌++◌, Option, Some, None, length, take, get_or, refl, sym, ap, subst, ◌∙◌, arith, inl, inr, ◌⊎◌, append_assoc, append-nil}
 use Rattle.std.proofs.lemmas.List.{take_more, take_all}
+use Rattle.std.proofs.lemmas.Option.{slice_get_past}
 use Rattle.std.specs.List.{slice_get}
 use Rattle.ap_list.specs.Lists.{Each}
 use Rattle.ap_walk.specs.declared.act.Stepped.{Stepped}
@@ -48,16 +49,16 @@ none_copied base more = sym (append-nil base)
 pub nothing_more : {A : Type 0} (base more : List A) → more ≡ [] → base ≡ base ++ more
 nothing_more base more e = sym (append-nil base) ∙ ap (λ l. base ++ l) (sym e)
 
-one_goal : (rule : Rule) (t : Tally) → rule.goal_limit ≡ 1 → 1 ≤ t.goals → end_at rule t ≡ End.Through → ⊥
-one_goal rule t e le h =
-    let x : nat_le rule.goal_limit 1 ≡ false = (short rule t 0 1 h (omega arith) le).1 in
+one_goal : (rule : Rule) (p g : ℕ) → rule.goal_limit ≡ 1 → 1 ≤ g → end_at rule (record { pushes = p; goals = g }) ≡ End.Through → ⊥
+one_goal rule p g e le h =
+    let x : nat_le rule.goal_limit 1 ≡ false = (short rule (record { pushes = p; goals = g }) 0 1 h (omega arith) le).1 in
     let y : true ≡ false = sym (ap (λ l. nat_le l 1) e) ∙ x in
     absurd (cc)
 
 module _ {T : Type 0} where
   first_ends : (rule : Rule) (o : Out T) → rule.goal_limit ≡ 1 → end_after rule o (tally_after o zero_tally) ≡ End.Through → ⊥
-  first_ends rule (Out.Split cs) e h = one_goal rule (tally_after (Out.Split cs) zero_tally) e (omega arith) h
-  first_ends rule Out.Push e h = one_goal rule (tally_after {T = T} Out.Push zero_tally) e (omega arith) h
+  first_ends rule (Out.Split cs) e h = one_goal rule 0 (0 + 1) e (omega arith) h
+  first_ends rule Out.Push e h = one_goal rule (0 + 1) (0 + 1) e (omega arith) h
   first_ends rule (Out.Stop r) e h = absurd (cc)
 
   module _ (step : T → Stepped T) (rule : Rule) where
@@ -119,15 +120,10 @@ module _ {T : Type 0} where
     no_level i zero e = refl
     no_level i (suc l) e = absurd (omega arith)
 
-    past : {A : Type 0} (xs : List A) (i : ℕ) → length xs ≤ i → slice_get xs i ≡ None
-    past [] i h = refl
-    past (x ∷ xs) zero h = absurd (omega arith)
-    past (x ∷ xs) (suc i) h = past xs i (omega arith)
-
     pub no_node : (levels i : ℕ) → length nodes ≤ i → marks_at step nodes levels i ≡ []
     unfolding marks_at
     no_node zero i h = refl
-    no_node (suc l) i h = ap (stored_marks step (marks_at step nodes l) nodes) (past nodes i h)
+    no_node (suc l) i h = ap (stored_marks step (marks_at step nodes l) nodes) (slice_get_past nodes i h)
 
     pub put_marks : (levels i : ℕ) (c : Stored T) (w : Walked T) → levels ≢ 0 → slice_get nodes i ≡ Some c → c.stage ≡ stage.Put w → marks_at step nodes levels i ≡ w.marks
     unfolding marks_at

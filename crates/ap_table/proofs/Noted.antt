@@ -39,11 +39,11 @@ module _ {T : Type 0} (step : T → Stepped T) (depth : T → ℕ) (rule : Rule)
   -- the family of a licence, and the sibling at its index
   record Sibling (l : License) : Type 0 where
     pub kept : Stored T
-    pub kept_at : slice_get cs l.family ≡ Some kept
+    pub kept_there : slice_get cs l.family ≡ Some kept
     pub node : Node T
-    pub node_at : slice_get ns l.family ≡ Some node
+    pub node_there : slice_get ns l.family ≡ Some node
     pub sibling : Stored T
-    pub sibling_at : slice_get cs (kept.first + l.index) ≡ Some sibling
+    pub sibling_there : slice_get cs (kept.first + l.index) ≡ Some sibling
     pub child : slice_get (children step depth rule node.task) l.index ≡ Some sibling.task
 
   family_of : (l : License) (path : List Link) (k : ℕ) (n : Node T) → slice_get ns k ≡ Some n → n.path ≡ path → AnyOf (Names l) path
@@ -74,11 +74,11 @@ module _ {T : Type 0} (step : T → Stepped T) (depth : T → ℕ) (rule : Rule)
       let c = kept_at step cs ns (f.0.first + l.index) x.0 a x.1 in
       record {
         kept = f.1;
-        kept_at = f.3;
+        kept_there = f.3;
         node = f.0;
-        node_at = f.2;
+        node_there = f.2;
         sibling = c.0;
-        sibling_at = ap (λ (y : ℕ). slice_get cs (y + l.index)) f.4 ∙ c.1;
+        sibling_there = ap (λ (y : ℕ). slice_get cs (y + l.index)) f.4 ∙ c.1;
         child = x.2 ∙ ap Some (sym c.2.task);
       }
 
@@ -86,21 +86,21 @@ module _ {T : Type 0} (step : T → Stepped T) (depth : T → ℕ) (rule : Rule)
   can_note k l n at h =
       let x = sibling_of l k n at h in
       let c = kept_at step cs ns k n a at in
-      record { node = c.0; at = c.1; parent = x.kept; parent_at = x.kept_at; sibling = x.sibling; sibling_at = x.sibling_at }
+      record { node = c.0; at = c.1; parent = x.kept; parent_at = x.kept_there; sibling = x.sibling; sibling_at = x.sibling_there }
 
   note_shown : (k : ℕ) (l : License) (d : DropNote) (n : Node T) → slice_get ns k ≡ Some n → Licensed step depth rule ns n.path l → IsKeptNote name cs k l d → IsLicensedNote step depth rule name ns k l d
   note_shown k l d n at h is =
       let x = sibling_of l k n at h.0 in
       let c = kept_at step cs ns k n a at in
       let own : is.node ≡ c.0 = some_is is.node c.0 (sym is.at ∙ c.1) in
-      let parent : is.parent ≡ x.kept = some_is is.parent x.kept (sym is.parent_at ∙ x.kept_at) in
-      let sibling : is.sibling ≡ x.sibling = some_is is.sibling x.sibling (sym is.sibling_at ∙ (ap (λ (p : Stored T). slice_get cs (p.first + l.index)) parent ∙ x.sibling_at)) in
+      let parent : is.parent ≡ x.kept = some_is is.parent x.kept (sym is.parent_at ∙ x.kept_there) in
+      let sibling : is.sibling ≡ x.sibling = some_is is.sibling x.sibling (sym is.sibling_at ∙ (ap (λ (p : Stored T). slice_get cs (p.first + l.index)) parent ∙ x.sibling_there)) in
       record {
         node = n;
         at = at;
         licensed = h;
         parent = x.node;
-        parent_at = x.node_at;
+        parent_at = x.node_there;
         sibling = x.sibling.task;
         sibling_at = x.child;
         is = is.is ∙ same_note (name is.node.task) (name n.task) (name is.sibling.task) (name x.sibling.task) l (ap name (ap (λ (y : Stored T). y.task) own ∙ c.2.task)) (ap (λ (y : Stored T). name y.task) sibling);

@@ -59,8 +59,8 @@ pub(crate) fn notes<S: Step>(
     let mut notes = Seq::new(alloc);
     for place in 0..history.len() {
         if let Entry::Dropped(node, license) = history[place] {
-            let note = note(alloc, step, nodes, node, license)?;
-            notes.push(note)?;
+            let one = note(alloc, step, nodes, node, license)?;
+            notes.push(one)?;
         }
     }
     Ok(notes)
