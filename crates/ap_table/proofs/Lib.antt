@@ -21,3 +21,6 @@ pub mod Hearing
 pub mod Adding
 pub mod Marked
 pub mod Splitting
+pub mod Gathered
+pub mod Noted
+pub mod Licences

@@ -74,7 +74,7 @@ module _ {T : Type 0} (step : T → Stepped T) (depth : T → ℕ) (rule : Rule)
       (λ v e. let n = walk_there ns k v (slice_get ns k) refl e in (n.0.task, done_but q ns k n.0 n.0.phase v (s k n.0 n.1).phase n.2))
 
 -- a number and no number
-none_or : (n : ℕ) → ((n ≡ NONE) × (nat_eq n NONE ≡ true)) ⊎ ((n ≢ NONE) × (nat_eq n NONE ≡ false))
+pub none_or : (n : ℕ) → ((n ≡ NONE) × (nat_eq n NONE ≡ true)) ⊎ ((n ≢ NONE) × (nat_eq n NONE ≡ false))
 none_or n = elim (same_or_not n NONE) [ inl e ↦ inl (e, grind (arith, nat_tests)) | inr d ↦ inr (d, grind (arith, nat_tests)) ]
 
 module _ {T : Type 0} (step : T → Stepped T) (depth : T → ℕ) where
@@ -100,7 +100,7 @@ module _ {T : Type 0} (step : T → Stepped T) (depth : T → ℕ) where
   abbrev pub AllThere : List (Stored T) → List Link → Type 0
   AllThere cs path = Each (λ l. (m : Stored T) × (slice_get cs l.family ≡ Some m) × HasKids m.stage) path
 
-  path_there : (rule : Rule) (q : Option ℕ) (cs : List (Stored T)) (ns : List (Node T)) (path : List Link) (k : ℕ) (c : Stored T) → AllShow step cs ns → SoundBut step depth rule q ns → Kids rule None cs → slice_get cs k ≡ Some c → c.path ≡ path → AllThere cs path
+  pub path_there : (rule : Rule) (q : Option ℕ) (cs : List (Stored T)) (ns : List (Node T)) (path : List Link) (k : ℕ) (c : Stored T) → AllShow step cs ns → SoundBut step depth rule q ns → Kids rule None cs → slice_get cs k ≡ Some c → c.path ≡ path → AllThere cs path
   path_there rule q cs ns [] k c a s kids at e = tt
   path_there rule q cs ns (l ∷ ls) k c a s kids at e =
       let n = shown_at step cs ns k c a at in

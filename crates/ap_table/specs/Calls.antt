@@ -82,11 +82,11 @@ module _ {T : Type 0} (step : T → Stepped T) (depth : T → ℕ) where
   Puts old new job taken.Kept = ((marks : List Entry) × (new ≡ record old { history = old.history ++ entry.Put job.node ∷ marks }) × PutMarks old job.node marks) × IsJob old job × (CanStill old job.node → ⊥)
   Puts old new job (taken.Stranger back) = (new ≡ old) × (back ≡ job) × (IsJob old job → CanStill old job.node)
 
-  -- the licence's family is above the node, its index below the place there, and the family's word isn't above the index
+  -- the licence's family is above the node, its index below the place there, and kept results stop the family at or before the index
   abbrev pub IsLicense : Run T → ℕ → License → Type 0
   IsLicense r k l =
       ((n : Node T) × (slice_get (nodes_of step depth r) k ≡ Some n) × AnyOf (Names l) n.path)
-      × ((m : Node T) × (slice_get (nodes_of step depth r) l.family ≡ Some m) × (m.word ≤ l.index))
+      × ((m : Node T) × (i : ℕ) × (slice_get (nodes_of step depth r) l.family ≡ Some m) × (known_of step depth r.rule (nodes_of step depth r) m ≡ Some i) × (i ≤ l.index))
 
   abbrev pub Drops : Run T → Run T → Job T → License → Taken T → Type 0
   Drops old new job l taken.Kept = (new ≡ longer old (entry.Dropped job.node l)) × IsJob old job × IsLicense old job.node l
