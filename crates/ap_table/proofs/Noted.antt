@@ -23,7 +23,7 @@ use Rattle.ap_table.proofs.Replay.{Keeps, replay_keeps}
 use Rattle.ap_table.proofs.Showing.{kept_at}
 use Rattle.ap_table.proofs.Families.{kids_count, kid_family}
 
-same_note : (a b u v : Name) (l : License) → a ≡ b → u ≡ v → (let x : DropNote = record { dropped = a; stopped = u; license = l } in x) ≡ (let y : DropNote = record { dropped = b; stopped = v; license = l } in y)
+pub same_note : (a b u v : Name) (l : License) → a ≡ b → u ≡ v → (let x : DropNote = record { dropped = a; stopped = u; license = l } in x) ≡ (let y : DropNote = record { dropped = b; stopped = v; license = l } in y)
 same_note a b u v l e f = cc
 
 module _ {T : Type 0} where
@@ -156,50 +156,50 @@ module _ (one : ℕ → License → DropNote → Type 0) where
   one_noted (entry.Dropped j m ∷ es) (x ∷ ds) k l d h o = (h.0, one_noted es ds k l d h.1 o)
 
   other_alone : (e : Entry) → ((k : ℕ) (l : License) → e ≡ entry.Dropped k l → ⊥) → AreNotes one (e ∷ []) []
-  other_alone (entry.Claimed j) no = tt
-  other_alone (entry.Expanded j) no = tt
-  other_alone (entry.Put j) no = tt
-  other_alone (entry.Marked f i) no = tt
-  other_alone (entry.Dropped k l) no = absurd (no k l refl)
+  other_alone (entry.Claimed j) isnt = tt
+  other_alone (entry.Expanded j) isnt = tt
+  other_alone (entry.Put j) isnt = tt
+  other_alone (entry.Marked f i) isnt = tt
+  other_alone (entry.Dropped k l) isnt = absurd (isnt k l refl)
 
   pub other_noted : (es : List Entry) (ds : List DropNote) (e : Entry) → ((k : ℕ) (l : License) → e ≡ entry.Dropped k l → ⊥) → AreNotes one es ds → AreNotes one (es ++ e ∷ []) ds
-  other_noted [] [] e no h = other_alone e no
-  other_noted [] (x ∷ ds) e no h = absurd h
-  other_noted (entry.Claimed j ∷ es) ds e no h = other_noted es ds e no h
-  other_noted (entry.Expanded j ∷ es) ds e no h = other_noted es ds e no h
-  other_noted (entry.Put j ∷ es) ds e no h = other_noted es ds e no h
-  other_noted (entry.Marked f i ∷ es) ds e no h = other_noted es ds e no h
-  other_noted (entry.Dropped j m ∷ es) [] e no h = absurd h
-  other_noted (entry.Dropped j m ∷ es) (x ∷ ds) e no h = (h.0, other_noted es ds e no h.1)
+  other_noted [] [] e isnt h = other_alone e isnt
+  other_noted [] (x ∷ ds) e isnt h = absurd h
+  other_noted (entry.Claimed j ∷ es) ds e isnt h = other_noted es ds e isnt h
+  other_noted (entry.Expanded j ∷ es) ds e isnt h = other_noted es ds e isnt h
+  other_noted (entry.Put j ∷ es) ds e isnt h = other_noted es ds e isnt h
+  other_noted (entry.Marked f i ∷ es) ds e isnt h = other_noted es ds e isnt h
+  other_noted (entry.Dropped j m ∷ es) [] e isnt h = absurd h
+  other_noted (entry.Dropped j m ∷ es) (x ∷ ds) e isnt h = (h.0, other_noted es ds e isnt h.1)
 
   -- one entry more of a history
-  pub drop_next : (es : List Entry) (ds new : List DropNote) (i k : ℕ) (l : License) (d : DropNote) (e : Entry) → i < length es → e ≡ get_or es i e → e ≡ entry.Dropped k l → AreNotes one (take i es) ds → one k l d → new ≡ ds ++ d ∷ [] → AreNotes one (take (i + 1) es) new
-  drop_next es ds new i k l d e lt at is h o more =
+  pub drop_next : (es : List Entry) (ds new : List DropNote) (i k : ℕ) (l : License) (d : DropNote) (e : Entry) → i < length es → get_or es i e ≡ entry.Dropped k l → AreNotes one (take i es) ds → one k l d → new ≡ ds ++ d ∷ [] → AreNotes one (take (i + 1) es) new
+  drop_next es ds new i k l d e lt is h o more =
       subst (AreNotes one (take (i + 1) es)) (sym more)
-      (subst (λ xs. AreNotes one xs (ds ++ d ∷ [])) (sym (take_more es i e lt ∙ ap (λ x. take i es ++ x ∷ []) (sym at ∙ is))) (one_noted (take i es) ds k l d h o))
+      (subst (λ xs. AreNotes one xs (ds ++ d ∷ [])) (sym (take_more es i e lt ∙ ap (λ x. take i es ++ x ∷ []) is)) (one_noted (take i es) ds k l d h o))
 
-  pub other_next : (es : List Entry) (ds : List DropNote) (i : ℕ) (e : Entry) → i < length es → e ≡ get_or es i e → ((k : ℕ) (l : License) → e ≡ entry.Dropped k l → ⊥) → AreNotes one (take i es) ds → AreNotes one (take (i + 1) es) ds
-  other_next es ds i e lt at no h =
-      subst (λ xs. AreNotes one xs ds) (sym (take_more es i e lt ∙ ap (λ x. take i es ++ x ∷ []) (sym at))) (other_noted (take i es) ds e no h)
+  pub other_next : (es : List Entry) (ds new : List DropNote) (i : ℕ) (e : Entry) → i < length es → ((k : ℕ) (l : License) → get_or es i e ≡ entry.Dropped k l → ⊥) → AreNotes one (take i es) ds → new ≡ ds → AreNotes one (take (i + 1) es) new
+  other_next es ds new i e lt isnt h same =
+      subst (AreNotes one (take (i + 1) es)) (sym same)
+      (subst (λ xs. AreNotes one xs ds) (sym (take_more es i e lt)) (other_noted (take i es) ds (get_or es i e) isnt h))
 
   pub all_noted : (es : List Entry) (ds : List DropNote) (i : ℕ) → length es ≤ i → AreNotes one (take i es) ds → AreNotes one es ds
   all_noted es ds i le h = subst (λ xs. AreNotes one xs ds) (take_all i es le) h
 
 module _ {T : Type 0} where
   -- a drop of the history can be noted
-  pub can_note_at : (cs : List (Stored T)) (es : List Entry) (i k : ℕ) (l : License) (e : Entry) → i < length es → e ≡ get_or es i e → e ≡ entry.Dropped k l → CanNoteAll cs es → CanNote cs k l
-  can_note_at cs [] i k l e lt at is h = absurd (omega arith)
-  can_note_at cs (entry.Dropped j m ∷ es) zero k l e lt at is h =
-      let x : entry.Dropped j m ≡ entry.Dropped k l = sym at ∙ is in
+  pub can_note_at : (cs : List (Stored T)) (es : List Entry) (i k : ℕ) (l : License) (e : Entry) → i < length es → get_or es i e ≡ entry.Dropped k l → CanNoteAll cs es → CanNote cs k l
+  can_note_at cs [] i k l e lt is h = absurd (omega arith)
+  can_note_at cs (entry.Dropped j m ∷ es) zero k l e lt is h =
       let y : j ≡ k = cc in
       let z : m ≡ l = cc in
       subst (λ (n : ℕ). CanNote cs n l) y (subst (CanNote cs j) z h.0)
-  can_note_at cs (entry.Claimed j ∷ es) zero k l e lt at is h = absurd (let x : entry.Claimed j ≡ entry.Dropped k l = sym at ∙ is in cc)
-  can_note_at cs (entry.Expanded j ∷ es) zero k l e lt at is h = absurd (let x : entry.Expanded j ≡ entry.Dropped k l = sym at ∙ is in cc)
-  can_note_at cs (entry.Put j ∷ es) zero k l e lt at is h = absurd (let x : entry.Put j ≡ entry.Dropped k l = sym at ∙ is in cc)
-  can_note_at cs (entry.Marked f m ∷ es) zero k l e lt at is h = absurd (let x : entry.Marked f m ≡ entry.Dropped k l = sym at ∙ is in cc)
-  can_note_at cs (entry.Dropped j m ∷ es) (suc i) k l e lt at is h = can_note_at cs es i k l e (omega arith) at is h.1
-  can_note_at cs (entry.Claimed j ∷ es) (suc i) k l e lt at is h = can_note_at cs es i k l e (omega arith) at is h
-  can_note_at cs (entry.Expanded j ∷ es) (suc i) k l e lt at is h = can_note_at cs es i k l e (omega arith) at is h
-  can_note_at cs (entry.Put j ∷ es) (suc i) k l e lt at is h = can_note_at cs es i k l e (omega arith) at is h
-  can_note_at cs (entry.Marked f m ∷ es) (suc i) k l e lt at is h = can_note_at cs es i k l e (omega arith) at is h
+  can_note_at cs (entry.Claimed j ∷ es) zero k l e lt is h = absurd (cc)
+  can_note_at cs (entry.Expanded j ∷ es) zero k l e lt is h = absurd (cc)
+  can_note_at cs (entry.Put j ∷ es) zero k l e lt is h = absurd (cc)
+  can_note_at cs (entry.Marked f m ∷ es) zero k l e lt is h = absurd (cc)
+  can_note_at cs (entry.Dropped j m ∷ es) (suc i) k l e lt is h = can_note_at cs es i k l e (omega arith) is h.1
+  can_note_at cs (entry.Claimed j ∷ es) (suc i) k l e lt is h = can_note_at cs es i k l e (omega arith) is h
+  can_note_at cs (entry.Expanded j ∷ es) (suc i) k l e lt is h = can_note_at cs es i k l e (omega arith) is h
+  can_note_at cs (entry.Put j ∷ es) (suc i) k l e lt is h = can_note_at cs es i k l e (omega arith) is h
+  can_note_at cs (entry.Marked f m ∷ es) (suc i) k l e lt is h = can_note_at cs es i k l e (omega arith) is h

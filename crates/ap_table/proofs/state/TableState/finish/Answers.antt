@@ -1,14 +1,14 @@
-use Rattle.std.proofs.Common.{reverse, refl, sym, ap, subst, ◌∙◌}
+use Rattle.std.proofs.Common.{List, reverse, refl, sym, ap, subst, ◌∙◌}
 use Rattle.std.specs.Vec.{vec_capacity}
 use Rattle.ap_table.specs.Core.{root}
 use Rattle.ap_table.specs.Shown.{Run, turns, nodes_of}
-use Rattle.ap_table.specs.Ended.{HasEnded, Ends}
+use Rattle.ap_table.specs.declared.stored.Entry.{Entry}
+use Rattle.ap_table.specs.Ended.{AreNotes, IsKeptNote, HasEnded, Ends}
 use Rattle.ap_table.proofs.After.{after_sound}
 use Rattle.ap_table.proofs.Gathered.{walk_gathered}
 use Rattle.ap_table.proofs.Noted.{can_note_all, notes_shown}
 use Rattle.ap_table.proofs.state.TableState.finish.Goals as goal
 
--- Drafts: the names of the goals and of the facts were never seen in a check.
 pub notes-requires : goal.notes-requires
 notes-requires g c =
     let i = c.self.inside in
@@ -16,7 +16,7 @@ notes-requires g c =
     let depth = g.S.Step.depth in
     let r : Run g.row.S-Task.Denot = record { root = i.root; rule = i.rule; history = i.history.items } in
     let sound = after_sound step depth i.rule g.met.S.Step.tells g.met.S.Step.deeper i.root (turns i.history.items) c.self.invariant.allowed in
-    rw c.as_slice.ensures
+    rw c.as_slice.ensures.value
     (can_note_all step depth i.rule g.S.Step.name i.nodes.items (nodes_of step depth r) c.self.invariant.shows sound c.self.invariant.kids (root i.root) i.history.items c.self.invariant.allowed refl)
 
 pub returns : goal.returns
@@ -32,5 +32,5 @@ returns g c =
     let ended = subst (HasEnded step depth) (sym c.self.view_is) c.requires in
     subst (λ (x : Run g.row.S-Task.Denot). Ends step depth name x c.cut_from.result c.in_ok-notes.notes) c.self.view_is (
       c.cut_from.ensures ∙ walk_gathered step depth tells deeper r i.nodes.items (reverse i.live.items) (vec_capacity i.history) c.in_ok-marks.marks c.self.invariant ended c.in_ok-marks.ensures,
-      notes_shown step depth i.rule name i.nodes.items (nodes_of step depth r) c.self.invariant.shows sound c.self.invariant.kids (root i.root) i.history.items c.in_ok-notes.notes c.self.invariant.allowed refl c.in_ok-notes.ensures,
+      notes_shown step depth i.rule name i.nodes.items (nodes_of step depth r) c.self.invariant.shows sound c.self.invariant.kids (root i.root) i.history.items c.in_ok-notes.notes c.self.invariant.allowed refl (subst (λ (h : List Entry). AreNotes (IsKeptNote name i.nodes.items) h c.in_ok-notes.notes) c.as_slice.ensures.value c.in_ok-notes.ensures),
     )
