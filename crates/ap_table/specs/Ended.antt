@@ -1,11 +1,11 @@
 -- What the end of a table answers: the walk of its root, and the notes of what was dropped.
-use Rattle.std.specs.Prelude.{◌≡◌, ℕ, zero, suc, ◌+◌, cond, List, [], ◌∷◌, ◌++◌, Option, Some, None}
+use Rattle.std.specs.Prelude.{◌≡◌, ℕ, zero, suc, ◌+◌, ◌-◌, ◌≤◌, ◌<◌, true, cond, List, [], ◌∷◌, ◌++◌, length, Option, Some, None}
 use Rattle.std.specs.List.{slice_get}
 use Rattle.ap_names.specs.Names.{Name}
 use Rattle.ap_walk.specs.declared.act.Stepped.{Stepped}
 use Rattle.ap_walk.specs.declared.rule.Rule.{Rule}
 use Rattle.ap_walk.specs.declared.mark.Walked.{Walked}
-use Rattle.ap_walk.specs.Visits.{Visit, out_children, visit_of}
+use Rattle.ap_walk.specs.Visits.{Visit}
 use Rattle.ap_walk.specs.Walks.{full}
 use Rattle.ap_table.specs.declared.link.License.{License}
 use Rattle.ap_table.specs.declared.link.DropNote.{DropNote}
@@ -14,9 +14,10 @@ use Rattle.ap_table.specs.declared.stored.Entry.TheVariants as entry
 use Rattle.ap_table.specs.declared.stored.Stored.{Stored}
 use Rattle.ap_table.specs.declared.stored.Stage.{Stage}
 use Rattle.ap_table.specs.declared.stored.Stage.TheVariants as stage
-use Rattle.ap_table.specs.Core.{Node, phase_walk, children}
+use Rattle.ap_table.specs.Core.{Node, phase_walk, above, children}
 use Rattle.ap_table.specs.Sound.{Licensed}
 use Rattle.ap_table.specs.Live.{done_at}
+use Rattle.ap_table.specs.Sums.{HasKids}
 use Rattle.ap_table.specs.Shown.{Run, nodes_of}
 
 -- just the notes of the drops of a history, in their order
@@ -86,13 +87,17 @@ module _ {T : Type 0} where
   done_front one nodes first zero = []
   done_front one nodes first (suc c) = cond (done_at nodes first) (one first ++ done_front one nodes (first + 1) c) []
 
-module _ {T : Type 0} (step : T → Stepped T) where
+  -- a node's own mark, or none
+  abbrev pub own_marks : Option (Visit T) → List (Visit T)
+  own_marks None = []
+  own_marks (Some v) = v ∷ []
+
   abbrev pub stage_marks : (ℕ → List (Visit T)) → List (Stored T) → Stored T → Stage T → List (Visit T)
   stage_marks one nodes c (stage.Free copy) = []
   stage_marks one nodes c stage.Claimed = []
   stage_marks one nodes c stage.Expanded = []
   stage_marks one nodes c (stage.Put w) = w.marks
-  stage_marks one nodes c (stage.Closed s) = visit_of c.task (step c.task) ∷ done_front one nodes c.first c.count
+  stage_marks one nodes c (stage.Closed s) = own_marks c.own ++ done_front one nodes c.first c.count
   stage_marks one nodes c (stage.Dropped l) = []
 
   abbrev pub stored_marks : (ℕ → List (Visit T)) → List (Stored T) → Option (Stored T) → List (Visit T)
@@ -103,3 +108,46 @@ module _ {T : Type 0} (step : T → Stepped T) where
   unfoldable pub marks_at : List (Stored T) → ℕ → ℕ → List (Visit T)
   marks_at nodes zero k = []
   marks_at nodes (suc levels) k = stored_marks (marks_at nodes levels) nodes (slice_get nodes k)
+
+  -- four levels are enough for every node that is done
+  abbrev pub MakesUp : List (Stored T) → Type 0
+  MakesUp nodes = (k : ℕ) → done_at nodes k ≡ true → marks_at nodes 4 k ≡ stored_marks (marks_at nodes 4) nodes (slice_get nodes k)
+
+  -- a node's children come after it, and stand below it alone
+  pub record Tree (nodes : List (Stored T)) (k : ℕ) (c : Stored T) : Type 0 where
+    pub fits : c.first + c.count ≤ length nodes
+    pub after : (j : ℕ) → c.first ≤ j → j < c.first + c.count → k < j
+    pub up : (j : ℕ) (m : Stored T) → c.first ≤ j → j < c.first + c.count → slice_get nodes j ≡ Some m → above m.path ≡ Some k
+
+  abbrev pub Trees : List (Stored T) → Type 0
+  Trees nodes = (k : ℕ) (c : Stored T) → slice_get nodes k ≡ Some c → HasKids c.stage → Tree nodes k c
+
+  abbrev pub and_slot : Option (Option (List (Visit T))) → List (Visit T) → List (Visit T)
+  and_slot None more = []
+  and_slot (Some None) more = []
+  and_slot (Some (Some marks)) more = marks ++ more
+
+  -- what the last of the slots below top and those before it hold, up to the first that is empty
+  unfoldable pub slots_front : List (Option (List (Visit T))) → ℕ → ℕ → List (Visit T)
+  slots_front slots top zero = []
+  slots_front slots top (suc c) = and_slot (slice_get slots (top - 1)) (slots_front slots (top - 1) c)
+
+  abbrev pub stage_piece : List (Option (List (Visit T))) → ℕ → Stored T → Stage T → Option (List (Visit T))
+  stage_piece slots total c (stage.Free copy) = None
+  stage_piece slots total c stage.Claimed = None
+  stage_piece slots total c stage.Expanded = None
+  stage_piece slots total c (stage.Put w) = Some w.marks
+  stage_piece slots total c (stage.Closed s) = Some (own_marks c.own ++ slots_front slots (total - c.first) c.count)
+  stage_piece slots total c (stage.Dropped l) = None
+
+  -- the piece of a node, by the slots of those behind it
+  abbrev pub piece_of : List (Option (List (Visit T))) → ℕ → Stored T → Option (List (Visit T))
+  piece_of slots total c = stage_piece slots total c c.stage
+
+  -- the marks of a node that is done
+  abbrev pub slot : List (Stored T) → ℕ → Option (List (Visit T))
+  slot nodes k = cond (done_at nodes k) (Some (marks_at nodes 4 k)) None
+
+  -- each node from one on that stands below none from it on has its marks in its slot; the last node's slot is the first
+  abbrev pub Slots : List (Stored T) → ℕ → List (Option (List (Visit T))) → Type 0
+  Slots nodes from slots = (j : ℕ) (c : Stored T) → from ≤ j → slice_get nodes j ≡ Some c → ((p : ℕ) → above c.path ≡ Some p → p < from) → slice_get slots (length nodes - (j + 1)) ≡ Some (slot nodes j)

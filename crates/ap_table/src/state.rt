@@ -13,7 +13,7 @@ use crate::settling::settle;
 use crate::stored::{Claim, Entry, Grown, Job, Stage, Stored, Taken};
 use crate::telling::through_tally;
 use ap_list::{NoMemory, Seq};
-use ap_walk::{Out, Rule, Step, Stepped, Tally, Walked, cut_from};
+use ap_walk::{Mark, Out, Rule, Step, Stepped, Tally, Walked, cut_from};
 use std::alloc::Global;
 use std::marker::Model;
 
@@ -143,7 +143,12 @@ impl<S: Step> TableState<S> {
             return Grown::NoMemory(job, stepped);
         };
         let family = job.node;
-        set_expanded(&mut self.nodes, i, first, count as u32);
+        let own = Mark {
+            task: job.task,
+            act: stepped.act,
+            children: count as u32,
+        };
+        set_expanded(&mut self.nodes, i, own, first, count as u32);
         give_way(&mut self.live, family, first, count as u32);
         self.history.push_reserved(Entry::Expanded(family));
         Grown::Family {
@@ -208,7 +213,7 @@ impl<S: Step> TableState<S> {
     }
 
     /// Ends a table whose root is done: the serial walk of the root's task, and the notes of what was dropped,
-    /// in the order in which it was. A node that its children closed takes its step again, for its own mark. The
+    /// in the order in which it was. The marks are those that the table keeps, and no step is taken again. The
     /// only error is want of memory.
     pub fn finish(
         self,
@@ -219,7 +224,7 @@ impl<S: Step> TableState<S> {
         ensures { IfOk result (λ end. Ends S.step_of S.depth S.name self end.0 end.1) }
     {
         let notes = notes(alloc, step, &self.nodes, self.history.as_slice())?;
-        let marks = pieces(alloc, step, &self.nodes)?;
+        let marks = pieces(alloc, self.nodes)?;
         let start = Tally {
             pushes: 0,
             goals: 0,

@@ -15,6 +15,15 @@ use Rattle.ap_table.proofs.Moving.{dropped_table}
 use Rattle.ap_table.proofs.Showing.{some_same, below_length, room_alter, job_shown, job_kept, license_kept, license_shown}
 use Rattle.ap_table.proofs.state.TableState.drop_step.Goals as goal
 
+pub returns-then-not-same_rule : goal.returns-then-not-same_rule
+returns-then-not-same_rule g c = (
+  refl,
+  refl,
+  λ j l.
+      let t = c.same_rule.ensures.1 (ap (λ (x : Run g.row.S-Task.Denot). x.rule) c.self.view_is ∙ sym j.0) in
+      let f = c.if-not-same_rule.true in absurd (cc),
+)
+
 pub returns-then-not-is_job : goal.returns-then-not-is_job
 returns-then-not-is_job g c =
     let i = c.self.inside in
