@@ -182,6 +182,11 @@ module _ {T : Type 0} (step : T → Stepped T) (depth : T → ℕ) where
       let c = kept_at step cs ns k j.0 a j.1 in
       (c.0, c.1, subst (λ p. length p < 3) (sym c.2.path) j.2, (let l = show_length step cs ns a in let m = j.3 in omega arith))
 
+  pub room_shown : (cs : List (Stored T)) (ns : List (Node T)) (k count count' : ℕ) → count ≡ count' → AllShow step cs ns → ((c : Stored T) × (slice_get cs k ≡ Some c) × (length c.path < 3) × (length cs + count' ≤ 1000000)) → (n : Node T) × (slice_get ns k ≡ Some n) × (length n.path < 3) × (length ns + count ≤ 1000000)
+  room_shown cs ns k count count' e a j =
+      let n = shown_at step cs ns k j.0 a j.1 in
+      (n.0, n.1, subst (λ p. length p < 3) n.2.path j.2, (let l = show_length step cs ns a in let m = j.3 in omega arith))
+
 module _ {T : Type 0} where
   pub fresh_none : (k : ℕ) (path : List Link) (p : ℕ) → fresh {T = T} k path p [] ≡ []
   unfolding fresh

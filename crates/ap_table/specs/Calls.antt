@@ -65,7 +65,7 @@ module _ {T : Type 0} (step : T → Stepped T) (depth : T → ℕ) where
 
   abbrev pub Grows : Run T → Run T → Job T → Stepped T → Grown T → Type 0
   Grows old new job stepped (grown.Family family first count) =
-      (new ≡ longer old (entry.Expanded job.node)) × IsJob old job × (family ≡ job.node) × (first ≡ length (nodes_of step depth old)) × (count ≡ length (out_children stepped.out))
+      (new ≡ longer old (entry.Expanded job.node)) × IsJob old job × CanGrow old job.node (length (out_children stepped.out)) × (family ≡ job.node) × (first ≡ length (nodes_of step depth old)) × (count ≡ length (out_children stepped.out))
   Grows old new job stepped (grown.Stranger back again) =
       (new ≡ old) × (back ≡ job) × (again ≡ stepped) × (IsJob old job → CanGrow old job.node (length (out_children stepped.out)) → ⊥)
   Grows old new job stepped (grown.NoMemory back again) = (new ≡ old) × (back ≡ job) × (again ≡ stepped)

@@ -85,6 +85,15 @@ fn drop_kept(rt: &impl Abort, table: &mut TableState<Trees>, job: Job<Tree>, ind
     assert!(rt; is_kept(&taken));
 }
 
+/// Compares the steps that were taken with what is expected.
+fn expect_entries(rt: &impl Abort, table: &TableState<Trees>, wanted: &[Entry]) {
+    let found = table.history();
+    assert_eq!(rt; found.len(), wanted.len());
+    for (entry, row) in found.iter().zip(wanted) {
+        assert_eq!(rt; *entry, *row);
+    }
+}
+
 /// Compares the tasks of marks, each with its children, with what is expected.
 fn expect_marks(rt: &impl Abort, marks: &[Mark<Tree>], wanted: &[(Tree, u32)]) {
     assert_eq!(rt; marks.len(), wanted.len());
@@ -102,19 +111,21 @@ fn expect_notes(rt: &impl Abort, notes: &[DropNote], wanted: &[(u32, u32, u32)])
     }
 }
 
-/// A table whose root is claimed and expanded into three nodes, with the jobs of these.
-fn three(
+/// A table whose root is expanded into three nodes, the first of which is claimed and put. It ends with these
+/// entries.
+fn begun(
     rt: &impl Abort,
     alloc: Global,
     root: Tree,
-) -> Result<(TableState<Trees>, Job<Tree>, Job<Tree>, Job<Tree>), NoMemory> {
+    wanted: &[Entry],
+) -> Result<TableState<Trees>, NoMemory> {
     let mut table = first(alloc, &Trees, root, RULE)?;
     let job = claim(rt, &mut table, 0);
     expand(rt, alloc, &mut table, job, (0, 1, 3))?;
-    let a = claim(rt, &mut table, 1);
-    let b = claim(rt, &mut table, 2);
-    let c = claim(rt, &mut table, 3);
-    Ok((table, a, b, c))
+    let job = claim(rt, &mut table, 1);
+    put_kept(rt, alloc, &mut table, job)?;
+    expect_entries(rt, &table, wanted);
+    Ok(table)
 }
 
 const THREE: &[(Tree, u32)] = &[
@@ -122,6 +133,21 @@ const THREE: &[(Tree, u32)] = &[
     (Tree::Left, 0),
     (Tree::Empty, 0),
     (Tree::Right, 0),
+];
+
+const ONE_PUT: &[Entry] = &[
+    Entry::Claimed(0),
+    Entry::Expanded(0),
+    Entry::Claimed(1),
+    Entry::Put(1),
+];
+
+const ONE_STOPS: &[Entry] = &[
+    Entry::Claimed(0),
+    Entry::Expanded(0),
+    Entry::Claimed(1),
+    Entry::Put(1),
+    Entry::Marked(0, 0),
 ];
 
 const DEEP: &[(Tree, u32)] = &[
@@ -135,9 +161,9 @@ const DEEP: &[(Tree, u32)] = &[
 #[test]
 fn three_walks_out_of_order_make_the_serial_one(rt: HostRuntime) -> Result<(), NoMemory> {
     let alloc = rt.alloc();
-    let (mut table, a, b, c) = three(&rt, alloc, Tree::Three)?;
-    put_kept(&rt, alloc, &mut table, a)?;
-    assert_eq!(rt; table.history().last().copied(), Some(Entry::Put(1)));
+    let mut table = begun(&rt, alloc, Tree::Three, ONE_PUT)?;
+    let b = claim(&rt, &mut table, 2);
+    let c = claim(&rt, &mut table, 3);
     put_kept(&rt, alloc, &mut table, c)?;
     assert_eq!(rt; table.history().last().copied(), Some(Entry::Marked(0, 2)));
     assert!(rt; !table.root_done(&Trees, &Tree::Three, RULE));
@@ -155,9 +181,9 @@ fn three_walks_out_of_order_make_the_serial_one(rt: HostRuntime) -> Result<(), N
 #[test]
 fn what_lies_behind_a_stop_is_dropped(rt: HostRuntime) -> Result<(), NoMemory> {
     let alloc = rt.alloc();
-    let (mut table, a, b, c) = three(&rt, alloc, Tree::Deep)?;
-    put_kept(&rt, alloc, &mut table, a)?;
-    assert_eq!(rt; table.history().last().copied(), Some(Entry::Marked(0, 0)));
+    let mut table = begun(&rt, alloc, Tree::Deep, ONE_STOPS)?;
+    let b = claim(&rt, &mut table, 2);
+    let c = claim(&rt, &mut table, 3);
     drop_kept(&rt, &mut table, c, 1);
     drop_kept(&rt, &mut table, b, 0);
     if !table.root_done(&Trees, &Tree::Deep, RULE) {
@@ -167,6 +193,23 @@ fn what_lies_behind_a_stop_is_dropped(rt: HostRuntime) -> Result<(), NoMemory> {
     expect_marks(&rt, walked.marks.as_slice(), DEEP);
     assert_eq!(rt; (walked.tally.pushes, walked.end), (2, End::Revert));
     expect_notes(&rt, notes.as_slice(), &[(2, 1, 1), (1, 5, 0)]);
+    Ok(())
+}
+
+#[test]
+fn nothing_is_dropped_before_a_stop_is_known(rt: HostRuntime) -> Result<(), NoMemory> {
+    let alloc = rt.alloc();
+    let mut table = begun(&rt, alloc, Tree::Three, ONE_PUT)?;
+    let job = claim(&rt, &mut table, 2);
+    let license = License {
+        family: 0,
+        index: 0,
+    };
+    let Taken::Stranger(job) = table.drop_step(&Trees, job, license) else {
+        panic!(rt; "it was dropped");
+    };
+    assert_eq!(rt; table.history().len(), 5);
+    put_kept(&rt, alloc, &mut table, job)?;
     Ok(())
 }
 

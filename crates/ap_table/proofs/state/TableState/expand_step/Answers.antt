@@ -9,7 +9,7 @@ use Rattle.ap_table.specs.Shown.{Run, nodes_of}
 use Rattle.ap_table.specs.Calls.{longer, IsJob, CanGrow}
 use Rattle.ap_table.specs.declared.stored.Entry.TheVariants as entry
 use Rattle.ap_table.specs.declared.stored.Stored.{Stored}
-use Rattle.ap_table.proofs.Showing.{get_at, some_same, below_length, length_fresh, show_length, job_shown, job_kept, room_kept}
+use Rattle.ap_table.proofs.Showing.{get_at, some_same, below_length, length_fresh, show_length, job_shown, job_kept, room_kept, room_shown}
 use Rattle.ap_table.proofs.Moving.{expanded_table, larger_table}
 use Rattle.ap_table.proofs.Splitting.{own_is}
 use Rattle.ap_table.proofs.state.TableState.expand_step.Goals as goal
@@ -125,6 +125,7 @@ returns g c =
     let r : Run g.row.S-Task.Denot = record { root = i.root; rule = i.rule; history = i.history.items } in
     let j = c.is_job.ensures.0 c.if-not-is_job.false in
     let e = entry.Expanded c.args.job.node in
+    let count : length (out_children c.args.stepped.out) ≡ c.len-count.result = ap (λ (o : Out g.row.S-Task.Denot). length (out_children o)) c.in-Split.is ∙ sym c.len-count.ensures in
     let first : c.len-first.result ≡ length i.nodes.items = (let a = c.len-first.ensures in let b = i.nodes.ok.0 in omega arith) in (
       ap (λ (h : _). let x : Run g.row.S-Task.Denot = record { root = i.root; rule = i.rule; history = h } in x) (c.push_reserved.ensures.items ∙ ap (λ l. l ++ e ∷ []) c.in-Ok-grow.ensures.history) ∙ ap (λ (x : Run g.row.S-Task.Denot). longer x e) c.self.view_is,
       (
@@ -132,6 +133,8 @@ returns g c =
         subst (λ (x : Run g.row.S-Task.Denot). (n : Node g.row.S-Task.Denot) × (slice_get (nodes_of g.S.Step.step_of g.S.Step.depth x) c.args.job.node ≡ Some n) × (n.phase ≡ claimed) × (c.args.job.task ≡ n.task)) c.self.view_is
             (job_shown g.S.Step.step_of g.S.Step.depth i.nodes.items (nodes_of g.S.Step.step_of g.S.Step.depth r) c.args.job.node c.args.job.task c.self.invariant.shows j),
       ),
+      subst (λ (x : Run g.row.S-Task.Denot). CanGrow g.S.Step.step_of g.S.Step.depth x c.args.job.node (length (out_children c.args.stepped.out))) c.self.view_is
+          (room_shown g.S.Step.step_of g.S.Step.depth i.nodes.items (nodes_of g.S.Step.step_of g.S.Step.depth r) c.args.job.node (length (out_children c.args.stepped.out)) c.len-count.result count c.self.invariant.shows (c.has_room.ensures.0 c.if-not-has_room.false)),
       refl,
       first ∙ (show_length g.S.Step.step_of i.nodes.items (nodes_of g.S.Step.step_of g.S.Step.depth r) c.self.invariant.shows ∙ ap (λ (x : Run g.row.S-Task.Denot). length (nodes_of g.S.Step.step_of g.S.Step.depth x)) c.self.view_is),
       c.len-count.ensures ∙ sym (ap (λ (o : Out g.row.S-Task.Denot). length (out_children o)) c.in-Split.is),
