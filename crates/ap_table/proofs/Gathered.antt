@@ -1,5 +1,5 @@
 -- The marks that are gathered from the kept nodes, and why they make the root's walk.
-use Rattle.std.proofs.Common.{◌≡◌, ◌≢◌, ℕ, zero, suc, ◌+◌, ◌-◌, ◌≤◌, ◌<◌, Bool, true, false, cond, nat_le, List, [], ◌∷◌, ◌++◌, Option, Some, None, length, take, get_or, refl, sym, ap, subst, ◌∙◌, arith, inl, inr, ◌⊎◌, append_assoc, append-nil}
+use Rattle.std.proofs.Common.{◌≡◌, ℕ, zero, suc, ◌+◌, ◌-◌, ◌≤◌, ◌<◌, Bool, true, false, cond, List, [], ◌∷◌, ◌++◌, Option, Some, None, length, refl, sym, ap, ◌∙◌, arith, inl, inr, ◌⊎◌}
 use Rattle.std.specs.List.{slice_get}
 use Rattle.ap_list.specs.Lists.{Each}
 use Rattle.ap_walk.specs.declared.act.Stepped.{Stepped}
@@ -12,13 +12,13 @@ use Rattle.ap_table.specs.declared.link.Link.{Link}
 use Rattle.ap_table.specs.declared.stored.Stored.{Stored}
 use Rattle.ap_table.specs.declared.stored.Stage.{Stage}
 use Rattle.ap_table.specs.declared.stored.Stage.TheVariants as stage
-use Rattle.ap_table.specs.Core.{Phase, Node, free, claimed, expanded, put, closed, dropped, phase_walk, node_walk, above, children, root}
+use Rattle.ap_table.specs.Core.{Phase, Node, free, claimed, expanded, put, closed, dropped, phase_walk, node_walk, above, children}
 use Rattle.ap_table.specs.Sound.{Family, PhaseSound, Sound}
 use Rattle.ap_table.specs.Pieces.{and_more, front, phase_pieces, pieces}
 use Rattle.ap_table.specs.Live.{done_at}
-use Rattle.ap_table.specs.Sums.{HasKids, Kids}
+use Rattle.ap_table.specs.Sums.{Kids}
 use Rattle.ap_table.specs.Shown.{Run, StageShows, OwnShows, AllShow, turns, nodes_of, IsTable}
-use Rattle.ap_table.specs.Ended.{HasEnded, own_marks, done_front, stage_marks, stored_marks, marks_at, MakesUp, Tree, Trees}
+use Rattle.ap_table.specs.Ended.{HasEnded, own_marks, done_front, stage_marks, stored_marks, marks_at, MakesUp, Trees}
 use Rattle.ap_table.proofs.Keeping.{some_is}
 use Rattle.ap_table.proofs.Growing.{below}
 use Rattle.ap_table.proofs.Showing.{shown_at, kept_at}

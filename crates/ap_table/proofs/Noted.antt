@@ -13,7 +13,7 @@ use Rattle.ap_table.specs.declared.link.DropNote.{DropNote}
 use Rattle.ap_table.specs.declared.stored.Entry.{Entry}
 use Rattle.ap_table.specs.declared.stored.Entry.TheVariants as entry
 use Rattle.ap_table.specs.declared.stored.Stored.{Stored}
-use Rattle.ap_table.specs.Core.{Node, Turn, drop, children, Stops, apply, replay_from}
+use Rattle.ap_table.specs.Core.{Node, children, Stops, apply, replay_from}
 use Rattle.ap_table.specs.Sound.{Names, Family, Up, Licensed, Sound, CanDrop, AreAllowed}
 use Rattle.ap_table.specs.Shown.{AllShow, turns, turn_of}
 use Rattle.ap_table.specs.Sums.{HasKids, Placed, Kids}

@@ -1,5 +1,5 @@
 -- The pieces of the nodes, each in its slot.
-use Rattle.std.proofs.Common.{◌≡◌, ◌≢◌, ℕ, zero, suc, ◌+◌, ◌-◌, ◌≤◌, ◌<◌, Bool, true, false, cond, List, [], ◌∷◌, ◌++◌, Option, Some, None, length, take, refl, sym, ap, subst, ◌∙◌, arith, inl, inr, ◌⊎◌, append_assoc, append-nil}
+use Rattle.std.proofs.Common.{◌≡◌, ℕ, zero, suc, ◌+◌, ◌-◌, ◌≤◌, ◌<◌, Bool, true, false, cond, List, [], ◌∷◌, ◌++◌, Option, Some, None, length, take, refl, sym, ap, subst, ◌∙◌, arith, inl, inr, ◌⊎◌, append_assoc, append-nil}
 use Rattle.std.proofs.lemmas.Bool.{cases_lt}
 use Rattle.std.specs.List.{slice_get}
 use Rattle.ap_walk.specs.Visits.{Visit}
@@ -9,7 +9,7 @@ use Rattle.ap_table.specs.declared.stored.Stage.TheVariants as stage
 use Rattle.ap_table.specs.Core.{above}
 use Rattle.ap_table.specs.Live.{stage_done, kept_done, done_at}
 use Rattle.ap_table.specs.Sums.{HasKids}
-use Rattle.ap_table.specs.Ended.{own_marks, done_front, stage_marks, stored_marks, marks_at, MakesUp, Tree, Trees, and_slot, slots_front, stage_piece, piece_of, slot, Slots}
+use Rattle.ap_table.specs.Ended.{own_marks, done_front, stage_marks, stored_marks, marks_at, MakesUp, Trees, and_slot, slots_front, stage_piece, piece_of, slot, Slots}
 use Rattle.ap_table.proofs.Keeping.{some_is, same_or_not}
 use Rattle.ap_table.proofs.Showing.{below_length}
 

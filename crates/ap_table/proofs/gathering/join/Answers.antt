@@ -1,5 +1,4 @@
-use Rattle.std.proofs.Common.{◌≡◌, ◌+◌, ◌-◌, ◌<◌, ◌≤◌, ◌⊎◌, ℕ, Some, length, refl, sym, ap, ◌∙◌, arith, inl, inr}
-use Rattle.std.specs.List.{slice_get}
+use Rattle.std.proofs.Common.{◌-◌, refl, sym, ◌∙◌, arith, inl}
 use Rattle.ap_table.proofs.Slots.{join_start, join_next, join_stop, join_all, join_others}
 use Rattle.ap_table.proofs.gathering.join.Goals as goal
 

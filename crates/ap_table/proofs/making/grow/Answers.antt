@@ -1,4 +1,4 @@
-use Rattle.std.proofs.Common.{arith, ◌≡◌, ◌≤◌, ◌++◌, List, Ok, Err, is_ok, if◌then◌else◌, OnOk, OnErr}
+use Rattle.std.proofs.Common.{arith, ◌≡◌, ◌++◌, List, Ok, Err, is_ok, if◌then◌else◌, OnOk, OnErr}
 use Rattle.std.specs.declared.result.Result.{Result}
 use Rattle.std.specs.declared.alloc.AllocError.{AllocError}
 use Rattle.ap_table.proofs.making.grow.Goals as goal

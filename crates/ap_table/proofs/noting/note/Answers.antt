@@ -1,4 +1,4 @@
-use Rattle.std.proofs.Common.{◌≡◌, ◌+◌, Some, sym, ap, ◌∙◌, arith}
+use Rattle.std.proofs.Common.{◌≡◌, ◌+◌, Some, sym, ap, ◌∙◌}
 use Rattle.std.specs.List.{slice_get}
 use Rattle.ap_table.specs.declared.stored.Stored.{Stored}
 use Rattle.ap_table.proofs.Keeping.{some_is}

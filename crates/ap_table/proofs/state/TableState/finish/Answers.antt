@@ -1,4 +1,4 @@
-use Rattle.std.proofs.Common.{List, reverse, refl, sym, ap, subst, ◌∙◌}
+use Rattle.std.proofs.Common.{List, reverse, refl, sym, subst, ◌∙◌}
 use Rattle.std.specs.Vec.{vec_capacity}
 use Rattle.ap_table.specs.Core.{root}
 use Rattle.ap_table.specs.Shown.{Run, turns, nodes_of}
