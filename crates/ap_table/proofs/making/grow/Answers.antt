@@ -25,4 +25,4 @@ pub returns-clause-kept : goal.returns-clause-kept
 returns-clause-kept g c = none_there c.append.result c.append.new.self.items (c.args.nodes.now.items ++ c.args.more.items) c.args.nodes.now.items c.append.ensures.items (omega (arith, c.in_ok-reserve-2.ensures.capacity))
 
 pub returns-clause-spare : goal.returns-clause-spare
-returns-clause-spare g c = when_ok c.append.result (omega (arith, c.in_ok-reserve.ensures.ok, c.len.ensures, c.in_ok-reserve.ensures.items))
+returns-clause-spare g c = when_ok c.append.result (omega (arith, c.in_ok-reserve.ensures.ok, c.len.ensures))
