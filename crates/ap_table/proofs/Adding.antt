@@ -19,12 +19,12 @@ use Rattle.ap_table.proofs.Keeping.{same_or_not}
 use Rattle.ap_table.proofs.Totals.{Sums, same_sum, zero_goes_on}
 use Rattle.ap_table.proofs.Families.{get_alter_same, get_alter_other, alter_at, sum_alter, sums_same}
 
-get_below : {A : Type 0} (xs ys : List A) (j : ℕ) → j < length xs → slice_get (xs ++ ys) j ≡ slice_get xs j
+pub get_below : {A : Type 0} (xs ys : List A) (j : ℕ) → j < length xs → slice_get (xs ++ ys) j ≡ slice_get xs j
 get_below [] ys j h = absurd (omega arith)
 get_below (x ∷ xs) ys zero h = refl
 get_below (x ∷ xs) ys (suc j) h = get_below xs ys j (omega arith)
 
-get_above : {A : Type 0} (xs ys : List A) (j x : ℕ) → j ≡ length xs + x → slice_get (xs ++ ys) j ≡ slice_get ys x
+pub get_above : {A : Type 0} (xs ys : List A) (j x : ℕ) → j ≡ length xs + x → slice_get (xs ++ ys) j ≡ slice_get ys x
 get_above [] ys j x e = ap (slice_get ys) (let z : j ≡ x = omega arith in z)
 get_above (y ∷ xs) ys zero x e = absurd (omega arith)
 get_above (y ∷ xs) ys (suc j) x e = get_above xs ys j x (omega arith)

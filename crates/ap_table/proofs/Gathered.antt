@@ -23,7 +23,7 @@ use Rattle.ap_table.proofs.Keeping.{some_is}
 use Rattle.ap_table.proofs.Growing.{below}
 use Rattle.ap_table.proofs.Showing.{shown_at, kept_at}
 use Rattle.ap_table.proofs.Moving.{done_shown, shown_done}
-use Rattle.ap_table.proofs.Families.{kids_count, kid_family}
+use Rattle.ap_table.proofs.Families.{kids_count, kid_family, child_at}
 use Rattle.ap_table.proofs.Joining.{finished}
 use Rattle.ap_table.proofs.After.{after_sound, after_root}
 
@@ -116,13 +116,6 @@ module _ {T : Type 0} (step : T → Stepped T) (depth : T → ℕ) (rule : Rule)
       pieces_kept levels (length ns) j m v (omega arith) (omega arith) here finished)) in
       marks_more 3 k ∙ (same 3 (omega arith) ∙ sym (same 4 (omega arith)))
 
-  kid_at : (k : ℕ) (path : List Link) (first place i : ℕ) (ts : List T) → Family ns k path first place ts → i < length ts → (m : Node T) × (slice_get ns (first + i) ≡ Some m) × (above m.path ≡ Some k)
-  kid_at k path first place i [] f lt = absurd (omega arith)
-  kid_at k path first place zero (t ∷ ts) f lt = (f.0.0, ap (λ (n : ℕ). slice_get ns n) (let z : first + 0 ≡ first = omega arith in z) ∙ f.0.1, ap above f.0.3)
-  kid_at k path first place (suc i) (t ∷ ts) f lt =
-      let r = kid_at k path (first + 1) (place + 1) i ts f.1 (omega arith) in
-      (r.0, ap (λ (n : ℕ). slice_get ns n) (let z : first + suc i ≡ first + 1 + i = omega arith in z) ∙ r.1, r.2)
-
   -- the children of a node come after it, and stand below it alone
   pub trees : Kids rule None cs → Trees cs
   trees kids k c at has =
@@ -132,8 +125,8 @@ module _ {T : Type 0} (step : T → Stepped T) (depth : T → ℕ) (rule : Rule)
       let fam = kid_family step depth rule None ns k n.0 n.0.task c.count w c.stage n.0.phase n.2.stage has (s k n.0 n.1).phase in
       let first : c.first ≡ n.0.first = n.2.first in
       let kid : (j : ℕ) → c.first ≤ j → j < c.first + c.count → (m : Node T) × (slice_get ns j ≡ Some m) × (above m.path ≡ Some k) = (λ j le lt.
-      let r = kid_at k n.0.path n.0.first 0 (j - n.0.first) (children step depth rule n.0.task) fam (omega arith) in
-      (r.0, ap (slice_get ns) (let z : j ≡ n.0.first + (j - n.0.first) = omega arith in z) ∙ r.1, r.2)) in
+      let r = child_at ns k n.0.path n.0.first 0 (j - n.0.first) (children step depth rule n.0.task) fam (omega arith) in
+      (r.0, ap (slice_get ns) (let z : j ≡ n.0.first + (j - n.0.first) = omega arith in z) ∙ r.1, r.3)) in
       record {
         fits = (kids.family k c at has).fits;
         after = λ j le lt. (let r = kid j le lt in (s j r.0 r.1).below k r.2);

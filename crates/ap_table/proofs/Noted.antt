@@ -21,19 +21,10 @@ use Rattle.ap_table.specs.Ended.{AreNotes, IsLicensedNote, IsKeptNote, CanNote, 
 use Rattle.ap_table.proofs.Keeping.{some_is}
 use Rattle.ap_table.proofs.Replay.{Keeps, replay_keeps}
 use Rattle.ap_table.proofs.Showing.{kept_at}
-use Rattle.ap_table.proofs.Families.{kids_count, kid_family}
+use Rattle.ap_table.proofs.Families.{kids_count, kid_family, child_at}
 
 pub same_note : (a b u v : Name) (l : License) → a ≡ b → u ≡ v → (let x : DropNote = record { dropped = a; stopped = u; license = l } in x) ≡ (let y : DropNote = record { dropped = b; stopped = v; license = l } in y)
 same_note a b u v l e f = cc
-
-module _ {T : Type 0} where
-  child_at : (ns : List (Node T)) (k : ℕ) (path : List Link) (first place i : ℕ) (ts : List T) → Family ns k path first place ts → i < length ts → (m : Node T) × (slice_get ns (first + i) ≡ Some m) × (slice_get ts i ≡ Some m.task)
-  child_at ns k path first place i [] f lt = absurd (omega arith)
-  child_at ns k path first place zero (t ∷ ts) f lt =
-      (f.0.0, ap (λ (n : ℕ). slice_get ns n) (let z : first + 0 ≡ first = omega arith in z) ∙ f.0.1, ap Some (sym f.0.2))
-  child_at ns k path first place (suc i) (t ∷ ts) f lt =
-      let r = child_at ns k path (first + 1) (place + 1) i ts f.1 (omega arith) in
-      (r.0, ap (λ (n : ℕ). slice_get ns n) (let z : first + suc i ≡ first + 1 + i = omega arith in z) ∙ r.1, r.2)
 
 module _ {T : Type 0} (step : T → Stepped T) (depth : T → ℕ) (rule : Rule) (name : T → Name) (cs : List (Stored T)) (ns : List (Node T)) (a : AllShow step cs ns) (s : Sound step depth rule ns) (kids : Kids rule None cs) where
   -- the family of a licence, and the sibling at its index

@@ -12,22 +12,8 @@ use Rattle.ap_table.specs.Sums.{HasKids}
 use Rattle.ap_table.specs.Ended.{own_marks, done_front, stage_marks, stored_marks, marks_at, MakesUp, Trees, and_slot, slots_front, stage_piece, piece_of, slot, Slots}
 use Rattle.ap_table.proofs.Keeping.{some_is, same_or_not}
 use Rattle.ap_table.proofs.Showing.{below_length}
-
-get_is : {A : Type 0} (xs : List A) (k : ℕ) → k < length xs → (x : A) × (slice_get xs k ≡ Some x)
-get_is [] k h = absurd (omega arith)
-get_is (x ∷ xs) zero h = (x, refl)
-get_is (x ∷ xs) (suc k) h = get_is xs k (omega arith)
-
-get_last : {A : Type 0} (xs : List A) (x : A) (k : ℕ) → k ≡ length xs → slice_get (xs ++ x ∷ []) k ≡ Some x
-get_last [] x zero e = refl
-get_last [] x (suc k) e = absurd (omega arith)
-get_last (y ∷ ys) x zero e = absurd (omega arith)
-get_last (y ∷ ys) x (suc k) e = get_last ys x k (omega arith)
-
-get_front : {A : Type 0} (xs ys : List A) (k : ℕ) → k < length xs → slice_get (xs ++ ys) k ≡ slice_get xs k
-get_front [] ys k h = absurd (omega arith)
-get_front (x ∷ xs) ys zero h = refl
-get_front (x ∷ xs) ys (suc k) h = get_front xs ys k (omega arith)
+use Rattle.ap_table.proofs.Adding.{get_below, get_above}
+use Rattle.ap_table.proofs.Marked.{get_there}
 
 one_more : {A : Type 0} (xs : List A) (x : A) → [] ≡ xs ++ x ∷ [] → ⊥
 one_more [] x e = cc
@@ -137,7 +123,7 @@ module _ {T : Type 0} where
           let t = trees i c at has in
           let fits = t.fits in
           let behind = t.after j le lt in
-          let d = get_is nodes j (omega arith) in
+          let d = get_there nodes j (omega arith) in
           held j d.0 (omega arith) d.1 (λ p e. let same : i ≡ p = some_is i p (sym (t.up j d.0 le lt d.1) ∙ e) in omega arith)
 
       -- a node's piece is what is kept of it
@@ -155,12 +141,12 @@ module _ {T : Type 0} where
           let b = below_length nodes j d there in
           elim (same_or_not j i) [
             | inl e ↦
-                get_last new own (length nodes - (j + 1)) (omega arith)
+                get_above new (own ∷ []) (length nodes - (j + 1)) 0 (omega arith)
                 ∙ ap Some (is ∙ (piece_slot ∙ ap (slot nodes) (sym e)))
             | inr n ↦
                 let k = length nodes - (j + 1) in
                 let more : i + 1 ≤ j = omega (arith, n) in
-                get_front new (own ∷ []) k (omega arith)
+                get_below new (own ∷ []) k (omega arith)
                 ∙ (others k (λ has.
                 let t = trees i c at has in
                 elim (cases_lt j c.first) [
