@@ -3,6 +3,7 @@ use Rattle.std.proofs.Common.{◌≡◌, ◌≢◌, ℕ, zero, suc, ◌+◌, ◌
 use Rattle.std.proofs.lemmas.Bool.{cases_lt}
 use Rattle.std.specs.List.{slice_get}
 use Rattle.ap_list.specs.Lists.{Each}
+use Rattle.ap_walk.specs.Visits.{Visit}
 use Rattle.ap_walk.specs.declared.act.Stepped.{Stepped}
 use Rattle.ap_walk.specs.declared.rule.Rule.{Rule}
 use Rattle.ap_walk.specs.declared.rule.Tally.{Tally}
@@ -18,12 +19,12 @@ use Rattle.ap_table.proofs.Keeping.{same_or_not}
 use Rattle.ap_table.proofs.Totals.{Sums, same_sum, zero_goes_on}
 use Rattle.ap_table.proofs.Families.{get_alter_same, get_alter_other, alter_at, sum_alter, sums_same}
 
-get_below : {A : Type 0} (xs ys : List A) (j : ℕ) → j < length xs → slice_get (xs ++ ys) j ≡ slice_get xs j
+pub get_below : {A : Type 0} (xs ys : List A) (j : ℕ) → j < length xs → slice_get (xs ++ ys) j ≡ slice_get xs j
 get_below [] ys j h = absurd (omega arith)
 get_below (x ∷ xs) ys zero h = refl
 get_below (x ∷ xs) ys (suc j) h = get_below xs ys j (omega arith)
 
-get_above : {A : Type 0} (xs ys : List A) (j x : ℕ) → j ≡ length xs + x → slice_get (xs ++ ys) j ≡ slice_get ys x
+pub get_above : {A : Type 0} (xs ys : List A) (j x : ℕ) → j ≡ length xs + x → slice_get (xs ++ ys) j ≡ slice_get ys x
 get_above [] ys j x e = ap (slice_get ys) (let z : j ≡ x = omega arith in z)
 get_above (y ∷ xs) ys zero x e = absurd (omega arith)
 get_above (y ∷ xs) ys (suc j) x e = get_above xs ys j x (omega arith)
@@ -48,7 +49,7 @@ module _ {T : Type 0} where
   unfolding fresh
   fresh_free k path p [] x d e = absurd (cc)
   fresh_free k path p (t ∷ ts) zero d e =
-      let c : Stored T = record { task = t; path = record { family = k; place = p } ∷ path; first = 0; count = 0; stage = stage.Free t; word = NONE; told = nothing_told } in
+      let c : Stored T = record { task = t; path = record { family = k; place = p } ∷ path; own = None; first = 0; count = 0; stage = stage.Free t; word = NONE; told = nothing_told } in
       let s : c ≡ d = cc in (
         subst (λ (y : Stored T). y.stage ≡ stage.Free y.task) s refl,
         sym (ap (λ (y : Stored T). y.path) s) ∙ ap (λ (n : ℕ). (let l : Link = record { family = k; place = n } in l) ∷ path) (let z : p ≡ p + 0 = omega arith in z),
@@ -96,9 +97,9 @@ module _ {T : Type 0} where
   free_kids : (s : Stage T) (t : T) → s ≡ stage.Free t → HasKids s → ⊥
   free_kids s t e h = subst HasKids e h
 
-  module _ (rule : Rule) (cs : List (Stored T)) (k first count : ℕ) (c : Stored T) (ts : List T) (at : slice_get cs k ≡ Some c) (is : c.stage ≡ stage.Claimed) (ef : first ≡ length cs) (ec : count ≡ length ts) where
+  module _ (rule : Rule) (cs : List (Stored T)) (k first count : ℕ) (own : Option (Visit T)) (c : Stored T) (ts : List T) (at : slice_get cs k ≡ Some c) (is : c.stage ≡ stage.Claimed) (ef : first ≡ length cs) (ec : count ≡ length ts) where
     abbrev f : Stored T → Stored T
-    f = λ x. record x { first = first; count = count; stage = stage.Expanded; word = NONE; told = nothing_told }
+    f = λ x. record x { own = own; first = first; count = count; stage = stage.Expanded; word = NONE; told = nothing_told }
 
     abbrev more : List (Stored T)
     more = alter cs k f ++ fresh k c.path 0 ts

@@ -292,6 +292,16 @@ lt_yes a b h = grind (arith, nat_tests)
 lt_no : (a b : ℕ) → nat_lt a b ≡ false → b ≤ a
 lt_no a b h = grind (arith, nat_tests)
 
+module _ {T : Type 0} where
+  -- a child of a family, by its place there
+  pub child_at : (ns : List (Node T)) (k : ℕ) (path : List Link) (first place i : ℕ) (ts : List T) → Family ns k path first place ts → i < length ts → (m : Node T) × (slice_get ns (first + i) ≡ Some m) × (slice_get ts i ≡ Some m.task) × (above m.path ≡ Some k)
+  child_at ns k path first place i [] f lt = absurd (omega arith)
+  child_at ns k path first place zero (t ∷ ts) f lt =
+      (f.0.0, ap (λ (n : ℕ). slice_get ns n) (let z : first + 0 ≡ first = omega arith in z) ∙ f.0.1, ap Some (sym f.0.2), ap above f.0.3)
+  child_at ns k path first place (suc i) (t ∷ ts) f lt =
+      let r = child_at ns k path (first + 1) (place + 1) i ts f.1 (omega arith) in
+      (r.0, ap (λ (n : ℕ). slice_get ns n) (let z : first + suc i ≡ first + 1 + i = omega arith in z) ∙ r.1, r.2, r.3)
+
 module _ {T : Type 0} (step : T → Stepped T) (depth : T → ℕ) (rule : Rule) where
   -- a node, what is kept of it, and that its children are in the table
   pub record Kept (ns : List (Node T)) (cs : List (Stored T)) (p : ℕ) : Type 0 where

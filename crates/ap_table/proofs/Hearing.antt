@@ -6,7 +6,7 @@ use Rattle.ap_walk.specs.declared.act.Stepped.{Stepped}
 use Rattle.ap_walk.specs.declared.rule.Rule.{Rule}
 use Rattle.ap_walk.specs.declared.rule.Tally.{Tally}
 use Rattle.ap_walk.specs.declared.mark.Walked.{Walked}
-use Rattle.ap_walk.specs.Visits.{Tells, out_children}
+use Rattle.ap_walk.specs.Visits.{Tells, out_children, visit_of}
 use Rattle.ap_word.specs.Stops.{NONE}
 use Rattle.ap_table.specs.declared.link.Link.{Link}
 use Rattle.ap_table.specs.declared.stored.Told.{Told}
@@ -15,7 +15,7 @@ use Rattle.ap_table.specs.declared.stored.Stage.{Stage}
 use Rattle.ap_table.specs.declared.stored.Stage.TheVariants as stage
 use Rattle.ap_table.specs.Core.{Node, expanded, closed, above, set_phase, parent_of, joined_walk, close_up}
 use Rattle.ap_table.specs.Sound.{PhaseSound, SoundBut}
-use Rattle.ap_table.specs.Shown.{alter, rooms, stage_room, Shows, AllShow, NoMore}
+use Rattle.ap_table.specs.Shown.{OwnShows, alter, rooms, stage_room, Shows, AllShow, NoMore}
 use Rattle.ap_table.specs.Sums.{sum_at, sums_of, InGoals, closed_sum, IsTold, OnPath, Within, HasKids, Kids, WordsBut, stage_sum, kept_sum, stage_expanded, closes_at}
 use Rattle.ap_table.specs.Settled.{Ready, Settled, Next, HearsOne}
 use Rattle.ap_table.proofs.Keeping.{same_or_not, some_is}
@@ -124,7 +124,7 @@ module _ {T : Type 0} (step : T → Stepped T) (depth : T → ℕ) (rule : Rule)
         (λ k x n ex has. other_families step depth rule ns cs i s c r at k x (not_above l ls c k e n) ex has)
 
     heard_shows : AllShow step heard ns
-    heard_shows = show_keep step cs ns l.family (λ x. record x { told = d }) (λ x n h. record { task = h.task; path = h.path; first = h.first; word = h.word; stage = h.stage }) r.shows
+    heard_shows = show_keep step cs ns l.family (λ x. record x { told = d }) (λ x n h. record { task = h.task; path = h.path; first = h.first; word = h.word; stage = h.stage; own = h.own }) r.shows
 
     heard_words : WordsBut path heard
     heard_words = words_told path cs l.family up.above.kept d up.above.at up.above.has (on_path l ls path c e within) falls (stop_small (sums_of (Some (up.above.kept.first + l.place)) cs up.above.kept.first up.above.kept.count) up.above.kept.told up.told (let a = length_sums (Some (up.above.kept.first + l.place)) cs up.above.kept.first up.above.kept.count in let b = up.fits in omega arith)) words
@@ -187,7 +187,7 @@ module _ {T : Type 0} (step : T → Stepped T) (depth : T → ℕ) (rule : Rule)
             fuel = g;
             ready = record {
               shows = show_alter step heard ns p was n f' (λ x. record x { phase = closed w }) heard_shows here up.above.node_at
-                  (record { task = up.above.shows.task; path = up.above.shows.path; first = up.above.shows.first; word = up.above.shows.word; stage = (walk, up.above.count) });
+                  (record { task = up.above.shows.task; path = up.above.shows.path; first = up.above.shows.first; word = up.above.shows.word; stage = (walk, up.above.count); own = subst (OwnShows kept.own (visit_of n.task (step n.task))) c'.0 up.above.shows.own });
               sound = sound;
               kids = kids_alter rule (Some p) None heard p was f' here (record { first = refl; count = refl; path = refl; told = refl; has = λ z. ex.1; back = λ z. tt }) (sum_hidden heard p was f' here se) heard_kids;
               in_goals = λ j. goals_at j le was here;

@@ -21,3 +21,7 @@ pub mod Hearing
 pub mod Adding
 pub mod Marked
 pub mod Splitting
+pub mod Slots
+pub mod Gathered
+pub mod Noted
+pub mod Licences

@@ -74,7 +74,7 @@ module _ {T : Type 0} (step : T → Stepped T) (depth : T → ℕ) (rule : Rule)
       (λ v e. let n = walk_there ns k v (slice_get ns k) refl e in (n.0.task, done_but q ns k n.0 n.0.phase v (s k n.0 n.1).phase n.2))
 
 -- a number and no number
-none_or : (n : ℕ) → ((n ≡ NONE) × (nat_eq n NONE ≡ true)) ⊎ ((n ≢ NONE) × (nat_eq n NONE ≡ false))
+pub none_or : (n : ℕ) → ((n ≡ NONE) × (nat_eq n NONE ≡ true)) ⊎ ((n ≢ NONE) × (nat_eq n NONE ≡ false))
 none_or n = elim (same_or_not n NONE) [ inl e ↦ inl (e, grind (arith, nat_tests)) | inr d ↦ inr (d, grind (arith, nat_tests)) ]
 
 module _ {T : Type 0} (step : T → Stepped T) (depth : T → ℕ) where
@@ -100,7 +100,7 @@ module _ {T : Type 0} (step : T → Stepped T) (depth : T → ℕ) where
   abbrev pub AllThere : List (Stored T) → List Link → Type 0
   AllThere cs path = Each (λ l. (m : Stored T) × (slice_get cs l.family ≡ Some m) × HasKids m.stage) path
 
-  path_there : (rule : Rule) (q : Option ℕ) (cs : List (Stored T)) (ns : List (Node T)) (path : List Link) (k : ℕ) (c : Stored T) → AllShow step cs ns → SoundBut step depth rule q ns → Kids rule None cs → slice_get cs k ≡ Some c → c.path ≡ path → AllThere cs path
+  pub path_there : (rule : Rule) (q : Option ℕ) (cs : List (Stored T)) (ns : List (Node T)) (path : List Link) (k : ℕ) (c : Stored T) → AllShow step cs ns → SoundBut step depth rule q ns → Kids rule None cs → slice_get cs k ≡ Some c → c.path ≡ path → AllThere cs path
   path_there rule q cs ns [] k c a s kids at e = tt
   path_there rule q cs ns (l ∷ ls) k c a s kids at e =
       let n = shown_at step cs ns k c a at in
@@ -197,7 +197,7 @@ module _ {T : Type 0} (step : T → Stepped T) (depth : T → ℕ) (tells : (t :
           let res = t.reserved in
           longer_table step depth (l ∷ ls) ls (suc left) left r cs marked live capacity capacity (entry.Marked l.family stop) t
           (show_alter step cs ns l.family m n.0 F (λ x. record x { word = min x.word stop }) t.shows at n.1
-          (record { task = n.2.task; path = n.2.path; first = n.2.first; word = omega arith; stage = n.2.stage }))
+          (record { task = n.2.task; path = n.2.path; first = n.2.first; word = omega arith; stage = n.2.stage; own = n.2.own }))
           (subst (λ o. CanMark step depth r.rule o stop) (sym n.1) (has_family step depth n.0.task m.count w m.stage n.0.phase n.2.stage has, stops))
           (omega arith) (omega arith) (omega arith)
           (kids_alter r.rule None None cs l.family m F at (record { first = refl; count = refl; path = refl; told = refl; has = λ h. h; back = λ h. h }) (sum_alter cs l.family m F at refl) t.kids)
@@ -246,7 +246,7 @@ module _ {T : Type 0} (step : T → Stepped T) (depth : T → ℕ) (tells : (t :
         let f : Stored T → Stored T = λ x. record x { stage = stage.Put walked } in
         let s = shown_same step depth cs ns k c node.0 t.shows at node.1 in
         let shows : AllShow step with_put nodes_put = show_alter step cs ns k c node.0 f (λ x. record x { phase = put w }) t.shows at node.1
-        (record { task = s.task; path = s.path; first = s.first; word = s.word; stage = whole ∙ ap (full step depth r.rule) node.3 }) in
+        (record { task = s.task; path = s.path; first = s.first; word = s.word; stage = whole ∙ ap (full step depth r.rule) node.3; own = tt }) in
         let but : SoundBut step depth r.rule (parent_of (slice_get nodes_put k)) nodes_put =
         subst (λ q. SoundBut step depth r.rule q nodes_put) (sym put_above) (sound_done step depth r.rule None ns k node.0 (put w) (inl refl) sound node.1 (ap phase_walk node.2) (λ moves. refl)) in
         let ll = length_alter cs k f in

@@ -5,7 +5,7 @@ use Rattle.ap_list.specs.Lists.{Each}
 use Rattle.ap_walk.specs.declared.act.Stepped.{Stepped}
 use Rattle.ap_walk.specs.declared.rule.Rule.{Rule}
 use Rattle.ap_walk.specs.declared.mark.Walked.{Walked}
-use Rattle.ap_walk.specs.Visits.{out_children}
+use Rattle.ap_walk.specs.Visits.{Visit, out_children, visit_of}
 use Rattle.ap_word.specs.Stops.{NONE}
 use Rattle.ap_table.specs.declared.link.License.{License}
 use Rattle.ap_table.specs.declared.stored.Entry.{Entry}
@@ -241,7 +241,7 @@ module _ {T : Type 0} (step : T → Stepped T) (depth : T → ℕ) where
       let c = free_there cs k e in
       let n = free_node cs (nodes_of step depth r) k t.shows e in
       moved_table r cs live capacity k c.0 (entry.Claimed k) stage.Claimed (λ m. record m { phase = claimed }) t c.1
-      (λ m at s. record { task = s.task; path = s.path; first = s.first; word = s.word; stage = tt }) refl
+      (λ m at s. record { task = s.task; path = s.path; first = s.first; word = s.word; stage = tt; own = tt }) refl
       (subst IsFree (sym n.1) n.2) (claim_room c.0.stage c.2) (quiet_free c.0.stage c.2) quiet_claimed
 
   -- a drop keeps the table
@@ -253,23 +253,23 @@ module _ {T : Type 0} (step : T → Stepped T) (depth : T → ℕ) where
       let can : CanDrop step depth r.rule (nodes_of step depth r) (Some n.0) l = (n.2, licensed n.0 n.1) in
       let four : stage_room c.stage ≡ 4 = ap stage_room is in
       moved_table r cs live capacity k c (entry.Dropped k l) (stage.Dropped l) (λ m. record m { phase = dropped l }) t at
-      (λ m em s. record { task = s.task; path = s.path; first = s.first; word = s.word; stage = refl }) refl
+      (λ m em s. record { task = s.task; path = s.path; first = s.first; word = s.word; stage = refl; own = tt }) refl
       (subst (λ o. CanDrop step depth r.rule (nodes_of step depth r) o l) (sym n.1) can) (omega arith) (subst IsQuiet (sym is) quiet_claimed) (quiet_dropped l)
 
   -- an expansion keeps the table
-  pub expanded_table : (r : Run T) (cs : List (Stored T)) (live : List ℕ) (capacity k first count : ℕ) (c : Stored T) (ts : List T) → IsTable step depth r cs live capacity → slice_get cs k ≡ Some c → c.stage ≡ stage.Claimed → ts ≡ out_children (step c.task).out → 2 ≤ length ts → length c.path < 3 → length cs + length ts ≤ 1000000 → first ≡ length cs → count ≡ length ts
+  pub expanded_table : (r : Run T) (cs : List (Stored T)) (live : List ℕ) (capacity k first count : ℕ) (own : Option (Visit T)) (c : Stored T) (ts : List T) → IsTable step depth r cs live capacity → slice_get cs k ≡ Some c → c.stage ≡ stage.Claimed → ts ≡ out_children (step c.task).out → own ≡ Some (visit_of c.task (step c.task)) → 2 ≤ length ts → length c.path < 3 → length cs + length ts ≤ 1000000 → first ≡ length cs → count ≡ length ts
       → (capacity' : ℕ) → 5 * (length cs + length ts) ≤ capacity'
-      → IsTable step depth (longer r (entry.Expanded k)) (alter (cs ++ fresh k c.path 0 ts) k (λ x. record x { first = first; count = count; stage = stage.Expanded; word = NONE; told = nothing_told })) (replace live k (numbers first count)) capacity'
-  expanded_table r cs live capacity k first count c ts t at is tsis two deep few fe ce capacity' big =
+      → IsTable step depth (longer r (entry.Expanded k)) (alter (cs ++ fresh k c.path 0 ts) k (λ x. record x { own = own; first = first; count = count; stage = stage.Expanded; word = NONE; told = nothing_told })) (replace live k (numbers first count)) capacity'
+  expanded_table r cs live capacity k first count own c ts t at is tsis mine two deep few fe ce capacity' big =
       let ns = nodes_of step depth r in
       let n = claimed_node step depth cs ns k c t.shows at is in
-      let f : Stored T → Stored T = λ x. record x { first = first; count = count; stage = stage.Expanded; word = NONE; told = nothing_told } in
+      let f : Stored T → Stored T = λ x. record x { own = own; first = first; count = count; stage = stage.Expanded; word = NONE; told = nothing_told } in
       let g : Node T → Node T = λ m. record m { first = length ns; phase = expanded; word = NONE } in
       let same : ts ≡ out_children (step n.0.task).out = tsis ∙ ap (λ y. out_children (step y).out) n.3 in
       let shows : AllShow step (alter cs k f ++ fresh k c.path 0 ts) (expand_node step depth r.rule ns k (Some n.0)) =
       show_append step (alter cs k f) (fresh k c.path 0 ts) (change ns k g) (new_nodes k n.0.path 0 (out_children (step n.0.task).out))
       (show_alter step cs ns k c n.0 f g t.shows at n.1
-      (record { task = n.3; path = n.4; first = fe ∙ show_length step cs ns t.shows; word = refl; stage = ce ∙ ap length same }))
+      (record { task = n.3; path = n.4; first = fe ∙ show_length step cs ns t.shows; word = refl; stage = ce ∙ ap length same; own = mine ∙ ap (λ y. Some (visit_of y (step y))) n.3 }))
       (subst (λ p. AllShow step (fresh k c.path 0 ts) (new_nodes k p 0 (out_children (step n.0.task).out))) n.4
       (subst (λ (l : List T). AllShow step (fresh k c.path 0 ts) (new_nodes k c.path 0 l)) same (show_fresh step k c.path 0 ts))) in
       let left = alter_left cs (fresh k c.path 0 ts) k f (below_length cs k c at) in
@@ -290,7 +290,7 @@ module _ {T : Type 0} (step : T → Stepped T) (depth : T → ℕ) where
       (longer_table [] [] 0 0 r cs (alter cs k f ++ fresh k c.path 0 ts) live capacity capacity' (entry.Expanded k) t
       (subst (AllShow step (alter cs k f ++ fresh k c.path 0 ts)) (sym (ap (expand_node step depth r.rule ns k) n.1)) shows)
       (subst (CanExpand step depth r.rule) (sym n.1) can) (omega arith) (omega arith) (omega arith)
-      (expand_kids r.rule cs k first count c ts at is fe ce r.rule.limited.0 t.kids) (expand_words r.rule cs k first count c ts at is fe ce t.words) (expand_puts r.rule cs k first count c ts at is fe ce step t.puts)))
+      (expand_kids r.rule cs k first count own c ts at is fe ce r.rule.limited.0 t.kids) (expand_words r.rule cs k first count own c ts at is fe ce t.words) (expand_puts r.rule cs k first count own c ts at is fe ce step t.puts)))
 
   root_is : (t : T) (k : ℕ) (c : Stored T) → slice_get (kept_root t ∷ []) k ≡ Some c → kept_root t ≡ c
   root_is t zero c e = some_is (kept_root t) c e
@@ -306,7 +306,7 @@ module _ {T : Type 0} (step : T → Stepped T) (depth : T → ℕ) where
   pub first_table : (t : T) (rule : Rule) (capacity : ℕ) → 5 ≤ capacity → IsTable step depth (record { root = t; rule = rule; history = [] }) (kept_root t ∷ []) (0 ∷ []) capacity
   unfolding replay_from
   first_table t rule capacity big = record {
-    shows = (record { task = refl; path = refl; first = refl; word = refl; stage = refl }, tt);
+    shows = (record { task = refl; path = refl; first = refl; word = refl; stage = refl; own = tt }, tt);
     order = order_root t;
     allowed = tt;
     room = omega arith;

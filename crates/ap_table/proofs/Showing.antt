@@ -1,5 +1,5 @@
 -- What the kept nodes show, and single steps on them.
-use Rattle.std.proofs.Common.{◌≡◌, ℕ, zero, suc, ◌+◌, ◌*◌, ◌≤◌, ◌<◌, nat_lt, IsTrue, List, [], ◌∷◌, ◌++◌, Some, length, take, get_or, set, refl, sym, ap, subst, ◌∙◌, arith, inl, inr}
+use Rattle.std.proofs.Common.{◌≡◌, ℕ, zero, suc, ◌+◌, ◌*◌, ◌≤◌, ◌<◌, nat_lt, IsTrue, List, [], ◌∷◌, ◌++◌, Some, None, length, take, get_or, set, refl, sym, ap, subst, ◌∙◌, arith, inl, inr}
 use Rattle.std.proofs.lemmas.Bool.Decides.{nat_tests}
 use Rattle.std.specs.List.{slice_get}
 use Rattle.ap_walk.specs.declared.act.Stepped.{Stepped}
@@ -44,7 +44,7 @@ module _ {T : Type 0} where
   set_is (y ∷ ys) (suc k) x f e = ap (λ zs. y ∷ zs) (set_is ys k x f e)
 
   abbrev fresh_one : ℕ → List Link → ℕ → T → Stored T
-  fresh_one k path p t = record { task = t; path = record { family = k; place = p } ∷ path; first = 0; count = 0; stage = stage.Free t; word = NONE; told = nothing_told }
+  fresh_one k path p t = record { task = t; path = record { family = k; place = p } ∷ path; own = None; first = 0; count = 0; stage = stage.Free t; word = NONE; told = nothing_told }
 
   fresh_next : (k : ℕ) (path : List Link) (p i j : ℕ) (ts : List T) (t : T) → j ≡ i + 1 → i < length ts → t ≡ get_or ts i t
       → fresh k path p (take j ts) ≡ fresh k path p (take i ts) ++ fresh_one k path (p + i) t ∷ []
@@ -134,7 +134,7 @@ module _ {T : Type 0} (step : T → Stepped T) where
   pub show_fresh : (k : ℕ) (path : List Link) (p : ℕ) (ts : List T) → AllShow step (fresh k path p ts) (new_nodes k path p ts)
   unfolding fresh
   show_fresh k path p [] = tt
-  show_fresh k path p (t ∷ ts) = (record { task = refl; path = refl; first = refl; word = refl; stage = refl }, show_fresh k path (p + 1) ts)
+  show_fresh k path p (t ∷ ts) = (record { task = refl; path = refl; first = refl; word = refl; stage = refl; own = tt }, show_fresh k path (p + 1) ts)
 
 module _ {T : Type 0} where
   claimed_phase : (t : T) (c w : ℕ) (p : Phase T) → StageShows t c w stage.Claimed p → p ≡ claimed
@@ -182,21 +182,26 @@ module _ {T : Type 0} (step : T → Stepped T) (depth : T → ℕ) where
       let c = kept_at step cs ns k j.0 a j.1 in
       (c.0, c.1, subst (λ p. length p < 3) (sym c.2.path) j.2, (let l = show_length step cs ns a in let m = j.3 in omega arith))
 
+  pub room_shown : (cs : List (Stored T)) (ns : List (Node T)) (k count count' : ℕ) → count ≡ count' → AllShow step cs ns → ((c : Stored T) × (slice_get cs k ≡ Some c) × (length c.path < 3) × (length cs + count' ≤ 1000000)) → (n : Node T) × (slice_get ns k ≡ Some n) × (length n.path < 3) × (length ns + count ≤ 1000000)
+  room_shown cs ns k count count' e a j =
+      let n = shown_at step cs ns k j.0 a j.1 in
+      (n.0, n.1, subst (λ p. length p < 3) n.2.path j.2, (let l = show_length step cs ns a in let m = j.3 in omega arith))
+
 module _ {T : Type 0} where
   pub fresh_none : (k : ℕ) (path : List Link) (p : ℕ) → fresh {T = T} k path p [] ≡ []
   unfolding fresh
   fresh_none k path p = refl
 
   pub fresh_push : (k : ℕ) (path : List Link) (i : ℕ) (ts : List T) (t t' u v : T) (q : List Link) (items new : List (Stored T)) → i < length ts → t ≡ get_or ts i t → t' ≡ get_or ts i t' → u ≡ t → v ≡ t' → q ≡ record { family = k; place = i } ∷ path
-      → items ≡ fresh k path 0 (take i ts) → new ≡ items ++ (let c : Stored T = record { task = u; path = q; first = 0; count = 0; stage = stage.Free v; word = NONE; told = nothing_told } in c) ∷ [] → new ≡ fresh k path 0 (take (i + 1) ts)
+      → items ≡ fresh k path 0 (take i ts) → new ≡ items ++ (let c : Stored T = record { task = u; path = q; own = None; first = 0; count = 0; stage = stage.Free v; word = NONE; told = nothing_told } in c) ∷ [] → new ≡ fresh k path 0 (take (i + 1) ts)
   fresh_push k path i ts t t' u v q items new h et et' eu ev eq ei en =
       let same : v ≡ u = ev ∙ (some_same t' t (sym (get_at ts i t' h et') ∙ get_at ts i t h et) ∙ sym eu) in
       en
-      ∙ (ap (λ l. l ++ (let c : Stored T = record { task = u; path = q; first = 0; count = 0; stage = stage.Free v; word = NONE; told = nothing_told } in c) ∷ []) ei
-      ∙ (ap (λ x. fresh k path 0 (take i ts) ++ (let c : Stored T = record { task = u; path = q; first = 0; count = 0; stage = stage.Free x; word = NONE; told = nothing_told } in c) ∷ []) same
-      ∙ (ap (λ x. fresh k path 0 (take i ts) ++ (let c : Stored T = record { task = x; path = q; first = 0; count = 0; stage = stage.Free x; word = NONE; told = nothing_told } in c) ∷ []) eu
-      ∙ (ap (λ x. fresh k path 0 (take i ts) ++ (let c : Stored T = record { task = t; path = x; first = 0; count = 0; stage = stage.Free t; word = NONE; told = nothing_told } in c) ∷ []) eq
-      ∙ (ap (λ (n : ℕ). fresh k path 0 (take i ts) ++ (let c : Stored T = record { task = t; path = record { family = k; place = n } ∷ path; first = 0; count = 0; stage = stage.Free t; word = NONE; told = nothing_told } in c) ∷ []) (let z : i ≡ 0 + i = omega arith in z)
+      ∙ (ap (λ l. l ++ (let c : Stored T = record { task = u; path = q; own = None; first = 0; count = 0; stage = stage.Free v; word = NONE; told = nothing_told } in c) ∷ []) ei
+      ∙ (ap (λ x. fresh k path 0 (take i ts) ++ (let c : Stored T = record { task = u; path = q; own = None; first = 0; count = 0; stage = stage.Free x; word = NONE; told = nothing_told } in c) ∷ []) same
+      ∙ (ap (λ x. fresh k path 0 (take i ts) ++ (let c : Stored T = record { task = x; path = q; own = None; first = 0; count = 0; stage = stage.Free x; word = NONE; told = nothing_told } in c) ∷ []) eu
+      ∙ (ap (λ x. fresh k path 0 (take i ts) ++ (let c : Stored T = record { task = t; path = x; own = None; first = 0; count = 0; stage = stage.Free t; word = NONE; told = nothing_told } in c) ∷ []) eq
+      ∙ (ap (λ (n : ℕ). fresh k path 0 (take i ts) ++ (let c : Stored T = record { task = t; path = record { family = k; place = n } ∷ path; own = None; first = 0; count = 0; stage = stage.Free t; word = NONE; told = nothing_told } in c) ∷ []) (let z : i ≡ 0 + i = omega arith in z)
       ∙ sym (fresh_next k path 0 i (i + 1) ts t refl h et))))))
 
 any_zero : (l : License) (j : ℕ) (ys : List Link) → j ≡ 0 → AnyOf (Names l) (take j ys) → ⊥

@@ -1,5 +1,5 @@
 -- The first mark of a task's walk tells how many children its step has.
-use Rattle.std.proofs.Common.{◌≡◌, ◌≢◌, ℕ, ◌<◌, min, List, [], ◌∷◌, ◌++◌, length, Some, None, Bool, true, false, refl, ap, ◌∙◌}
+use Rattle.std.proofs.Common.{◌≡◌, ◌≢◌, ℕ, ◌≤◌, ◌<◌, min, List, [], ◌∷◌, ◌++◌, length, Some, None, Bool, true, false, refl, sym, ap, ◌∙◌, arith}
 use Rattle.std.specs.List.{slice_get}
 use Rattle.ap_list.specs.Lists.{Each}
 use Rattle.ap_walk.specs.declared.act.Stepped.{Stepped}
@@ -56,3 +56,12 @@ module _ {T : Type 0} (step : T → Stepped T) (depth : T → ℕ) (tells : (t :
 
   pub no_mark_none : (rule : Rule) (t : T) (w : Walked T) → w ≡ full step depth rule t → None ≡ slice_get w.marks 0 → ⊥
   no_mark_none rule t w e at = (let x = at ∙ first_mark rule t w e in cc)
+
+module _ {T : Type 0} (step : T → Stepped T) where
+  -- an expanded node's own mark
+  pub own_is : (t x : T) (stepped : Stepped T) (cs : List T) (count : ℕ) → stepped ≡ step t → t ≡ x → stepped.out ≡ Out.Split cs → count ≡ length cs → length cs ≤ 1000000 → Some (let v : Visit T = record { task = t; act = stepped.act; children = count } in v) ≡ Some (visit_of x (step x))
+  own_is t x stepped cs count is same split long few =
+      let least : count ≡ min (length cs) 4294967295 = omega arith in
+      let own : count ≡ child_count stepped.out = least ∙ sym (ap child_count split) in
+      ap (λ (n : ℕ). Some (let v : Visit T = record { task = t; act = stepped.act; children = n } in v)) own
+      ∙ (ap (λ (s : Stepped T). Some (visit_of t s)) is ∙ ap (λ (y : T). Some (visit_of y (step y))) same)

@@ -65,7 +65,7 @@ module _ {T : Type 0} (step : T → Stepped T) (depth : T → ℕ) where
 
   abbrev pub Grows : Run T → Run T → Job T → Stepped T → Grown T → Type 0
   Grows old new job stepped (grown.Family family first count) =
-      (new ≡ longer old (entry.Expanded job.node)) × IsJob old job × (family ≡ job.node) × (first ≡ length (nodes_of step depth old)) × (count ≡ length (out_children stepped.out))
+      (new ≡ longer old (entry.Expanded job.node)) × IsJob old job × CanGrow old job.node (length (out_children stepped.out)) × (family ≡ job.node) × (first ≡ length (nodes_of step depth old)) × (count ≡ length (out_children stepped.out))
   Grows old new job stepped (grown.Stranger back again) =
       (new ≡ old) × (back ≡ job) × (again ≡ stepped) × (IsJob old job → CanGrow old job.node (length (out_children stepped.out)) → ⊥)
   Grows old new job stepped (grown.NoMemory back again) = (new ≡ old) × (back ≡ job) × (again ≡ stepped)
@@ -82,11 +82,11 @@ module _ {T : Type 0} (step : T → Stepped T) (depth : T → ℕ) where
   Puts old new job taken.Kept = ((marks : List Entry) × (new ≡ record old { history = old.history ++ entry.Put job.node ∷ marks }) × PutMarks old job.node marks) × IsJob old job × (CanStill old job.node → ⊥)
   Puts old new job (taken.Stranger back) = (new ≡ old) × (back ≡ job) × (IsJob old job → CanStill old job.node)
 
-  -- the licence's family is above the node, its index below the place there, and the family's word isn't above the index
+  -- the licence's family is above the node, its index below the place there, and kept results stop the family at or before the index
   abbrev pub IsLicense : Run T → ℕ → License → Type 0
   IsLicense r k l =
       ((n : Node T) × (slice_get (nodes_of step depth r) k ≡ Some n) × AnyOf (Names l) n.path)
-      × ((m : Node T) × (slice_get (nodes_of step depth r) l.family ≡ Some m) × (m.word ≤ l.index))
+      × ((m : Node T) × (i : ℕ) × (slice_get (nodes_of step depth r) l.family ≡ Some m) × (known_of step depth r.rule (nodes_of step depth r) m ≡ Some i) × (i ≤ l.index))
 
   abbrev pub Drops : Run T → Run T → Job T → License → Taken T → Type 0
   Drops old new job l taken.Kept = (new ≡ longer old (entry.Dropped job.node l)) × IsJob old job × IsLicense old job.node l

@@ -8,3 +8,4 @@ pub mod Live
 pub mod Sums
 pub mod Settled
 pub mod Calls
+pub mod Ended

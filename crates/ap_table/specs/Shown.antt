@@ -6,7 +6,7 @@ use Rattle.ap_walk.specs.declared.rule.Rule.{Rule}
 use Rattle.ap_walk.specs.declared.rule.Tally.{Tally}
 use Rattle.ap_walk.specs.declared.rule.End.{End}
 use Rattle.ap_walk.specs.declared.mark.Walked.{Walked}
-use Rattle.ap_walk.specs.Visits.{out_children}
+use Rattle.ap_walk.specs.Visits.{Visit, out_children, visit_of}
 use Rattle.ap_table.specs.declared.link.Link.{Link}
 use Rattle.ap_table.specs.declared.stored.Entry.{Entry}
 use Rattle.ap_table.specs.declared.stored.Entry.TheVariants as entry
@@ -51,6 +51,15 @@ module _ {T : Type 0} where
   StageShows t count wanted (stage.Dropped x) (dropped y) = x ≡ y
   StageShows t count wanted _ _ = ⊥
 
+  -- a node whose children are in the table keeps its own mark
+  abbrev pub OwnShows : Option (Visit T) → Visit T → Phase T → Type 0
+  OwnShows o v free = Unit {0}
+  OwnShows o v claimed = Unit {0}
+  OwnShows o v expanded = o ≡ Some v
+  OwnShows o v (put w) = Unit {0}
+  OwnShows o v (closed w) = o ≡ Some v
+  OwnShows o v (dropped l) = Unit {0}
+
   -- kept node k as f makes it
   unfoldable pub alter : List (Stored T) → ℕ → (Stored T → Stored T) → List (Stored T)
   alter [] k f = []
@@ -69,12 +78,12 @@ module _ {T : Type 0} where
 
   -- the root, as a kept node
   abbrev pub kept_root : T → Stored T
-  kept_root t = record { task = t; path = []; first = 0; count = 0; stage = stage.Free t; word = NONE; told = nothing_told }
+  kept_root t = record { task = t; path = []; own = None; first = 0; count = 0; stage = stage.Free t; word = NONE; told = nothing_told }
 
   -- the children of a node, as new kept nodes
   unfoldable pub fresh : ℕ → List Link → ℕ → List T → List (Stored T)
   fresh k path place [] = []
-  fresh k path place (c ∷ cs) = record { task = c; path = record { family = k; place = place } ∷ path; first = 0; count = 0; stage = stage.Free c; word = NONE; told = nothing_told } ∷ fresh k path (place + 1) cs
+  fresh k path place (c ∷ cs) = record { task = c; path = record { family = k; place = place } ∷ path; own = None; first = 0; count = 0; stage = stage.Free c; word = NONE; told = nothing_told } ∷ fresh k path (place + 1) cs
 
 module _ {T : Type 0} (step : T → Stepped T) where
   pub record Shows (c : Stored T) (n : Node T) : Type 0 where
@@ -83,6 +92,7 @@ module _ {T : Type 0} (step : T → Stepped T) where
     pub first : c.first ≡ n.first
     pub word : c.word ≡ n.word
     pub stage : StageShows n.task c.count (length (out_children (step n.task).out)) c.stage n.phase
+    pub own : OwnShows c.own (visit_of n.task (step n.task)) n.phase
 
   -- a node that was put can't be expanded any more: it has three families above it, or fewer than two children, or there is no room for these
   abbrev pub NoMore : List (Stored T) → Type 0

@@ -7,11 +7,13 @@
 //! (ITP 2013). `TableState` is such a state with the list of the steps that led to it.
 #![tactic(auto)]
 
+mod gathering;
 mod laws;
 mod link;
 mod live;
 mod making;
 mod marking;
+mod noting;
 mod settling;
 mod state;
 mod stored;
@@ -21,6 +23,6 @@ pub use laws::{
     closing_is_by_the_known_stop, core_is_sound, known_stops_are_true, live_nodes_stay_in_order,
     pieces_make_the_walk, stopped_walks_end,
 };
-pub use link::{License, Link};
+pub use link::{DropNote, License, Link};
 pub use state::{TableState, first};
 pub use stored::{Claim, Entry, Grown, Job, Stage, Stored, Sum, Taken, Told};

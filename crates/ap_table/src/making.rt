@@ -14,7 +14,7 @@ use crate::link::{License, Link};
 use crate::stored::{Entry, Job, Stage, Stored, Sum, Told};
 use crate::telling::nothing_told;
 use ap_list::{NoMemory, Seq};
-use ap_walk::{Rule, Step};
+use ap_walk::{Mark, Rule, Step};
 use std::alloc::Global;
 use std::mem;
 
@@ -80,6 +80,7 @@ pub(crate) fn root_node<S: Step>(
     Ok(Stored {
         task,
         path: Seq::from_vec(Vec::new(alloc)),
+        own: None,
         first: 0,
         count: 0,
         stage: Stage::Free(copy),
@@ -140,6 +141,7 @@ pub(crate) fn fresh_nodes<S: Step>(
         nodes.push(Stored {
             task,
             path,
+            own: None,
             first: 0,
             count: 0,
             stage: Stage::Free(copy),
@@ -179,12 +181,19 @@ pub(crate) fn grow<T: Drop>(
     nodes.append(&mut more)
 }
 
-/// Makes a node expanded.
-pub(crate) fn set_expanded<T: Drop>(nodes: &mut Vec<Stored<T>>, i: usize, first: u32, count: u32)
+/// Makes a node expanded. It keeps its own mark.
+pub(crate) fn set_expanded<T: Drop>(
+    nodes: &mut Vec<Stored<T>>,
+    i: usize,
+    own: Mark<T>,
+    first: u32,
+    count: u32,
+)
     requires { i < length nodes.old.items }
-    ensures { nodes.new.items ≡ alter nodes.old.items i (λ c. record c { first = first; count = count; stage = stage.Expanded; word = NONE; told = nothing_told }) }
+    ensures { nodes.new.items ≡ alter nodes.old.items i (λ c. record c { own = Some own; first = first; count = count; stage = stage.Expanded; word = NONE; told = nothing_told }) }
 {
     let node = &mut nodes[i];
+    node.own = Some(own);
     node.first = first;
     node.count = count;
     node.stage = Stage::Expanded;

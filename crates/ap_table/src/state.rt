@@ -1,17 +1,19 @@
 ghost use Rattle.std.specs.Prelude.{◌≡◌, ℕ, ◌≤◌, List, [], ◌∷◌, ◌++◌, length, IfOk, IsTrue, ◌↔◌};
 
-use crate::link::License;
+use crate::gathering::pieces;
+use crate::link::{DropNote, License};
 use crate::live::{first_free, give_way, take_out};
 use crate::making::{
     fresh_nodes, grow, has_room, is_done, is_job, is_licensed, root_node, same_rule, set_claimed,
     set_expanded, set_stage,
 };
 use crate::marking::{can_expand, mark_one};
+use crate::noting::notes;
 use crate::settling::settle;
 use crate::stored::{Claim, Entry, Grown, Job, Stage, Stored, Taken};
 use crate::telling::through_tally;
 use ap_list::{NoMemory, Seq};
-use ap_walk::{Out, Rule, Step, Stepped, Walked};
+use ap_walk::{Mark, Out, Rule, Step, Stepped, Tally, Walked, cut_from};
 use std::alloc::Global;
 use std::marker::Model;
 
@@ -66,6 +68,7 @@ impl<S: Step> TableState<S> {
     ghost use Rattle.ap_walk.specs.Visits.{out_children};
     ghost use Rattle.ap_walk.specs.Walks.{full};
     ghost use Rattle.ap_table.specs.Calls.{Claims, Grows, Puts, Drops, IsRootDone};
+    ghost use Rattle.ap_table.specs.Ended.{HasEnded, Ends};
 
     /// Claims the first free node in serial order.
     pub fn claim_step(&mut self) -> Claim<S::Task>
@@ -94,6 +97,13 @@ impl<S: Step> TableState<S> {
             return false;
         }
         is_done(&self.nodes, 0)
+    }
+
+    /// The steps that were taken, in their order.
+    pub fn history(&self) -> &[Entry]
+        ensures { result.now ≡ self.now.history }
+    {
+        self.history.as_slice()
     }
 
     /// Puts the children of a job's task into the table. A stranger is a job that isn't the table's, or one
@@ -133,7 +143,12 @@ impl<S: Step> TableState<S> {
             return Grown::NoMemory(job, stepped);
         };
         let family = job.node;
-        set_expanded(&mut self.nodes, i, first, count as u32);
+        let own = Mark {
+            task: job.task,
+            act: stepped.act,
+            children: count as u32,
+        };
+        set_expanded(&mut self.nodes, i, own, first, count as u32);
         give_way(&mut self.live, family, first, count as u32);
         self.history.push_reserved(Entry::Expanded(family));
         Grown::Family {
@@ -195,5 +210,25 @@ impl<S: Step> TableState<S> {
         self.history
             .push_reserved(Entry::Dropped(job.node, license));
         Taken::Kept
+    }
+
+    /// Ends a table whose root is done: the serial walk of the root's task, and the notes of what was dropped,
+    /// in the order in which it was. The marks are those that the table keeps, and no step is taken again. The
+    /// only error is want of memory.
+    pub fn finish(
+        self,
+        alloc: Global,
+        step: &S,
+    ) -> Result<(Walked<S::Task>, Seq<DropNote>), NoMemory>
+        requires { HasEnded S.step_of S.depth self }
+        ensures { IfOk result (λ end. Ends S.step_of S.depth S.name self end.0 end.1) }
+    {
+        let notes = notes(alloc, step, &self.nodes, self.history.as_slice())?;
+        let marks = pieces(alloc, self.nodes)?;
+        let start = Tally {
+            pushes: 0,
+            goals: 0,
+        };
+        Ok((cut_from(start, marks, self.rule), notes))
     }
 }

@@ -1,6 +1,6 @@
 use crate::link::{License, Link};
 use ap_list::Seq;
-use ap_walk::{Rule, Stepped, Tally, Walked};
+use ap_walk::{Mark, Rule, Stepped, Tally, Walked};
 
 /// One step that was taken, as numbers alone: a node was claimed, expanded, put or dropped by a licence, or
 /// the word of a family was marked by a place.
@@ -43,12 +43,13 @@ pub struct Told {
     pub sum: Sum,
 }
 
-/// A node as it is kept: the families above it, its own first. `word` is where its children's family
-/// stops, as far as is marked.
+/// A node as it is kept: the families above it, its own first; its own mark, once it is expanded; and where
+/// its children stand. `word` is where their family stops, as far as is marked.
 #[derive(Drop)]
 pub struct Stored<T> {
     pub task: T,
     pub path: Seq<Link>,
+    pub own: Option<Mark<T>>,
     pub first: u32,
     pub count: u32,
     pub stage: Stage<T>,

@@ -10,9 +10,19 @@ use Rattle.ap_table.specs.declared.stored.Entry.TheVariants as entry
 use Rattle.ap_table.specs.declared.stored.Stage.TheVariants as stage
 use Rattle.ap_table.proofs.After.{after_sound}
 use Rattle.ap_table.proofs.Dropping.{licensed_word}
+use Rattle.ap_table.proofs.Licences.{by_known, by_word}
 use Rattle.ap_table.proofs.Moving.{dropped_table}
 use Rattle.ap_table.proofs.Showing.{some_same, below_length, room_alter, job_shown, job_kept, license_kept, license_shown}
 use Rattle.ap_table.proofs.state.TableState.drop_step.Goals as goal
+
+pub returns-then-not-same_rule : goal.returns-then-not-same_rule
+returns-then-not-same_rule g c = (
+  refl,
+  refl,
+  λ j l.
+      let t = c.same_rule.ensures.1 (ap (λ (x : Run g.row.S-Task.Denot). x.rule) c.self.view_is ∙ sym j.0) in
+      let f = c.if-not-same_rule.true in absurd (cc),
+)
 
 pub returns-then-not-is_job : goal.returns-then-not-is_job
 returns-then-not-is_job g c =
@@ -34,7 +44,8 @@ returns-then-not-is_licensed g c =
       refl,
       λ j l.
           let own : IsLicense g.S.Step.step_of g.S.Step.depth r c.args.job.node c.args.license = subst (λ (x : Run g.row.S-Task.Denot). IsLicense g.S.Step.step_of g.S.Step.depth x c.args.job.node c.args.license) (sym c.self.view_is) l in
-          let t = c.is_licensed.ensures.tells.1 (license_kept g.S.Step.step_of i.nodes.items (nodes_of g.S.Step.step_of g.S.Step.depth r) c.args.job.node c.args.license c.self.invariant.shows own) in
+          let t = c.is_licensed.ensures.tells.1 (license_kept g.S.Step.step_of i.nodes.items (nodes_of g.S.Step.step_of g.S.Step.depth r) c.args.job.node c.args.license c.self.invariant.shows
+          (by_word g.S.Step.step_of g.S.Step.depth g.met.S.Step.tells g.met.S.Step.deeper r i.nodes.items (reverse i.live.items) (vec_capacity i.history) c.self.invariant c.args.job.node c.args.license own)) in
           let f = c.if-not-is_licensed.true in absurd (cc),
     )
 
@@ -83,5 +94,6 @@ returns g c =
         subst (λ (x : Run g.row.S-Task.Denot). (n : Node g.row.S-Task.Denot) × (slice_get (nodes_of step depth x) c.args.job.node ≡ Some n) × (n.phase ≡ claimed) × (c.args.job.task ≡ n.task)) c.self.view_is
             (job_shown step depth i.nodes.items (nodes_of step depth r) c.args.job.node c.args.job.task c.self.invariant.shows j),
       ),
-      subst (λ (x : Run g.row.S-Task.Denot). IsLicense step depth x c.args.job.node c.args.license) c.self.view_is l,
+      subst (λ (x : Run g.row.S-Task.Denot). IsLicense step depth x c.args.job.node c.args.license) c.self.view_is
+          (by_known step depth g.met.S.Step.tells g.met.S.Step.deeper r i.nodes.items (reverse i.live.items) (vec_capacity i.history) c.self.invariant c.args.job.node c.args.license c.is_licensed.ensures.small l),
     )

@@ -9,9 +9,27 @@ use Rattle.ap_table.specs.Shown.{Run, nodes_of}
 use Rattle.ap_table.specs.Calls.{longer, IsJob, CanGrow}
 use Rattle.ap_table.specs.declared.stored.Entry.TheVariants as entry
 use Rattle.ap_table.specs.declared.stored.Stored.{Stored}
-use Rattle.ap_table.proofs.Showing.{get_at, some_same, below_length, length_fresh, show_length, job_shown, job_kept, room_kept}
+use Rattle.ap_table.proofs.Showing.{get_at, some_same, below_length, length_fresh, show_length, job_shown, job_kept, room_kept, room_shown}
 use Rattle.ap_table.proofs.Moving.{expanded_table, larger_table}
+use Rattle.ap_table.proofs.Splitting.{own_is}
 use Rattle.ap_table.proofs.state.TableState.expand_step.Goals as goal
+
+pub returns-then-not-same_rule : goal.returns-then-not-same_rule
+returns-then-not-same_rule g c = (
+  refl,
+  refl,
+  refl,
+  λ j can.
+      let t = c.same_rule.ensures.1 (ap (λ (x : Run g.row.S-Task.Denot). x.rule) c.self.view_is ∙ sym j.0) in
+      let f = c.if-not-same_rule.true in absurd (cc),
+)
+
+pub fresh_nodes-requires : goal.fresh_nodes-requires
+fresh_nodes-requires g c =
+    let h = c.has_room.ensures.0 c.if-not-has_room.false in
+    let few = h.3 in
+    let l : length c.as_slice.result.now ≡ c.len-count.result = ap length c.as_slice.ensures ∙ sym c.len-count.ensures in
+    omega arith
 
 pub returns-then-not-is_job : goal.returns-then-not-is_job
 returns-then-not-is_job g c =
@@ -99,7 +117,7 @@ invariant_of-self-2 g c =
     let big : 5 * (length i.nodes.items + length ts) ≤ vec_capacity c.grow.new.history = subst (λ (n : ℕ). 5 * (length i.nodes.items + n) ≤ vec_capacity c.grow.new.history) m c.in-Ok-grow.ensures.capacity in
     let first : c.len-first.result ≡ length i.nodes.items = (let a = c.len-first.ensures in let b = i.nodes.ok.0 in omega arith) in
     rw (c.give_way.ensures, c.in-Ok-grow.ensures.live, c.push_reserved.ensures.items, c.push_reserved.ensures.capacity, c.set_expanded.ensures, c.in-Ok-grow.ensures.nodes, c.in-Ok-grow.ensures.history, c.in-Ok.ensures, c.as_slice-path.ensures, c.as_slice.ensures)
-    (expanded_table g.S.Step.step_of g.S.Step.depth r i.nodes.items (reverse i.live.items) (vec_capacity i.history) c.args.job.node c.len-first.result c.len-count.result x ts c.self.invariant at (sym (ap (λ (z : Stored g.row.S-Task.Denot). z.stage) same) ∙ j.2) tsis two deep few first c.len-count.ensures (vec_capacity c.grow.new.history) big)
+    (expanded_table g.S.Step.step_of g.S.Step.depth r i.nodes.items (reverse i.live.items) (vec_capacity i.history) c.args.job.node c.len-first.result c.len-count.result _ x ts c.self.invariant at (sym (ap (λ (z : Stored g.row.S-Task.Denot). z.stage) same) ∙ j.2) tsis (own_is g.S.Step.step_of c.args.job.task x.task c.args.stepped ts c.len-count.result c.requires.stepped (j.3 ∙ ap (λ (z : Stored g.row.S-Task.Denot). z.task) same) c.in-Split.is c.len-count.ensures (omega arith)) two deep few first c.len-count.ensures (vec_capacity c.grow.new.history) big)
 
 pub returns : goal.returns
 returns g c =
@@ -107,6 +125,7 @@ returns g c =
     let r : Run g.row.S-Task.Denot = record { root = i.root; rule = i.rule; history = i.history.items } in
     let j = c.is_job.ensures.0 c.if-not-is_job.false in
     let e = entry.Expanded c.args.job.node in
+    let count : length (out_children c.args.stepped.out) ≡ c.len-count.result = ap (λ (o : Out g.row.S-Task.Denot). length (out_children o)) c.in-Split.is ∙ sym c.len-count.ensures in
     let first : c.len-first.result ≡ length i.nodes.items = (let a = c.len-first.ensures in let b = i.nodes.ok.0 in omega arith) in (
       ap (λ (h : _). let x : Run g.row.S-Task.Denot = record { root = i.root; rule = i.rule; history = h } in x) (c.push_reserved.ensures.items ∙ ap (λ l. l ++ e ∷ []) c.in-Ok-grow.ensures.history) ∙ ap (λ (x : Run g.row.S-Task.Denot). longer x e) c.self.view_is,
       (
@@ -114,6 +133,8 @@ returns g c =
         subst (λ (x : Run g.row.S-Task.Denot). (n : Node g.row.S-Task.Denot) × (slice_get (nodes_of g.S.Step.step_of g.S.Step.depth x) c.args.job.node ≡ Some n) × (n.phase ≡ claimed) × (c.args.job.task ≡ n.task)) c.self.view_is
             (job_shown g.S.Step.step_of g.S.Step.depth i.nodes.items (nodes_of g.S.Step.step_of g.S.Step.depth r) c.args.job.node c.args.job.task c.self.invariant.shows j),
       ),
+      subst (λ (x : Run g.row.S-Task.Denot). CanGrow g.S.Step.step_of g.S.Step.depth x c.args.job.node (length (out_children c.args.stepped.out))) c.self.view_is
+          (room_shown g.S.Step.step_of g.S.Step.depth i.nodes.items (nodes_of g.S.Step.step_of g.S.Step.depth r) c.args.job.node (length (out_children c.args.stepped.out)) c.len-count.result count c.self.invariant.shows (c.has_room.ensures.0 c.if-not-has_room.false)),
       refl,
       first ∙ (show_length g.S.Step.step_of i.nodes.items (nodes_of g.S.Step.step_of g.S.Step.depth r) c.self.invariant.shows ∙ ap (λ (x : Run g.row.S-Task.Denot). length (nodes_of g.S.Step.step_of g.S.Step.depth x)) c.self.view_is),
       c.len-count.ensures ∙ sym (ap (λ (o : Out g.row.S-Task.Denot). length (out_children o)) c.in-Split.is),

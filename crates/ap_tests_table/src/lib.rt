@@ -1,0 +1,7 @@
+//! The tests of the goal table, on trees that are given as data.
+#![tactic(auto)]
+
+#[cfg(test)]
+mod tables;
+#[cfg(test)]
+mod trees;

@@ -1,0 +1,243 @@
+//! The rows of the goal table, on one thread.
+
+use crate::trees::{Tree, Trees};
+use ap_table::*;
+use ap_walk::{End, Mark, NoMemory, Out, Rule, Seq, Step, Walked, serial};
+use std::alloc::Global;
+use std::process::Abort;
+
+/// An initial walk without the switch.
+const RULE: Rule = Rule {
+    initial: true,
+    otf: false,
+    goal_limit: 100,
+};
+
+/// The job of the node that is claimed next.
+fn claim(rt: &impl Abort, table: &mut TableState<Trees>, node: u32) -> Job<Tree> {
+    let Claim::Found(job) = table.claim_step() else {
+        panic!(rt; "no node is free");
+    };
+    assert_eq!(rt; job.node, node);
+    job
+}
+
+/// Expands a node into its children, whose numbers begin with this one.
+fn expand(
+    rt: &impl Abort,
+    alloc: Global,
+    table: &mut TableState<Trees>,
+    job: Job<Tree>,
+    wanted: (u32, u32, u32),
+) -> Result<(), NoMemory> {
+    let stepped = Trees.step(alloc, &job.task)?;
+    let Out::Split(children) = &stepped.out else {
+        panic!(rt; "a task that doesn't split");
+    };
+    if children.len() < 2 {
+        panic!(rt; "a task that splits into fewer than two");
+    }
+    let Grown::Family {
+        family,
+        first,
+        count,
+    } = table.expand_step(alloc, &Trees, job, stepped)
+    else {
+        panic!(rt; "no family");
+    };
+    assert_eq!(rt; (family, first, count), wanted);
+    Ok(())
+}
+
+/// Puts the serial walk of a job's task.
+fn put(
+    alloc: Global,
+    table: &mut TableState<Trees>,
+    job: Job<Tree>,
+) -> Result<Taken<Tree>, NoMemory> {
+    let walked = serial(alloc, &Trees, &job.task, job.rule)?;
+    Ok(table.put_step(&Trees, job, walked))
+}
+
+/// Whether a table took what it was handed.
+fn is_kept(taken: &Taken<Tree>) -> bool {
+    match taken {
+        Taken::Kept => true,
+        Taken::Stranger(_) => false,
+    }
+}
+
+/// Puts the serial walk of a job's task, which is kept.
+fn put_kept(
+    rt: &impl Abort,
+    alloc: Global,
+    table: &mut TableState<Trees>,
+    job: Job<Tree>,
+) -> Result<(), NoMemory> {
+    let taken = put(alloc, table, job)?;
+    assert!(rt; is_kept(&taken));
+    Ok(())
+}
+
+/// Drops a job's node by the family of the root's children and this place, which is kept.
+fn drop_kept(rt: &impl Abort, table: &mut TableState<Trees>, job: Job<Tree>, index: u32) {
+    let taken = table.drop_step(&Trees, job, License { family: 0, index });
+    assert!(rt; is_kept(&taken));
+}
+
+/// Compares the steps that were taken with what is expected.
+fn expect_entries(rt: &impl Abort, table: &TableState<Trees>, wanted: &[Entry]) {
+    let found = table.history();
+    assert_eq!(rt; found.len(), wanted.len());
+    for (entry, row) in found.iter().zip(wanted) {
+        assert_eq!(rt; *entry, *row);
+    }
+}
+
+/// Compares the tasks of marks, each with its children, with what is expected.
+fn expect_marks(rt: &impl Abort, marks: &[Mark<Tree>], wanted: &[(Tree, u32)]) {
+    assert_eq!(rt; marks.len(), wanted.len());
+    for (mark, (task, children)) in marks.iter().zip(wanted) {
+        assert_eq!(rt; (mark.task, mark.children), (*task, *children));
+    }
+}
+
+/// Compares the primes of the names in notes, each with the place of its licence, with what is expected.
+fn expect_notes(rt: &impl Abort, notes: &[DropNote], wanted: &[(u32, u32, u32)]) {
+    assert_eq!(rt; notes.len(), wanted.len());
+    for (note, row) in notes.iter().zip(wanted) {
+        let found = (note.dropped.primes, note.stopped.primes, note.license.index);
+        assert_eq!(rt; found, *row);
+    }
+}
+
+/// A table whose root is expanded into three nodes, the first of which is claimed and put. It ends with these
+/// entries.
+fn begun(
+    rt: &impl Abort,
+    alloc: Global,
+    root: Tree,
+    wanted: &[Entry],
+) -> Result<TableState<Trees>, NoMemory> {
+    let mut table = first(alloc, &Trees, root, RULE)?;
+    let job = claim(rt, &mut table, 0);
+    expand(rt, alloc, &mut table, job, (0, 1, 3))?;
+    let job = claim(rt, &mut table, 1);
+    put_kept(rt, alloc, &mut table, job)?;
+    expect_entries(rt, &table, wanted);
+    Ok(table)
+}
+
+const THREE: &[(Tree, u32)] = &[
+    (Tree::Three, 3),
+    (Tree::Left, 0),
+    (Tree::Empty, 0),
+    (Tree::Right, 0),
+];
+
+const ONE_PUT: &[Entry] = &[
+    Entry::Claimed(0),
+    Entry::Expanded(0),
+    Entry::Claimed(1),
+    Entry::Put(1),
+];
+
+const ONE_STOPS: &[Entry] = &[
+    Entry::Claimed(0),
+    Entry::Expanded(0),
+    Entry::Claimed(1),
+    Entry::Put(1),
+    Entry::Marked(0, 0),
+];
+
+const DEEP: &[(Tree, u32)] = &[
+    (Tree::Deep, 3),
+    (Tree::Over, 1),
+    (Tree::Pair, 2),
+    (Tree::Left, 0),
+    (Tree::Right, 0),
+];
+
+#[test]
+fn three_walks_out_of_order_make_the_serial_one(rt: HostRuntime) -> Result<(), NoMemory> {
+    let alloc = rt.alloc();
+    let mut table = begun(&rt, alloc, Tree::Three, ONE_PUT)?;
+    let b = claim(&rt, &mut table, 2);
+    let c = claim(&rt, &mut table, 3);
+    put_kept(&rt, alloc, &mut table, c)?;
+    assert_eq!(rt; table.history().last().copied(), Some(Entry::Marked(0, 2)));
+    assert!(rt; !table.root_done(&Trees, &Tree::Three, RULE));
+    put_kept(&rt, alloc, &mut table, b)?;
+    if !table.root_done(&Trees, &Tree::Three, RULE) {
+        panic!(rt; "the root isn't done");
+    }
+    let (walked, notes) = table.finish(alloc, &Trees)?;
+    expect_marks(&rt, walked.marks.as_slice(), THREE);
+    assert_eq!(rt; (walked.tally.pushes, walked.end), (2, End::Revert));
+    expect_notes(&rt, notes.as_slice(), &[]);
+    Ok(())
+}
+
+#[test]
+fn what_lies_behind_a_stop_is_dropped(rt: HostRuntime) -> Result<(), NoMemory> {
+    let alloc = rt.alloc();
+    let mut table = begun(&rt, alloc, Tree::Deep, ONE_STOPS)?;
+    let b = claim(&rt, &mut table, 2);
+    let c = claim(&rt, &mut table, 3);
+    drop_kept(&rt, &mut table, c, 1);
+    drop_kept(&rt, &mut table, b, 0);
+    if !table.root_done(&Trees, &Tree::Deep, RULE) {
+        panic!(rt; "the root isn't done");
+    }
+    let (walked, notes) = table.finish(alloc, &Trees)?;
+    expect_marks(&rt, walked.marks.as_slice(), DEEP);
+    assert_eq!(rt; (walked.tally.pushes, walked.end), (2, End::Revert));
+    expect_notes(&rt, notes.as_slice(), &[(2, 1, 1), (1, 5, 0)]);
+    Ok(())
+}
+
+#[test]
+fn nothing_is_dropped_before_a_stop_is_known(rt: HostRuntime) -> Result<(), NoMemory> {
+    let alloc = rt.alloc();
+    let mut table = begun(&rt, alloc, Tree::Three, ONE_PUT)?;
+    let job = claim(&rt, &mut table, 2);
+    let license = License {
+        family: 0,
+        index: 0,
+    };
+    let Taken::Stranger(job) = table.drop_step(&Trees, job, license) else {
+        panic!(rt; "it was dropped");
+    };
+    assert_eq!(rt; table.history().len(), 5);
+    put_kept(&rt, alloc, &mut table, job)?;
+    Ok(())
+}
+
+#[test]
+fn a_root_that_can_be_expanded_is_not_put(rt: HostRuntime) -> Result<(), NoMemory> {
+    let alloc = rt.alloc();
+    let mut table = first(alloc, &Trees, Tree::Three, RULE)?;
+    let job = claim(&rt, &mut table, 0);
+    let Taken::Stranger(job) = put(alloc, &mut table, job)? else {
+        panic!(rt; "it was put");
+    };
+    assert_eq!(rt; table.history().len(), 1);
+    expand(&rt, alloc, &mut table, job, (0, 1, 3))?;
+    Ok(())
+}
+
+#[test]
+fn a_job_of_another_table_is_a_stranger(rt: HostRuntime) -> Result<(), NoMemory> {
+    let alloc = rt.alloc();
+    let mut table = first(alloc, &Trees, Tree::Empty, RULE)?;
+    let mut other = first(alloc, &Trees, Tree::Left, RULE)?;
+    let job = claim(&rt, &mut table, 0);
+    let theirs = claim(&rt, &mut other, 0);
+    let Taken::Stranger(theirs) = put(alloc, &mut table, theirs)? else {
+        panic!(rt; "it was put");
+    };
+    assert_eq!(rt; table.history().len(), 1);
+    put_kept(&rt, alloc, &mut table, job)?;
+    put_kept(&rt, alloc, &mut other, theirs)?;
+    Ok(())
+}
