@@ -1,0 +1,2 @@
+pub mod Fertilize
+pub mod Irrelevance
