@@ -1,2 +1,3 @@
-pub mod Used
+pub mod Chosen
 pub mod LeftOut
+pub mod Used

@@ -1,0 +1,16 @@
+use Rattle.std.proofs.Common.{◌≡◌, [], ◌∷◌, Some, rules}
+use Rattle.ap_term.specs.declared.term.Term.{out-Term}
+use Rattle.ap_world.specs.World.{function_of}
+use Rattle.ap_world.proofs.Grounded.{has_not}
+use Rattle.ap_elim.specs.Naming.{new_name}
+use Rattle.ap_elim.proofs.Named.{new_is_new}
+use Rattle.ap_weaken.specs.Generalize.{letter_of}
+use Rattle.ap_weaken.proofs.generalizing.generalised_at.Goals as goal
+
+pub mask_of-requires-clause-ground : goal.mask_of-requires-clause-ground
+mask_of-requires-clause-ground c = has_not (function_of c.args.w.now.entries) c.requires.functions
+
+pub generalise-requires-clause-new : goal.generalise-requires-clause-new
+generalise-requires-clause-new c =
+    let is : new_name (letter_of (out-Term c.args.t.now) ∷ []) c.in_ok-copy_terms.field-0 ≡ Some c.in_ok-v.v = search rules in
+    new_is_new (letter_of (out-Term c.args.t.now) ∷ []) c.in_ok-copy_terms.field-0 c.in_ok-v.v is
