@@ -1,3 +1,4 @@
 pub mod Chosen
 pub mod LeftOut
+pub mod Parts
 pub mod Used

@@ -5,15 +5,11 @@ use Rattle.ap_kernel.specs.Fertilising.{fertilise_made}
 use Rattle.ap_kernel.proofs.Splitting.{then_some}
 use Rattle.ap_weaken.specs.Fertilize.{first_number, can_use, used_in, with_use, hypothesis, use_of}
 
-pub next_number : (test : ℕ → Bool) (n k : ℕ) → 0 < n → test k ≡ false → first_number test n k ≡ first_number test (n - 1) (k + 1)
-next_number test n k h q =
-    let one : n ≡ suc (n - 1) = omega arith in
-    ap (λ m. first_number test m k) one ∙ ap (λ b. cond b (Some k) (first_number test (n - 1) (k + 1))) q
+pub next_number : (test : ℕ → Bool) (n m k : ℕ) → n ≡ suc m → test k ≡ false → first_number test n k ≡ first_number test m (k + 1)
+next_number test n m k e q = ap (λ l. first_number test l k) e ∙ ap (λ b. cond b (Some k) (first_number test m (k + 1))) q
 
-pub this_number : (test : ℕ → Bool) (n k : ℕ) → 0 < n → test k ≡ true → first_number test n k ≡ Some k
-this_number test n k h q =
-    let one : n ≡ suc (n - 1) = omega arith in
-    ap (λ m. first_number test m k) one ∙ ap (λ b. cond b (Some k) (first_number test (n - 1) (k + 1))) q
+pub this_number : (test : ℕ → Bool) (n m k : ℕ) → n ≡ suc m → test k ≡ true → first_number test n k ≡ Some k
+this_number test n m k e q = ap (λ l. first_number test l k) e ∙ ap (λ b. cond b (Some k) (first_number test m (k + 1))) q
 
 pub no_number : (test : ℕ → Bool) (n k : ℕ) → n ≡ 0 → first_number test n k ≡ None
 no_number test n k h = ap (λ m. first_number test m k) h

@@ -75,13 +75,10 @@ fn can_use(c: &Clause, i: usize, j: usize) -> bool
 fn used_in(c: &Clause, i: usize) -> Option<usize>
     ensures { result ≡ used_in c.now i }
 {
-    let count = c.0.len();
-    let mut j = 0;
-    while j < count {
+    for j in 0..c.0.len() {
         if can_use(c, i, j) {
             return Some(j);
         }
-        j += 1;
     }
     None
 }
@@ -90,13 +87,10 @@ fn used_in(c: &Clause, i: usize) -> Option<usize>
 fn hypothesis(c: &Clause) -> Option<usize>
     ensures { result ≡ hypothesis c.now }
 {
-    let count = c.0.len();
-    let mut i = 0;
-    while i < count {
+    for i in 0..c.0.len() {
         if used_in(c, i).is_some() {
             return Some(i);
         }
-        i += 1;
     }
     None
 }

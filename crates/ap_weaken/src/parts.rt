@@ -70,14 +70,18 @@ fn grow(alloc: Global, names: &mut Seq<Symbol>, literals: &[Term]) -> Result<(),
 }
 
 /// The variables of a literal's part: its own, and as often as there are literals those of each literal that has
-/// one of them.
+/// one of them. It ends with the first round that adds none.
 fn part_vars(alloc: Global, literals: &[Term], t: &Term) -> Result<Seq<Symbol>, NoMemory>
     ensures { IfOk result (λ xs. xs ≡ part_vars literals.now t.now) }
 {
     let mut names = vars(alloc, t)?;
     let mut left = literals.len();
     while left > 0 {
+        let count = names.len();
         grow(alloc, &mut names, literals)?;
+        if names.len() == count {
+            return Ok(names);
+        }
         left -= 1;
     }
     Ok(names)
