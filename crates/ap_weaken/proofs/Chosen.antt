@@ -1,15 +1,20 @@
 -- The call that is chosen is a term of the world, and there is a generalization by it.
-use Rattle.std.proofs.Common.{◌≡◌, nat_le, Bool, true, false, cond, List, [], ◌∷◌, Option, Some, None, ap, ◌∙◌, subst}
+use Rattle.std.proofs.Common.{◌≡◌, nat_le, Bool, true, false, cond, List, [], ◌∷◌, Option, Some, None, ap, sym, ◌∙◌, subst}
 use Rattle.ap_list.specs.Lists.{Each}
+use Rattle.ap_value.specs.declared.symbol.Symbol.{Symbol}
 use Rattle.ap_term.specs.declared.term.Term.{Term, out-Term}
+use Rattle.ap_term.specs.declared.term.Clause.{Clause}
 use Rattle.ap_term.specs.Terms.{term_size}
+use Rattle.ap_world.specs.declared.entry.Mask.{Mask}
 use Rattle.ap_world.specs.Meaning.{Defs}
 use Rattle.ap_world.specs.Sound.{known}
 use Rattle.ap_world.specs.World.{Shown}
+use Rattle.ap_kernel.specs.declared.reductions.Inference.{Inference}
 use Rattle.ap_kernel.specs.Generalising.{generalised}
 use Rattle.ap_kernel.specs.Splits.{and_then}
 use Rattle.ap_induct.specs.Choosing.{calls_among}
 use Rattle.ap_induct.proofs.Leading.{among_known}
+use Rattle.ap_elim.specs.Naming.{new_name}
 use Rattle.ap_elim.proofs.Named.{names_are_found}
 use Rattle.ap_weaken.specs.Generalize.{may_generalise, smaller, smallest, chosen, letter_of, mask_in, generalised_at}
 use Rattle.ap_weaken.specs.Laws.{GeneralizeApplies}
@@ -42,3 +47,14 @@ pub generalize_applies : GeneralizeApplies
 generalize_applies w c t found few =
     let (v, name) = names_are_found (letter_of (out-Term t) ∷ []) c.0 few in
     (generalised c t v (mask_in w t), ap (λ o. and_then o (generalised_at w c)) found ∙ ap (λ o. and_then o (λ v. Some (generalised c t v (mask_in w t)))) name)
+
+-- a generalization by its parts, of a copy of the clause
+pub generalised_is : (w : Shown) (c : Clause) (ts : List Term) (t : Term) (v : Symbol) (m : Mask) (i : Inference) → ts ≡ c.0 → new_name (letter_of (out-Term t) ∷ []) ts ≡ Some v → m ≡ mask_in w t
+    → i ≡ generalised (record { 0 = ts }) t v m → generalised_at w c t ≡ Some i
+generalised_is w c ts t v m i same name mask is =
+    ap (λ us. and_then (new_name (letter_of (out-Term t) ∷ []) us) by) (sym same)
+    ∙ ap (λ o. and_then o by) name
+    ∙ ap Some (sym (is ∙ ap (λ us. generalised (record { 0 = us }) t v m) same ∙ ap (generalised c t v) mask))
+  where
+    by : Symbol → Option Inference
+    by v = Some (generalised c t v (mask_in w t))

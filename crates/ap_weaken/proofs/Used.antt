@@ -1,7 +1,9 @@
 -- The places that fertilization finds.
-use Rattle.std.proofs.Common.{◌≡◌, ℕ, zero, suc, ◌+◌, ◌-◌, ◌<◌, Bool, true, false, cond, length, Option, Some, None, is_some, refl, sym, ap, ◌∙◌, subst, arith}
+use Rattle.std.proofs.Common.{◌≡◌, ℕ, zero, suc, ◌+◌, ◌-◌, ◌<◌, Bool, true, false, cond, List, length, Option, Some, None, is_some, refl, sym, ap, ◌∙◌, subst, arith}
+use Rattle.ap_term.specs.declared.term.Term.{Term}
 use Rattle.ap_term.specs.declared.term.Clause.{Clause}
 use Rattle.ap_kernel.specs.Fertilising.{fertilise_made}
+use Rattle.ap_kernel.specs.Splits.{and_then}
 use Rattle.ap_kernel.proofs.Splitting.{then_some}
 use Rattle.ap_weaken.specs.Fertilize.{first_number, can_use, used_in, with_use, hypothesis, use_of}
 
@@ -22,12 +24,25 @@ found_true test (suc n) k j h = go (test k) refl (found_true test n (k + 1) j) h
     go true q later l = let same : k ≡ j = cc in subst (λ m. test m ≡ true) same q
     go false q later l = later l
 
--- the kernel's row applies at the places
-pub use_applies : (c : Clause) (i j : ℕ) → use_of c ≡ Some (i, j) → is_some (fertilise_made c i j) ≡ true
-use_applies c i j h =
-    let (k, first, rest) = then_some (hypothesis c) (with_use c) (i, j) h in
-    let (l, second, last) = then_some (used_in c k) (λ j. Some (k, j)) (i, j) rest in
-    let one : k ≡ i = cc in
-    let other : l ≡ j = cc in
-    let holds : can_use c k l ≡ true = found_true (can_use c k) (length c.0) 0 l second in
-    subst (λ m. is_some (fertilise_made c m j) ≡ true) one (subst (λ m. is_some (fertilise_made c k m) ≡ true) other holds)
+same_pair : (p q : ℕ × ℕ) → Some p ≡ Some q → p ≡ q
+same_pair p q h = cc
+
+-- the first place from which some place passes, and the first that does
+paired : (ℕ → ℕ → Bool) → ℕ → ℕ → Option (ℕ × ℕ)
+paired test n k = and_then (first_number (test k) n 0) (λ l. Some (k, l))
+
+picked_passes : (test : ℕ → ℕ → Bool) (n i j : ℕ) → and_then (first_number (λ k. is_some (first_number (test k) n 0)) n 0) (paired test n) ≡ Some (i, j) → test i j ≡ true
+unfolding paired
+picked_passes test n i j h =
+    let (k, first, rest) = then_some (first_number (λ k. is_some (first_number (test k) n 0)) n 0) (paired test n) (i, j) h in
+    let (l, second, last) = then_some {B = ℕ × ℕ} (first_number (test k) n 0) (λ l. Some (k, l)) (i, j) rest in
+    let both = same_pair (k, l) (i, j) last in
+    let passes : test k l ≡ true = found_true (test k) n 0 l second in
+    subst (λ (p : ℕ × ℕ). test p.0 p.1 ≡ true) both passes
+
+-- the kernel's row applies at the places, to a copy too
+pub use_applies : (c : Clause) (ts : List Term) (i j : ℕ) → ts ≡ c.0 → use_of c ≡ Some (i, j) → is_some (fertilise_made (record { 0 = ts }) i j) ≡ true
+unfolding paired
+use_applies c ts i j same h =
+    let applies : is_some (fertilise_made c i j) ≡ true = picked_passes (can_use c) (length c.0) i j h in
+    subst (λ us. is_some (fertilise_made (record { 0 = us }) i j) ≡ true) (sym same) applies

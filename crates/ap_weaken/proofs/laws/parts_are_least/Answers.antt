@@ -1,4 +1,4 @@
-use Rattle.ap_weaken.proofs.Parts.{parts_are_closed, parts_are_least}
+use Rattle.ap_weaken.proofs.Chains.{parts_are_closed, parts_are_least}
 use Rattle.ap_weaken.proofs.laws.parts_are_least.Goals as goal
 
 pub returns-clause-closed : goal.returns-clause-closed
