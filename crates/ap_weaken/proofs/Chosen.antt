@@ -48,13 +48,13 @@ generalize_applies w c t found few =
     let (v, name) = names_are_found (letter_of (out-Term t) ∷ []) c.0 few in
     (generalised c t v (mask_in w t), ap (λ o. and_then o (generalised_at w c)) found ∙ ap (λ o. and_then o (λ v. Some (generalised c t v (mask_in w t)))) name)
 
--- a generalization by its parts, of a copy of the clause
-pub generalised_is : (w : Shown) (c : Clause) (ts : List Term) (t : Term) (v : Symbol) (m : Mask) (i : Inference) → ts ≡ c.0 → new_name (letter_of (out-Term t) ∷ []) ts ≡ Some v → m ≡ mask_in w t
-    → i ≡ generalised (record { 0 = ts }) t v m → generalised_at w c t ≡ Some i
-generalised_is w c ts t v m i same name mask is =
+-- a generalization by its parts, with the clause lent and copied
+pub generalised_is : (w : Shown) (c : Clause) (lent copied : List Term) (t : Term) (v : Symbol) (m : Mask) (i : Inference) → lent ≡ c.0 → copied ≡ c.0
+    → new_name (letter_of (out-Term t) ∷ []) lent ≡ Some v → m ≡ mask_in w t → i ≡ generalised (record { 0 = copied }) t v m → generalised_at w c t ≡ Some i
+generalised_is w c lent copied t v m i same copy name mask is =
     ap (λ us. and_then (new_name (letter_of (out-Term t) ∷ []) us) by) (sym same)
     ∙ ap (λ o. and_then o by) name
-    ∙ ap Some (sym (is ∙ ap (λ us. generalised (record { 0 = us }) t v m) same ∙ ap (generalised c t v) mask))
+    ∙ ap Some (sym (is ∙ ap (λ us. generalised (record { 0 = us }) t v m) copy ∙ ap (generalised c t v) mask))
   where
     by : Symbol → Option Inference
     by v = Some (generalised c t v (mask_in w t))

@@ -8,6 +8,7 @@ ghost use Rattle.ap_world.specs.World.{function_of};
 ghost use Rattle.ap_kernel.specs.Masks.{MaskHolds};
 ghost use Rattle.ap_kernel.specs.Standing.{HasGround};
 ghost use Rattle.ap_kernel.specs.Reductions.{KnownClause, Reduces};
+ghost use Rattle.ap_elim.specs.Naming.{new_name};
 ghost use Rattle.ap_weaken.specs.Generalize.{calls_recursive, mask_in, isnt_boolean, may_generalise, smaller, smallest, chosen, is_letter, first_letter, letter_of, generalised_at, generalize_made};
 
 use crate::sharing::is_shared;
@@ -16,6 +17,7 @@ use ap_induct::push_all_calls;
 use ap_kernel::{Ctx, Reduction, TypeOracle, generalise};
 use ap_list::{NoMemory, Seq};
 use ap_term::{Clause, Term, copy_term, copy_terms, size};
+use ap_value::Symbol;
 use ap_world::{Mask, World};
 use std::alloc::{AllocError, Global};
 
@@ -182,6 +184,13 @@ fn letter_of(t: &Term) -> u8
     }
 }
 
+/// A variable of a call's letter that is new in some literals.
+fn new_variable(alloc: Global, t: &Term, literals: &[Term]) -> Result<Symbol, NoMemory>
+    ensures { IfOk result (λ v. new_name (letter_of (out-Term t.now) ∷ []) literals.now ≡ Some v) }
+{
+    new_name(alloc, &[letter_of(t)], literals)
+}
+
 /// From a clause to the clause with a new variable of the call's letter in every place of a call.
 fn generalised_at<O: TypeOracle>(
     alloc: Global,
@@ -197,7 +206,7 @@ fn generalised_at<O: TypeOracle>(
     ensures made { IfOk result (λ r. generalised_at w.now c.now t.now ≡ Some r.says) }
 {
     let mask = mask_of(alloc, w, oracle, t)?;
-    let v = new_name(alloc, &[letter_of(t)], c.0.as_slice())?;
+    let v = new_variable(alloc, t, c.0.as_slice())?;
     let clause = Clause(copy_terms(alloc, c.0.as_slice())?);
     let answer = generalise(alloc, w, clause, t, v, mask)?;
     Ok(answer)
