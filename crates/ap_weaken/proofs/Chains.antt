@@ -1,12 +1,11 @@
 -- A literal's part is closed under sharing, and is the least that is: so many rounds are enough.
-use Rattle.std.proofs.Common.{◌≡◌, ℕ, zero, suc, ◌+◌, ◌<◌, ◌≤◌, Bool, true, false, cond, ◌&&◌, ◌||◌, List, [], ◌∷◌, ◌++◌, map, length, ◌⊎◌, inl, inr, refl, ap, sym, ◌∙◌, subst, append_assoc, append-nil, length-append, arith}
-use Rattle.ap_list.specs.Lists.{Each, AnyOf, is_among, is_within}
+use Rattle.std.proofs.Common.{◌≡◌, ℕ, zero, suc, ◌+◌, ◌<◌, ◌≤◌, Bool, true, false, cond, ◌&&◌, ◌||◌, List, [], ◌∷◌, ◌++◌, length, ◌⊎◌, inl, inr, refl, ap, sym, ◌∙◌, subst, append_assoc, append-nil, length-append, arith}
+use Rattle.ap_list.specs.Lists.{AnyOf, is_among, is_within}
 use Rattle.ap_value.specs.declared.symbol.Symbol.{Symbol}
 use Rattle.ap_value.specs.Values.{symbol_eq}
 use Rattle.ap_value.proofs.Equals.{symbol_eq-true, symbol_eq-same}
 use Rattle.ap_term.specs.declared.term.Term.{Term}
-use Rattle.ap_kernel.specs.Solving.{any_true}
-use Rattle.ap_weaken.specs.Irrelevance.{vars_of, have_common, united, grown_by, grown, reached, part_vars}
+use Rattle.ap_weaken.specs.Irrelevance.{vars_of, have_common, united, grown_by, grown, reached}
 use Rattle.ap_weaken.specs.Laws.{Within, IsClosed, PartsAreClosed, PartsAreLeast}
 
 abbrev Among : Symbol → List Symbol → Type 0

@@ -1,11 +1,11 @@
 -- The places that fertilization finds.
-use Rattle.std.proofs.Common.{◌≡◌, ℕ, zero, suc, ◌+◌, ◌-◌, ◌<◌, Bool, true, false, cond, List, length, Option, Some, None, is_some, refl, sym, ap, ◌∙◌, subst, arith}
+use Rattle.std.proofs.Common.{◌≡◌, ℕ, zero, suc, ◌+◌, Bool, true, false, cond, List, length, Option, Some, None, is_some, refl, sym, ap, ◌∙◌, subst}
 use Rattle.ap_term.specs.declared.term.Term.{Term}
 use Rattle.ap_term.specs.declared.term.Clause.{Clause}
 use Rattle.ap_kernel.specs.Fertilising.{fertilise_made}
 use Rattle.ap_kernel.specs.Splits.{and_then}
 use Rattle.ap_kernel.proofs.Splitting.{then_some}
-use Rattle.ap_weaken.specs.Fertilize.{first_number, can_use, used_in, with_use, hypothesis, use_of}
+use Rattle.ap_weaken.specs.Fertilize.{first_number, can_use, use_of}
 
 pub next_number : (test : ℕ → Bool) (n m k : ℕ) → n ≡ suc m → test k ≡ false → first_number test n k ≡ first_number test m (k + 1)
 next_number test n m k e q = ap (λ l. first_number test l k) e ∙ ap (λ b. cond b (Some k) (first_number test m (k + 1))) q

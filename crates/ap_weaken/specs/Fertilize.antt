@@ -1,5 +1,5 @@
 -- Which hypothesis of a clause is used, and in which literal.
-use Rattle.std.specs.Prelude.{ℕ, zero, suc, ◌+◌, Bool, true, false, cond, length, Option, Some, None, is_some}
+use Rattle.std.specs.Prelude.{ℕ, zero, suc, ◌+◌, Bool, cond, length, Option, Some, None, is_some}
 use Rattle.ap_term.specs.declared.term.Clause.{Clause}
 use Rattle.ap_kernel.specs.declared.reductions.Inference.{Inference}
 use Rattle.ap_kernel.specs.Fertilising.{fertilise_made}

@@ -1,6 +1,5 @@
 -- Which call of a clause becomes a new variable, and which variable.
-use Rattle.std.specs.Prelude.{ℕ, Bool, true, false, cond, not, ◌&&◌, ◌||◌, nat_le, List, [], ◌∷◌, map, Option, Some, None, is_some}
-use Rattle.ap_value.specs.declared.symbol.Symbol.{Symbol}
+use Rattle.std.specs.Prelude.{ℕ, Bool, false, cond, not, ◌&&◌, ◌||◌, nat_le, List, [], ◌∷◌, map, Option, Some, None, is_some}
 use Rattle.ap_term.specs.declared.term.Term.{Term, out-Term}
 use Rattle.ap_term.specs.declared.term.Term.TheOpen.{Term-F}
 use Rattle.ap_term.specs.declared.term.Clause.{Clause}
