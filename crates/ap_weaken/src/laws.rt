@@ -1,5 +1,14 @@
-//! The laws of generalization and of irrelevance, each the contract of a function that does nothing.
-ghost use Rattle.ap_weaken.specs.Laws.{GeneralizeApplies, PartsAreClosed, PartsAreLeast};
+//! The laws of what gives up something of a clause, each the contract of a function that does nothing.
+ghost use Rattle.ap_weaken.specs.Laws.{FertilizeFollows, GeneralizeFollows, IrrelevanceFollows, GeneralizeApplies, PartsAreClosed, PartsAreLeast};
+
+/// One clause is left, from which the other follows, by the definitions alone: after fertilization in a total
+/// world with `not`, after generalization in one with the ground world's functions where masks hold, and where
+/// irrelevant parts are left out in any total world.
+pub fn clauses_follow()
+    ensures fertilized { FertilizeFollows }
+    ensures generalized { GeneralizeFollows }
+    ensures irrelevant { IrrelevanceFollows }
+{}
 
 /// There is a generalization wherever a call is chosen.
 pub fn generalize_applies()

@@ -122,11 +122,11 @@ fn left_out(alloc: Global, w: &World, c: &Clause) -> Result<Reduction, NoMemory>
     let mut done = itself(alloc, w, c)?;
     let mut kept: Seq<Term> = Seq::new(alloc);
     let mut left = literals;
-    while let [t, rest @ ..] = left {
-        if is_irrelevant(alloc, literals, t)? {
+    while let [next, rest @ ..] = left {
+        if is_irrelevant(alloc, literals, next)? {
             done = without_next(alloc, w, done, kept.as_slice(), left)?;
         } else {
-            kept.push(copy_term(alloc, t)?)?;
+            kept.push(copy_term(alloc, next)?)?;
         }
         left = rest;
     }
