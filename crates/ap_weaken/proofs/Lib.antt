@@ -1,0 +1,5 @@
+pub mod Chains
+pub mod Chosen
+pub mod Followed
+pub mod LeftOut
+pub mod Used
