@@ -60,7 +60,7 @@ calls_known D = term_ind Goal
     args [] es ks = tt
     args (t ∷ ts) es ks = each_append (λ z. known D z ≡ true) (calls_of t) (calls_among ts) (es.0 ks.0) (args ts es.1 ks.1)
 
-among_known : (D : Defs) (ts : List Term) → Each (λ u. known D u ≡ true) ts → Each (λ z. known D z ≡ true) (calls_among ts)
+pub among_known : (D : Defs) (ts : List Term) → Each (λ u. known D u ≡ true) ts → Each (λ z. known D z ≡ true) (calls_among ts)
 among_known D [] ks = tt
 among_known D (t ∷ ts) ks = each_append (λ z. known D z ≡ true) (calls_of t) (calls_among ts) (calls_known D t ks.0) (among_known D ts ks.1)
 

@@ -23,13 +23,9 @@ fn push_calls(alloc: Global, t: &Term, out: &mut Seq<Term>) -> Result<(), NoMemo
     }
 }
 
-/// Adds the calls of some terms, in preorder.
+/// Adds the calls of some terms, in preorder, each as often as it occurs. The only error is want of memory.
 #[cycle(calls)]
-pub(crate) fn push_all_calls(
-    alloc: Global,
-    ts: &[Term],
-    out: &mut Seq<Term>,
-) -> Result<(), NoMemory>
+pub fn push_all_calls(alloc: Global, ts: &[Term], out: &mut Seq<Term>) -> Result<(), NoMemory>
     ensures { OnOk result (out.new ≡ out.old ++ calls_among ts.now) }
 {
     for t in ts {

@@ -69,7 +69,7 @@ fn by_hint(
 }
 
 /// Compares two texts.
-fn expect(rt: &impl Abort, found: &[u8], wanted: &str) {
+pub(crate) fn expect(rt: &impl Abort, found: &[u8], wanted: &str) {
     let found = str::from_utf8(found).unwrap_or("no text");
     assert_eq!(rt; found, wanted);
 }

@@ -1,0 +1,4 @@
+pub mod Chains
+pub mod Chosen
+pub mod LeftOut
+pub mod Used

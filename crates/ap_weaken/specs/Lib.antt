@@ -1,0 +1,4 @@
+pub mod Fertilize
+pub mod Generalize
+pub mod Irrelevance
+pub mod Laws
