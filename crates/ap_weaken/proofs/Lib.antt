@@ -2,3 +2,4 @@ pub mod Chains
 pub mod Chosen
 pub mod LeftOut
 pub mod Used
+pub mod Followed
