@@ -2,3 +2,4 @@ pub mod Rooted
 pub mod Places
 pub mod Counted
 pub mod Grounded
+pub mod Made

@@ -1,6 +1,6 @@
 -- The laws of the waterfall's step, proved. They stand here, and what they stand on, since the step's `impl` cites
 -- them.
-use Rattle.std.proofs.Common.{◌≡◌, ◌<◌, ◌+◌, ◌-◌, ℕ, nat_le, nat_lt, Bool, true, false, cond, List, [], ◌∷◌, length, map, Option, Some, None, IfSome, refl, sym, ◌∙◌, subst, true≢false, arith}
+use Rattle.std.proofs.Common.{◌≡◌, ◌≢◌, ◌<◌, ◌+◌, ◌-◌, ℕ, nat_le, nat_lt, Bool, true, false, cond, List, [], ◌∷◌, length, map, Option, Some, None, IfSome, refl, sym, ◌∙◌, subst, true≢false, arith}
 use Rattle.std.proofs.lemmas.Bool.{leb-false}
 use Rattle.ap_list.specs.Lists.{Each}
 use Rattle.ap_term.specs.declared.term.Term.{Term}
@@ -25,8 +25,9 @@ use Rattle.ap_rewrite.proofs.InWorldStands.{sound_setting}
 use Rattle.ap_induct.specs.Choosing.{scheme_of}
 use Rattle.ap_induct.proofs.Followed.{scheme_follows}
 use Rattle.ap_strategy.specs.Goals.{Goal, defs_of}
-use Rattle.ap_strategy.specs.Steps.{setting_of, simplified, is_alone, counted_down, named, child, children, cases, scheme_below, done, stop_step, simplify_step, clause_step, scheme_step, induct_step, step_of, depth_of, KnownScheme, IsGood}
+use Rattle.ap_strategy.specs.Steps.{setting_of, simplified, is_alone, counted_down, named, child, children, cases, scheme_below, done, stop_step, later, seen_below, missed_step, simplify_step, clause_step, scheme_step, induct_step, step_of, depth_of, KnownScheme, IsGood}
 use Rattle.ap_strategy.specs.Reduced.{simplified_reduces}
+use Rattle.ap_strategy.specs.Later.{of_later, later_makes}
 
 -- what the kernel asks of a world is the first of its functions
 pub kernel_ground : (D : Defs) → HasFunctions D → HasGround D
@@ -37,19 +38,24 @@ kernel_ground D functions = functions.0
 abbrev pub scheme_for : Goal → Option (Term × Inference)
 scheme_for g = scheme_of (defs_of g.plan) g.settings.theory g.clause g.scheme
 
--- what is so of a step that stops, of one that pushes, of one that simplifies, and of one that inducts, is so of
--- each step
+-- what is so of a step that stops, of one that pushes, of one that simplifies, of one by a later process, and of
+-- one that inducts, is so of each step
 module _ (P : Goal → Stepped Goal → Type 0) (g : Goal)
     (stops : (missed : Bool) (r : Reason) → P g (stop_step missed r))
     (pushes : (limited : Bool) → P g (done Process.Push true limited Out.Push))
     (splits : (ds : List Clause) → g.induct ≡ false → g.depth < 250 → simplified (setting_of g) g.plan.step_limit g.clause ≡ Some ds → P g (done Process.Simplify false false (Out.Split (children g ds))))
+    (misses : (p : Process × List Clause) (limited : Bool) → g.induct ≡ false → g.depth < 250 → later g ≡ Some p → P g (done p.0 true limited (Out.Split (children (seen_below true g) p.1))))
     (inducts : (p : Term × Inference) → g.induct ≡ true → nat_lt 9 (length g.name.induction) ≡ false → scheme_for g ≡ Some p → P g (done Process.Induct false false (Out.Split (cases g p.1.to)))) where
+  of_missed : (limited : Bool) (o : Option (Process × List Clause)) → g.induct ≡ false → g.depth < 250 → later g ≡ o → P g (missed_step g limited o)
+  of_missed limited None plain above q = pushes limited
+  of_missed limited (Some p) plain above q = misses p limited plain above q
+
   of_simplified : (o : Option (List Clause)) → g.induct ≡ false → g.depth < 250 → simplified (setting_of g) g.plan.step_limit g.clause ≡ o → P g (simplify_step g o)
-  of_simplified None plain above q = pushes true
+  of_simplified None plain above q = of_missed true (later g) plain above refl
   of_simplified (Some ds) plain above q = go (is_alone g.clause ds)
     where
-      go : (b : Bool) → P g (cond b (done Process.Push true false Out.Push) (done Process.Simplify false false (Out.Split (children g ds))))
-      go true = pushes false
+      go : (b : Bool) → P g (cond b (missed_step g false (later g)) (done Process.Simplify false false (Out.Split (children g ds))))
+      go true = of_missed false (later g) plain above refl
       go false = splits ds plain above q
 
   of_clause : (us : List Term) → g.induct ≡ false → P g (clause_step g us)
@@ -83,7 +89,15 @@ module _ (P : Goal → Stepped Goal → Type 0) (g : Goal)
       go false q = of_clause g.clause.0 q
 
 pub tells : (g : Goal) → Tells (step_of g).act.process (step_of g).out
-tells g = of_step (λ g s. Tells s.act.process s.out) g (λ missed r. refl) (λ limited. refl) (λ ds plain above q. ((λ e. cc), (λ e. cc))) (λ p q few h. ((λ e. cc), (λ e. cc)))
+tells g =
+    of_step (λ g s. Tells s.act.process s.out) g (λ missed r. refl) (λ limited. refl) (λ ds plain above q. ((λ e. cc), (λ e. cc)))
+    (λ p limited plain above q. later_tells p q)
+    (λ p q few h. ((λ e. cc), (λ e. cc)))
+  where
+    later_tells : (p : Process × List Clause) → later g ≡ Some p → (p.0 ≢ Process.Push) × (p.0 ≢ Process.Stop)
+    later_tells p q =
+        of_later g (λ p. (p.0 ≢ Process.Push) × (p.0 ≢ Process.Stop)) (λ i e. ((λ e. cc), (λ e. cc))) (λ i e. ((λ e. cc), (λ e. cc))) (λ i e. ((λ e. cc), (λ e. cc)))
+        (λ i e. ((λ e. cc), (λ e. cc))) p q
 
 -- each child is one deeper, and the cases of an induction are at the head of new paths
 one_deeper : (b : Bool) (n : ℕ) → (b ≡ false → n < 250) → 250 - (n + 1) < cond b 250 (250 - n)
@@ -97,6 +111,7 @@ less_deep g (p ∷ ps) h = (one_deeper g.induct g.depth h, less_deep g ps h)
 pub deeper : (g : Goal) → Each (λ c. depth_of c < depth_of g) (out_children (step_of g).out)
 deeper g = of_step (λ g s. Each (λ c. depth_of c < depth_of g) (out_children s.out)) g (λ missed r. tt) (λ limited. tt)
     (λ ds plain above q. less_deep g (named g.name ds) (λ e. above))
+    (λ p limited plain above q. less_deep (seen_below true g) (named g.name p.1) (λ e. above))
     (λ p q few h. less_deep g (counted_down g.name p.1.to) (λ e. absurd (true≢false (sym q ∙ e))))
 
 -- what a goal's children are inducted by is known where the goal's is
@@ -129,6 +144,11 @@ split_good g ds q gs functions sound distinct k given =
     let r = simplified_reduces (setting_of g) (setting_is_sound g functions sound distinct) g.plan.step_limit g.clause ds k q in
     r.valid (children_valid g functions sound distinct given ds r.goals gs)
 
+later_good : (g : Goal) (p : Process × List Clause) → later g ≡ Some p → Each IsGood (children (seen_below true g) p.1) → IsGood g
+later_good g p q gs functions sound distinct k given =
+    let r = (later_makes g (kernel_ground (defs_of g.plan) functions) functions sound k p q).follows in
+    r.valid (children_valid (seen_below true g) functions sound distinct given p.1 r.goals gs)
+
 induction_good : (g : Goal) (p : Term × Inference) → scheme_for g ≡ Some p → Each IsGood (cases g p.1.to) → IsGood g
 induction_good g p h gs functions sound distinct k given =
     let (start, r) = scheme_follows g.plan.world.entries sound distinct functions g.settings.theory g.clause g.scheme p k given h in
@@ -136,4 +156,5 @@ induction_good g p h gs functions sound distinct k given =
 
 -- where all children of a goal that splits are good, the goal is
 pub whole : (g : Goal) → IsSplit (step_of g).out → Each IsGood (out_children (step_of g).out) → IsGood g
-whole g = of_step (λ g s. IsSplit s.out → Each IsGood (out_children s.out) → IsGood g) g (λ missed r h. absurd h) (λ limited h. absurd h) (λ ds plain above q h. split_good g ds q) (λ p q few s h. induction_good g p s)
+whole g = of_step (λ g s. IsSplit s.out → Each IsGood (out_children s.out) → IsGood g) g (λ missed r h. absurd h) (λ limited h. absurd h) (λ ds plain above q h. split_good g ds q) (λ p limited plain above q h. later_good g p q)
+    (λ p q few s h. induction_good g p s)

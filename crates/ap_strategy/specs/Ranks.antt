@@ -12,7 +12,7 @@ use Rattle.ap_walk.specs.declared.act.Stepped.{Stepped}
 use Rattle.ap_walk.specs.Visits.{out_children}
 use Rattle.ap_kernel.specs.declared.reductions.Inference.{Inference}
 use Rattle.ap_strategy.specs.Goals.{Goal, inducted}
-use Rattle.ap_strategy.specs.Steps.{named, counted_down, child, children, cases, clause_step, stop_step, scheme_step, induct_step, step_of}
+use Rattle.ap_strategy.specs.Steps.{named, counted_down, child, seen_below, children, cases, clause_step, stop_step, scheme_step, induct_step, step_of}
 use Rattle.ap_strategy.specs.Laws.{scheme_for, of_step}
 
 -- by whether the goal is an induction, and the count of its name's numbers: an induction under more than
@@ -61,6 +61,7 @@ plain_low false n plain = omega arith
 pub ranked : (g : Goal) → Each (λ c. rank_of c ≤ rank_of g) (out_children (step_of g).out)
 ranked g = of_step (λ g s. Each (λ c. rank_of c ≤ rank_of g) (out_children s.out)) g (λ missed r. tt) (λ limited. tt)
     (λ ds plain above q. children_low g (named g.name ds) (plain_low g.induct (length g.name.induction) plain) (named_same g.name ds))
+    (λ p limited plain above q. children_low (seen_below true g) (named g.name p.1) (plain_low g.induct (length g.name.induction) plain) (named_same g.name p.1))
     (λ p q few h. children_low g (counted_down g.name p.1.to) (few_low g.induct (length g.name.induction) few) (counted_same g.name p.1.to))
 
 -- one number more

@@ -1,6 +1,6 @@
--- The waterfall's step on a goal: it is simplified, or it is pushed, or the attempt stops at it; a pushed goal's
--- induction splits into its cases.
-use Rattle.std.specs.Prelude.{◌≡◌, ℕ, ◌+◌, ◌-◌, Bool, true, false, cond, nat_le, nat_lt, List, [], ◌∷◌, ◌++◌, length, map, Option, Some, None, IsTrue, IfSome}
+-- The waterfall's step on a goal: it is simplified, or else the first of the later processes that applies makes
+-- its children, or it is pushed, or the attempt stops at it; a pushed goal's induction splits into its cases.
+use Rattle.std.specs.Prelude.{◌≡◌, ℕ, ◌+◌, ◌-◌, Bool, true, false, cond, nat_eq, nat_le, nat_lt, List, [], ◌∷◌, ◌++◌, length, map, Option, Some, None, IsTrue, IfSome}
 use Rattle.std.specs.Option.{option_map}
 use Rattle.ap_list.specs.Lists.{is_among, joined}
 use Rattle.ap_term.specs.declared.term.Term.{Term}
@@ -17,11 +17,15 @@ use Rattle.ap_walk.specs.declared.act.Stepped.{Stepped}
 use Rattle.ap_kernel.specs.declared.reductions.Inference.{Inference}
 use Rattle.ap_kernel.specs.Reductions.{KnownClause}
 use Rattle.ap_kernel.specs.Tidying.{tidied, holds_by_itself, tidy_goals}
-use Rattle.ap_kernel.specs.Solving.{solved_made}
+use Rattle.ap_kernel.specs.Solving.{any_true, solved_made}
 use Rattle.ap_rewrite.specs.Settings.{Setting}
 use Rattle.ap_rewrite.specs.InWorld.{world_setting}
 use Rattle.ap_rewrite.specs.Literals.{simplify_of}
 use Rattle.ap_induct.specs.Choosing.{scheme_of}
+use Rattle.ap_elim.specs.Eliminating.{elim_made}
+use Rattle.ap_weaken.specs.Fertilize.{fertilize_made}
+use Rattle.ap_weaken.specs.Generalize.{generalize_made}
+use Rattle.ap_weaken.specs.Irrelevance.{irrelevance_made}
 use Rattle.ap_strategy.specs.declared.plan.Plan.{Plan}
 use Rattle.ap_strategy.specs.declared.plan.Settings.{Settings}
 use Rattle.ap_strategy.specs.Goals.{Goal, defs_of}
@@ -111,10 +115,62 @@ cases g ds = map (child g) (counted_down g.name ds)
 abbrev pub done : Process → Bool → Bool → Out Goal → Stepped Goal
 done process missed limited out = record { act = record { process = process; missed = missed; limited = limited }; out = out }
 
--- simplification applies where what it makes isn't the clause alone; else it missed, and the goal is pushed
+-- the place of a process in the waterfall: two are one where their places are
+abbrev pub process_number : Process → ℕ
+process_number Process.Hint = 0
+process_number Process.Simplify = 1
+process_number Process.Elim = 2
+process_number Process.Fertilize = 3
+process_number Process.Generalize = 4
+process_number Process.Irrelevance = 5
+process_number Process.Induct = 6
+process_number Process.Push = 7
+process_number Process.Stop = 8
+
+abbrev pub is_process : Process → Process → Bool
+is_process p q = nat_eq (process_number p) (process_number q)
+
+-- a hint says that the process is skipped
+abbrev pub is_skipped : Goal → Process → Bool
+is_skipped g p = any_true (map (is_process p) g.settings.skip)
+
+-- a process with the clauses that it makes
+abbrev pub made_by : Process → Inference → Process × List Clause
+made_by p i = (p, i.to)
+
+-- one that isn't skipped, where it applies
+abbrev pub applied : Goal → Process → Option Inference → Option (Process × List Clause)
+applied g p o = cond (is_skipped g p) None (option_map (made_by p) o)
+
+-- the first process behind simplification that applies, and what it makes
+abbrev pub by_elim : Goal → Option (Process × List Clause)
+by_elim g = applied g Process.Elim (elim_made g.settings.theory g.clause)
+
+abbrev pub by_fertilize : Goal → Option (Process × List Clause)
+by_fertilize g = applied g Process.Fertilize (fertilize_made g.clause)
+
+abbrev pub by_generalize : Goal → Option (Process × List Clause)
+by_generalize g = applied g Process.Generalize (generalize_made g.plan.world g.clause)
+
+abbrev pub by_irrelevance : Goal → Option (Process × List Clause)
+by_irrelevance g = applied g Process.Irrelevance (irrelevance_made g.clause)
+
+abbrev pub later : Goal → Option (Process × List Clause)
+later g = or_later (by_elim g) (or_later (by_fertilize g) (or_later (by_generalize g) (by_irrelevance g)))
+
+-- a goal as those below it see it: whether a checkpoint stands above them
+abbrev pub seen_below : Bool → Goal → Goal
+seen_below under g = record g { under = under }
+
+-- where simplification missed, the goal is a checkpoint: that process, else it is pushed
+abbrev pub missed_step : Goal → Bool → Option (Process × List Clause) → Stepped Goal
+missed_step g limited None = done Process.Push true limited Out.Push
+missed_step g limited (Some p) = done p.0 true limited (Out.Split (children (seen_below true g) p.1))
+
+-- simplification applies where what it makes isn't the clause alone; it misses also where the steps ran out
 abbrev pub simplify_step : Goal → Option (List Clause) → Stepped Goal
-simplify_step g None = done Process.Push true true Out.Push
-simplify_step g (Some ds) = cond (is_alone g.clause ds) (done Process.Push true false Out.Push) (done Process.Simplify false false (Out.Split (children g ds)))
+simplify_step g None = missed_step g true (later g)
+simplify_step g (Some ds) = cond (is_alone g.clause ds) (missed_step g false (later g)) (done Process.Simplify false false (Out.Split (children g ds)))
 
 abbrev pub stop_step : Bool → Reason → Stepped Goal
 stop_step missed r = done Process.Stop missed false (Out.Stop r)

@@ -5,6 +5,7 @@
 #![tactic(auto)]
 
 mod clauses;
+mod later;
 mod oracles;
 mod plan;
 mod same;

@@ -8,9 +8,10 @@ ghost use Rattle.ap_walk.specs.declared.act.Reason.{Reason};
 ghost use Rattle.ap_kernel.specs.Reductions.{KnownClause};
 ghost use Rattle.ap_induct.specs.Choosing.{scheme_of};
 ghost use Rattle.ap_strategy.specs.Goals.{defs_of, IsGoal};
-ghost use Rattle.ap_strategy.specs.Steps.{setting_of, scheme_below, child, counted_down, children, cases_in, done, stop_step, simplify_step, simplified, clause_step, induct_step, step_of};
+ghost use Rattle.ap_strategy.specs.Steps.{setting_of, scheme_below, child, seen_below, counted_down, children, cases_in, done, stop_step, later, missed_step, simplify_step, simplified, clause_step, induct_step, step_of};
 
 use crate::clauses::{copy_clause, is_alone};
+use crate::later::later;
 use crate::plan::copy_settings;
 use crate::simplifying::simplify;
 use crate::task::{Task, copy_scheme};
@@ -31,10 +32,12 @@ fn scheme_below(alloc: Global, task: &Task<'_>) -> Result<Option<Term>, NoMemory
     copy_scheme(alloc, &task.scheme)
 }
 
-/// A task below another one, with a name and a clause of its own. It is no induction.
+/// A task below another one, with a name and a clause of its own, told whether it is below a checkpoint. It is no
+/// induction.
 fn child<'a>(
     alloc: Global,
     task: &Task<'a>,
+    under: bool,
     name: GoalName,
     clause: Clause,
 ) -> Result<Task<'a>, NoMemory>
@@ -42,7 +45,7 @@ fn child<'a>(
     requires unpushed { is_pushed name ≡ false }
     requires primes { name.primes ≤ task.now.depth + 1 }
     requires clause { KnownClause (defs_of task.now.plan) clause }
-    ensures { IfOk result (λ t. t ≡ child task.now (name, clause)) }
+    ensures { IfOk result (λ t. t ≡ child (seen_below under task.now) (name, clause)) }
 {
     let settings = copy_settings(alloc, &task.settings)?;
     let scheme = scheme_below(alloc, task)?;
@@ -51,7 +54,7 @@ fn child<'a>(
         name,
         clause,
         depth: task.depth + 1,
-        under: task.under,
+        under,
         settings,
         induct: false,
         scheme,
@@ -62,18 +65,19 @@ fn child<'a>(
 fn counted_down<'a>(
     alloc: Global,
     task: &Task<'a>,
+    under: bool,
     clauses: Seq<Clause>,
 ) -> Result<Seq<Task<'a>>, NoMemory>
     requires above { task.now.depth < 250 }
     requires few { length clauses < 2 ^ 32 }
     requires clauses { Each (KnownClause (defs_of task.now.plan)) clauses }
-    ensures { IfOk result (λ ts. ts ≡ map (child task.now) (counted_down task.now.name clauses)) }
+    ensures { IfOk result (λ ts. ts ≡ map (child (seen_below under task.now)) (counted_down task.now.name clauses)) }
 {
     let mut number = clauses.len() as u32;
     let mut out = Seq::new(alloc);
     for clause in clauses.into_vec() {
         let name = task.name.child(alloc, number)?;
-        out.push(child(alloc, task, name, clause)?)?;
+        out.push(child(alloc, task, under, name, clause)?)?;
         number -= 1;
     }
     Ok(out)
@@ -83,22 +87,23 @@ fn counted_down<'a>(
 fn children<'a>(
     alloc: Global,
     task: &Task<'a>,
+    under: bool,
     clauses: Seq<Clause>,
 ) -> Result<Seq<Task<'a>>, NoMemory>
     requires above { task.now.depth < 250 }
     requires plain { task.now.induct ≡ false }
     requires few { length clauses < 2 ^ 32 }
     requires clauses { Each (KnownClause (defs_of task.now.plan)) clauses }
-    ensures { IfOk result (λ ts. ts ≡ children task.now clauses) }
+    ensures { IfOk result (λ ts. ts ≡ children (seen_below under task.now) clauses) }
 {
     if clauses.len() != 1 {
-        return counted_down(alloc, task, clauses);
+        return counted_down(alloc, task, under, clauses);
     }
     let mut clauses = clauses;
     let mut out = Seq::new(alloc);
     if let Some(clause) = clauses.pop() {
         let name = task.name.primed(alloc)?;
-        out.push(child(alloc, task, name, clause)?)?;
+        out.push(child(alloc, task, under, name, clause)?)?;
     }
     Ok(out)
 }
@@ -117,7 +122,7 @@ fn stopped<'a>(missed: bool, reason: Reason) -> Stepped<Task<'a>>
     }
 }
 
-/// The step of a task that simplification left as it was.
+/// The step of a task that is set aside for an induction.
 fn pushed<'a>(limited: bool) -> Stepped<Task<'a>>
     ensures { result ≡ done Process.Push true limited Out.Push }
 {
@@ -129,6 +134,37 @@ fn pushed<'a>(limited: bool) -> Stepped<Task<'a>>
         },
         out: Out::Push,
     }
+}
+
+/// The step of a task whose children a later process made.
+fn made<'a>(process: Process, limited: bool, children: Seq<Task<'a>>) -> Stepped<Task<'a>>
+    ensures { result ≡ done process true limited (Out.Split children.entry) }
+{
+    Stepped {
+        act: Act {
+            process,
+            missed: true,
+            limited,
+        },
+        out: Out::Split(children),
+    }
+}
+
+/// The step of a task that simplification left as it was, or whose steps ran out: by a later process, or else it
+/// is pushed.
+fn missed_step<'a>(
+    alloc: Global,
+    task: &Task<'a>,
+    limited: bool,
+) -> Result<Stepped<Task<'a>>, NoMemory>
+    requires above { task.now.depth < 250 }
+    requires plain { task.now.induct ≡ false }
+    ensures { IfOk result (λ s. s ≡ missed_step task.now limited (later task.now)) }
+{
+    let Some((process, clauses)) = later(alloc, task)? else {
+        return Ok(pushed(limited));
+    };
+    Ok(made(process, limited, children(alloc, task, true, clauses)?))
 }
 
 /// The step of a task that was simplified.
@@ -145,7 +181,7 @@ fn simplified<'a>(children: Seq<Task<'a>>) -> Stepped<Task<'a>>
     }
 }
 
-/// Simplifies a task, or pushes it where its clause stays the same.
+/// Simplifies a task; where its clause stays the same, or the steps run out, that is a miss.
 fn simplify_step<'a>(alloc: Global, task: &Task<'a>) -> Result<Stepped<Task<'a>>, NoMemory>
     requires above { task.now.depth < 250 }
     requires plain { task.now.induct ≡ false }
@@ -153,12 +189,12 @@ fn simplify_step<'a>(alloc: Global, task: &Task<'a>) -> Result<Stepped<Task<'a>>
 {
     let clause = copy_clause(alloc, &task.clause)?;
     let Some(clauses) = simplify(alloc, task.plan, &task.settings, clause)? else {
-        return Ok(pushed(true));
+        return missed_step(alloc, task, true);
     };
     if is_alone(&task.clause, clauses.as_slice()) {
-        return Ok(pushed(false));
+        return missed_step(alloc, task, false);
     }
-    Ok(simplified(children(alloc, task, clauses)?))
+    Ok(simplified(children(alloc, task, task.under, clauses)?))
 }
 
 /// The step of a task that isn't an induction.
@@ -216,7 +252,7 @@ fn induct_step<'a>(alloc: Global, task: &Task<'a>) -> Result<Stepped<Task<'a>>, 
     let Some(clauses) = cases(alloc, task)? else {
         return Ok(stopped(false, Reason::NoScheme));
     };
-    Ok(inducted(counted_down(alloc, task, clauses)?))
+    Ok(inducted(counted_down(alloc, task, task.under, clauses)?))
 }
 
 /// The step of a task.

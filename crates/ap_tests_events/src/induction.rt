@@ -40,20 +40,19 @@ DEFTHM APP-COMM
 Goal push *1
 *1 induct 2 (APP X Y)
 Subgoal *1/2 simplify 1
-Subgoal *1/2' push *1.1
+Subgoal *1/2' elim 1
+Subgoal *1/2'' fertilize 1
+Subgoal *1/2''' push *1.1
 Subgoal *1/1 simplify 1
 Subgoal *1/1' push *1.2
-*1.1 induct 4 (APP Y (CDR X))
-Subgoal *1.1/4 simplify 0
-Subgoal *1.1/3 simplify 2
-Subgoal *1.1/3.2 push *1.1.1
+*1.1 induct 2 (APP Y X2)
+Subgoal *1.1/2 simplify 2
 Goal limit
 Checkpoints before induction
 Goal: (EQUAL (APP X Y) (APP Y X))
 Checkpoints under induction
 Subgoal *1/2': (OR (NOT (CONSP X)) (NOT (EQUAL (APP (CDR X) Y) (APP Y (CDR X)))) (EQUAL (CONS (CAR X) (APP (CDR X) Y)) (APP Y X)))
 Subgoal *1/1': (OR (CONSP X) (EQUAL Y (APP Y X)))
-Subgoal *1.1/3.2: (OR (NOT (CONSP Y)) (EQUAL (APP (CDR X) (CDR Y)) (APP (CDR Y) (CDR X))) (NOT (CONSP X)) (NOT (EQUAL (APP (CDR X) Y) (CONS (CAR Y) (APP (CDR Y) (CDR X))))) (NOT (EQUAL (CAR X) (CAR Y))) (EQUAL (APP (CDR X) Y) (APP (CDR Y) X)))
 DEFTHM APP-COMM refused 8.3 GoalLimit
 ";
 

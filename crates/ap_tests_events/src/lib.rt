@@ -8,6 +8,8 @@ mod events;
 #[cfg(test)]
 mod induction;
 #[cfg(test)]
+mod processes;
+#[cfg(test)]
 mod recursion;
 #[cfg(test)]
 mod theories;

@@ -65,9 +65,14 @@ fn first_world(alloc: Global) -> Result<World, NoMemory>
     ground_world(alloc)
 }
 
-/// The world behind a text's events, and what they print.
-pub(crate) fn worked(alloc: Global, text: &str, printed: &mut Bytes) -> Result<World, NoMemory> {
-    let Some(limits) = Limits::new(1000, 10) else {
+/// The world behind a text's events, and what they print, with attempts of at most so many goals.
+pub(crate) fn worked_within(
+    alloc: Global,
+    text: &str,
+    goals: u32,
+    printed: &mut Bytes,
+) -> Result<World, NoMemory> {
+    let Some(limits) = Limits::new(1000, goals) else {
         return Err(AllocError);
     };
     let Ok(list) = forms(alloc, text.as_bytes()) else {
@@ -75,6 +80,11 @@ pub(crate) fn worked(alloc: Global, text: &str, printed: &mut Bytes) -> Result<W
     };
     let world = first_world(alloc)?;
     all_events(alloc, world, list.as_slice(), &limits, printed)
+}
+
+/// The same with at most ten goals.
+pub(crate) fn worked(alloc: Global, text: &str, printed: &mut Bytes) -> Result<World, NoMemory> {
+    worked_within(alloc, text, 10, printed)
 }
 
 /// A line on a function of the world: its name and the types that its calls may have.
