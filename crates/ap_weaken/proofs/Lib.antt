@@ -3,4 +3,3 @@ pub mod Chosen
 pub mod Followed
 pub mod LeftOut
 pub mod Used
-pub mod Followed
