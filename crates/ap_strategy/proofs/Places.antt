@@ -1,9 +1,5 @@
 -- The first literal that solves a variable, looked for from the first place on.
-use Rattle.std.proofs.Common.{◌≡◌, ◌<◌, ◌≤◌, ◌↔◌, IsTrue, Bool, true≢false, ℕ, zero, suc, ◌+◌, true, false, List, [], ◌∷◌, length, take, drop, slice_get, Option, Some, None, is_some, refl, ap, sym, ◌∙◌, add-one, arith}
-use Rattle.std.specs.Prelude.{nat_lt}
-use Rattle.std.specs.Option.{option_map}
-use Rattle.std.proofs.lemmas.Bool.Decides.{nat_tests}
-use Rattle.std.proofs.lemmas.Option.{none-some, slice_get_within}
+use Rattle.std.proofs.Common.{◌≡◌, ◌<◌, ℕ, suc, ◌+◌, true, false, length, drop, Option, Some, None, is_some, refl, ap, sym, ◌∙◌, add-one}
 use Rattle.std.proofs.Math.Seq.{drop-cons}
 use Rattle.ap_term.specs.declared.term.Clause.{Clause}
 use Rattle.ap_world.specs.Recursion.{t_constant}

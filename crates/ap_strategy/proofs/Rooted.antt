@@ -1,5 +1,5 @@
 -- The goal that an attempt starts from keeps what tasks keep.
-use Rattle.std.proofs.Common.{◌≡◌, ◌≤◌, true, true≢false, IsTrue, refl, sym, subst, arith}
+use Rattle.std.proofs.Common.{◌≡◌, true, true≢false, IsTrue, refl, sym, subst, arith}
 use Rattle.ap_list.specs.Lists.{Each}
 use Rattle.ap_term.specs.declared.term.Term.{Term}
 use Rattle.ap_term.specs.declared.term.Clause.{Clause}

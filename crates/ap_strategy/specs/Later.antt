@@ -1,14 +1,13 @@
 -- The processes behind simplification keep what a clause says: it is valid where the few clauses are that they
 -- make.
-use Rattle.std.proofs.Common.{◌≡◌, ◌≤◌, Bool, true, false, cond, List, [], length, Option, Some, None, option_map, refl, ap, sym, subst, arith}
+use Rattle.std.proofs.Common.{◌≡◌, ◌≤◌, Bool, true, false, cond, List, [], length, Option, Some, None, option_map, refl, subst, arith}
 use Rattle.ap_value.specs.declared.symbol.Symbol.{Symbol}
 use Rattle.ap_term.specs.declared.term.Term.{Term}
 use Rattle.ap_term.specs.declared.term.Clause.{Clause}
 use Rattle.ap_world.specs.Clauses.{not_of}
 use Rattle.ap_world.specs.Meaning.{Defs, Total}
-use Rattle.ap_world.specs.Sound.{known, Sound, HasFunctions}
+use Rattle.ap_world.specs.Sound.{Sound, HasFunctions}
 use Rattle.ap_world.specs.Theories.{ShownTheory}
-use Rattle.ap_world.specs.World.{Shown, function_of}
 use Rattle.ap_walk.specs.declared.act.Process.{Process}
 use Rattle.ap_kernel.specs.declared.reductions.Inference.{Inference}
 use Rattle.ap_kernel.specs.Eliminating.{consp_term, taken_apart, without_first, elim_goals, eliminated}

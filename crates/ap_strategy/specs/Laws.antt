@@ -17,7 +17,7 @@ use Rattle.ap_walk.specs.declared.act.Stepped.{Stepped}
 use Rattle.ap_walk.specs.Visits.{Tells, IsSplit, out_children}
 use Rattle.ap_kernel.specs.Standing.{HasGround}
 use Rattle.ap_kernel.specs.declared.reductions.Inference.{Inference}
-use Rattle.ap_kernel.specs.Reductions.{KnownClause, Follows}
+use Rattle.ap_kernel.specs.Reductions.{KnownClause}
 use Rattle.ap_rewrite.specs.Arithmetic.{arithmetic_in}
 use Rattle.ap_rewrite.specs.SoundSettings.{SoundSetting}
 use Rattle.ap_rewrite.proofs.ArithmeticSound.{worlds_sound}

@@ -5,14 +5,13 @@ use Rattle.std.proofs.lemmas.Bool.{ltb-false, ltb-true}
 use Rattle.ap_list.specs.Lists.{Each}
 use Rattle.ap_term.specs.declared.term.Term.{Term}
 use Rattle.ap_term.specs.declared.term.Clause.{Clause}
-use Rattle.ap_names.specs.Names.{Name, below, child_of, primed_of}
+use Rattle.ap_names.specs.Names.{Name, below}
 use Rattle.ap_walk.specs.declared.act.Reason.{Reason}
 use Rattle.ap_walk.specs.declared.act.Out.{Out}
-use Rattle.ap_walk.specs.declared.act.Stepped.{Stepped}
 use Rattle.ap_walk.specs.Visits.{out_children}
 use Rattle.ap_kernel.specs.declared.reductions.Inference.{Inference}
 use Rattle.ap_strategy.specs.Goals.{Goal, inducted}
-use Rattle.ap_strategy.specs.Steps.{named, counted_down, child, seen_below, children, cases, clause_step, stop_step, scheme_step, induct_step, step_of}
+use Rattle.ap_strategy.specs.Steps.{named, counted_down, child, seen_below, clause_step, stop_step, scheme_step, induct_step, step_of}
 use Rattle.ap_strategy.specs.Laws.{scheme_for, of_step}
 
 -- by whether the goal is an induction, and the count of its name's numbers: an induction under more than

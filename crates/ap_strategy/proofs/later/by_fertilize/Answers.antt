@@ -1,4 +1,4 @@
-use Rattle.std.proofs.Common.{◌≡◌, ◌∙◌, ap}
+use Rattle.std.proofs.Common.{◌∙◌, ap}
 use Rattle.ap_strategy.specs.Goals.{Goal}
 use Rattle.ap_strategy.proofs.Grounded.{ground_lent}
 use Rattle.ap_strategy.proofs.later.by_fertilize.Goals as goal

@@ -1,4 +1,4 @@
-use Rattle.std.proofs.Common.{◌≡◌, ◌∙◌, ap}
+use Rattle.std.proofs.Common.{◌∙◌, ap}
 use Rattle.ap_strategy.specs.Goals.{Goal}
 use Rattle.ap_strategy.proofs.Made.{made_known, made_few}
 use Rattle.ap_strategy.proofs.later.later.Goals as goal

@@ -1,4 +1,4 @@
-use Rattle.std.proofs.Common.{◌≡◌, sym, subst}
+use Rattle.std.proofs.Common.{sym, subst}
 use Rattle.ap_world.specs.World.{Shown}
 use Rattle.ap_rules.specs.Index.{IsIndex}
 use Rattle.ap_strategy.proofs.Grounded.{ground_lent}

@@ -1,9 +1,4 @@
-use Rattle.std.proofs.Common.{◌≡◌, ◌<◌, ◌≤◌, ◌^◌, ◌∙◌, Option, Some, IfSome, length, sym, ap, subst, arith, rules}
-use Rattle.ap_list.specs.Lists.{Each}
-use Rattle.ap_term.specs.declared.term.Clause.{Clause}
-use Rattle.ap_world.specs.World.{function_of}
-use Rattle.ap_kernel.specs.Reductions.{KnownClause, Reduces}
-use Rattle.ap_induct.specs.declared.found.Scheme.{Scheme}
+use Rattle.std.proofs.Common.{◌≡◌, ◌≤◌, Some, length, ap, arith, rules}
 use Rattle.ap_induct.specs.Choosing.{scheme_of}
 use Rattle.ap_induct.proofs.Followed.{scheme_few}
 use Rattle.ap_strategy.specs.Goals.{defs_of}
