@@ -377,8 +377,8 @@ x:y => Read error 12 BadPackage at 20
 (defthm a (equal '(a ,b) '(a ,b)) :rule-classes nil) => DEFTHM A / DEFTHM A refused 4.7 CommaOutside
 (defthm e nil :rule-classes nil) => DEFTHM E / Goal simplify 1 / Goal' empty / Checkpoints before induction / Goal': NIL / DEFTHM E refused 8.2 EmptyClause
 (defthm h2 (if (equal (equal x y) (equal z w)) (equal u v) nil) :rule-classes nil) => DEFTHM H2 / Goal simplify 2 / Subgoal 2 push *1 / Subgoal 1 push *2 / Revert / *1 noscheme / Checkpoints before induction / Subgoal 2: (OR (NOT (EQUAL (EQUAL X Y) (EQUAL Z W))) (EQUAL U V)) / Subgoal 1: (EQUAL (EQUAL X Y) (EQUAL Z W)) / DEFTHM H2 refused 8.1 NoScheme
-(defthm a (if x y z) :rule-classes nil) => DEFTHM A / Goal simplify 2 / Subgoal 2 push *1 / Subgoal 1 push *2 / Revert / *1 noscheme / Checkpoints before induction / Subgoal 2: (OR (NOT X) Y) / Subgoal 1: (OR X Z) / DEFTHM A refused 8.1 NoScheme
-(defthm a (implies (equal x (car y)) (consp x)) :rule-classes nil) => DEFTHM A / Goal simplify 1 / Goal' push *1 / *1 noscheme / Checkpoints before induction / Goal': (CONSP (CAR Y)) / DEFTHM A refused 8.1 NoScheme"##;
+(defthm a (if x y z) :rule-classes nil) => DEFTHM A / Goal simplify 2 / Subgoal 2 irrelevance 1 / Subgoal 2' push *1 / Subgoal 1 push *2 / Revert / *1 noscheme / Checkpoints before induction / Subgoal 2: (OR (NOT X) Y) / Subgoal 1: (OR X Z) / DEFTHM A refused 8.1 NoScheme
+(defthm a (implies (equal x (car y)) (consp x)) :rule-classes nil) => DEFTHM A / Goal simplify 1 / Goal' elim 2 / Subgoal 2 simplify 1 / Subgoal 2' push *1 / Subgoal 1 push *2 / Revert / *1 noscheme / Checkpoints before induction / Goal': (CONSP (CAR Y)) / DEFTHM A refused 8.1 NoScheme"##;
 
 /// What is admitted: events behind a book's first line, and the lines that they print.
 const ADMITTED: &str = r##"(defun f (x) x) => DEFUN F / DEFUN F admitted

@@ -25,7 +25,7 @@ const ROWS: &str =
 (WALK 14 (IF (EQUAL (EQUAL X Y) (EQUAL Z W)) (EQUAL U V) 'NIL) (SIMPLIFY 2 (OR (IF (EQUAL (EQUAL X Y) (EQUAL Z W)) (EQUAL U V) 'NIL))) (PUSH 0 (OR (NOT (EQUAL (EQUAL X Y) (EQUAL Z W))) (EQUAL U V))) (PUSH 0 (OR (EQUAL (EQUAL X Y) (EQUAL Z W))))) => Goal, Subgoal 2, Subgoal 1
 (WALK 9 'NIL (SIMPLIFY 1 (OR 'NIL)) (EMPTY 2 (OR))) => Goal, Goal'
 (WALK 9 (EQUAL X Y) (PUSH 0 (OR (EQUAL X Y)))) => Goal
-(WALK 11 (IF X (IF Y Z W) U) (SIMPLIFY 3 (OR (IF X (IF Y Z W) U))) (PUSH 0 (OR (NOT X) (NOT Y) Z)) (PUSH 0 (OR (NOT X) Y W)) (PUSH 0 (OR X U))) => Goal, Subgoal 3, Subgoal 2, Subgoal 1
+(WALK 11 (IF X (IF Y Z W) U) (SIMPLIFY 3 (OR (IF X (IF Y Z W) U))) (IRRELEVANCE 1 (OR (NOT X) (NOT Y) Z)) (PUSH 0 (OR Z)) (IRRELEVANCE 1 (OR (NOT X) Y W)) (PUSH 0 (OR Y W)) (PUSH 0 (OR X U))) => Goal, Subgoal 3, Subgoal 3', Subgoal 2, Subgoal 2', Subgoal 1
 (WALK 10 (IF X (IF Y Z W) U) (LIMITED 0 (OR (IF X (IF Y Z W) U)))) => Goal
 (WALK 9 (IF X (EQUAL Y Y) (IF X Z X)) (SIMPLIFY 1 (OR (IF X (EQUAL Y Y) (IF X Z X)))) (PUSH 0 (OR X))) => Goal, Goal'
 (WALK 9 (IMPLIES (NOT (NOT (EQUAL X (CONS Y Z)))) (IMPLIES (EQUAL W X) (CONSP W))) (SIMPLIFY 1 (OR (NOT (EQUAL X (CONS Y Z))) (NOT (EQUAL W X)) (CONSP W))) (SIMPLIFY 1 (OR (NOT (EQUAL W (CONS Y Z))) (CONSP W))) (SIMPLIFY 0 (OR (CONSP (CONS Y Z))))) => Goal, Goal', Goal''
@@ -55,6 +55,7 @@ fn root<'a>(alloc: Global, plan: &'a Plan, t: &Term) -> Result<Task<'a>, NoMemor
 fn kind(act: Act) -> &'static [u8] {
     match (act.process, act.missed, act.limited) {
         (Process::Simplify, false, false) => b"SIMPLIFY",
+        (Process::Irrelevance, true, false) => b"IRRELEVANCE",
         (Process::Push, true, false) => b"PUSH",
         (Process::Push, true, true) => b"LIMITED",
         (Process::Stop, true, false) => b"EMPTY",

@@ -73,7 +73,8 @@ where
     )
 }
 
-/// `(IF X (IF Y Z W) V)`, a conjecture that splits into three goals.
+/// `(IF X (IF Y Z W) V)`, a conjecture that splits into three goals, of which two have hypotheses that are
+/// irrelevant.
 fn conjecture(alloc: Global) -> Result<Term, NoMemory> {
     let inner = choice(
         alloc,
@@ -136,6 +137,6 @@ fn waterfall_elsewhere<R: Threads + Wait + Sync>(
 #[test]
 fn a_goal_is_walked_and_dropped_elsewhere(rt: HostRuntime) -> Result<(), Fail> {
     let plan = first_plan(rt.alloc())?;
-    assert!(rt; waterfall_elsewhere(&rt, rt.alloc(), &plan)? == 4);
+    assert!(rt; waterfall_elsewhere(&rt, rt.alloc(), &plan)? == 6);
     Ok(())
 }
