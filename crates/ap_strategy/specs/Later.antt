@@ -62,11 +62,11 @@ pub record Makes (D : Defs) (c : Clause) (ds : List Clause) : Type 0 where
   pub follows : Follows D (reduced_to c ds)
 
 elim_makes : (D : Defs) → Total D → HasGround D → (h : ShownTheory) (c : Clause) (i : Inference) → KnownClause D c → elim_made h c ≡ Some i → Makes D c i.to
-elim_makes D total ground h c i k e =
+elim_makes D total grounded h c i k e =
     let (p, found, made) = then_some (taken h c.0) (λ (p : Symbol × Symbol × Symbol). Some (eliminated c p.0 p.1 p.2)) i e in
     let same : eliminated c p.0 p.1 p.2 ≡ i = cc in
     let new = taken_are_new h c.0 p found in
-    let by : Follows D (eliminated c p.0 p.1 p.2) = eliminated_follows D total ground c p.0 p.1 p.2 k new.first new.second new.apart in
+    let by : Follows D (eliminated c p.0 p.1 p.2) = eliminated_follows D total grounded c p.0 p.1 p.2 k new.first new.second new.apart in
     let made : Makes D c (eliminated c p.0 p.1 p.2).to = record { few = few p; follows = by } in
     subst (λ (j : Inference). Makes D c j.to) {x = eliminated c p.0 p.1 p.2} same made
   where
@@ -84,8 +84,8 @@ one_made D c i l = record {
 
 pub later_makes : (g : Goal) → HasGround (defs_of g.plan) → HasFunctions (defs_of g.plan) → Sound g.plan.world.entries → KnownClause (defs_of g.plan) g.clause → (p : Process × List Clause) → later g ≡ Some p
     → Makes (defs_of g.plan) g.clause p.1
-later_makes g ground functions sound k p e =
-    of_later g (λ p. Makes (defs_of g.plan) g.clause p.1) (λ i q. elim_makes (defs_of g.plan) sound.total ground g.settings.theory g.clause i k q)
-    (λ i q. one_made (defs_of g.plan) g.clause i (fertilize_follows (defs_of g.plan) sound.total ground g.clause k i q))
-    (λ i q. one_made (defs_of g.plan) g.clause i (generalize_follows g.plan.world sound.total functions (λ t kt. types_mask g.plan.world sound ground [] t tt kt) g.clause k i q))
+later_makes g grounded functions sound k p e =
+    of_later g (λ p. Makes (defs_of g.plan) g.clause p.1) (λ i q. elim_makes (defs_of g.plan) sound.total grounded g.settings.theory g.clause i k q)
+    (λ i q. one_made (defs_of g.plan) g.clause i (fertilize_follows (defs_of g.plan) sound.total grounded g.clause k i q))
+    (λ i q. one_made (defs_of g.plan) g.clause i (generalize_follows g.plan.world sound.total functions (λ t kt. types_mask g.plan.world sound grounded [] t tt kt) g.clause k i q))
     (λ i q. one_made (defs_of g.plan) g.clause i (irrelevance_follows (defs_of g.plan) sound.total g.clause k i q)) p e

@@ -136,8 +136,8 @@ module _ (g : Goal) (functions : HasFunctions (defs_of g.plan)) (sound : Sound g
 -- what the goal's literals are rewritten by is right
 setting_is_sound : (g : Goal) → HasFunctions (defs_of g.plan) → Sound g.plan.world.entries → are_distinct g.plan.world.entries ≡ true → SoundSetting (setting_of g)
 setting_is_sound g functions sound distinct =
-    let ground = kernel_ground (defs_of g.plan) functions in
-    sound_setting g.plan.world g.settings.theory g.settings.expand (arithmetic_in g.plan.world g.settings.theory) sound ground distinct (worlds_sound g.plan.world g.settings.theory sound ground)
+    let grounded = kernel_ground (defs_of g.plan) functions in
+    sound_setting g.plan.world g.settings.theory g.settings.expand (arithmetic_in g.plan.world g.settings.theory) sound grounded distinct (worlds_sound g.plan.world g.settings.theory sound grounded)
 
 split_good : (g : Goal) (ds : List Clause) → simplified (setting_of g) g.plan.step_limit g.clause ≡ Some ds → Each IsGood (children g ds) → IsGood g
 split_good g ds q gs functions sound distinct k given =
