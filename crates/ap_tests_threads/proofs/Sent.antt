@@ -22,6 +22,8 @@ use Rattle.ap_world.specs.contracts.theory.Rune as rune
 use Rattle.ap_world.specs.contracts.theory.Theory as theory
 use Rattle.ap_world.specs.contracts.world.World as world
 use Rattle.ap_rules.specs.contracts.rule.RewriteRule as rule
+use Rattle.ap_rules.specs.contracts.linear.LinearRule as linear_rule
+use Rattle.ap_rules.specs.contracts.linears.Linears as linears
 use Rattle.ap_rules.specs.contracts.group.Group as group
 use Rattle.ap_rules.specs.contracts.table.Groups as groups
 use Rattle.ap_rules.specs.contracts.table.RuleIndex as index
@@ -149,11 +151,17 @@ group_send t = let r = rule_send t in search (sendable, crosses) depth 40 fits 1
 groups_send : IsSend term.the_row → IsSend groups.the_row
 groups_send t = let g = group_send t in search (sendable, crosses, symbol_send) depth 40 fits 100000
 
+linear_rule_send : IsSend term.the_row → IsSend linear_rule.the_row
+linear_rule_send t = declared_send linear_rule.the_type (symbol_send, (search (sendable, crosses) depth 40, (t, (t, (search (sendable, crosses) depth 40, (seq_send _ t, tt))))))
+
+linears_send : IsSend term.the_row → IsSend linears.the_row
+linears_send t = let r = linear_rule_send t in search (sendable, crosses, symbol_send, seq_send) depth 40 fits 100000
+
 index_send : IsSend term.the_row → IsSend index.the_row
-index_send t = declared_send index.the_type (groups_send t, tt)
+index_send t = declared_send index.the_type (groups_send t, (linears_send t, tt))
 
 carrier_send : IsSend term.the_row → IsSend carrier.the_row
-carrier_send t = declared_send carrier.the_type (index_send t, (seq_send _ symbol_send, (search (sendable, crosses, seq_send) depth 40 fits 100000, tt)))
+carrier_send t = declared_send carrier.the_type (index_send t, (seq_send _ symbol_send, (search (sendable, crosses, seq_send) depth 40 fits 100000, (search (sendable, crosses, seq_send) depth 40 fits 100000, tt))))
 
 ruled_send : IsSend term.the_row → IsSend value.the_row → IsSend ruled.the_row
 ruled_send t v =
@@ -169,11 +177,17 @@ group_sync t = let r = rule_sync t in search (sendable, crosses) depth 40 fits 1
 groups_sync : IsSync term.the_row → IsSync groups.the_row
 groups_sync t = let g = group_sync t in search (sendable, crosses, symbol_sync) depth 40 fits 100000
 
+linear_rule_sync : IsSync term.the_row → IsSync linear_rule.the_row
+linear_rule_sync t = declared_sync linear_rule.the_type (symbol_sync, (search (sendable, crosses) depth 40, (t, (t, (search (sendable, crosses) depth 40, (seq_sync _ t, tt))))))
+
+linears_sync : IsSync term.the_row → IsSync linears.the_row
+linears_sync t = let r = linear_rule_sync t in search (sendable, crosses, symbol_sync, seq_sync) depth 40 fits 100000
+
 index_sync : IsSync term.the_row → IsSync index.the_row
-index_sync t = declared_sync index.the_type (groups_sync t, tt)
+index_sync t = declared_sync index.the_type (groups_sync t, (linears_sync t, tt))
 
 carrier_sync : IsSync term.the_row → IsSync carrier.the_row
-carrier_sync t = declared_sync carrier.the_type (index_sync t, (seq_sync _ symbol_sync, (search (sendable, crosses, seq_sync) depth 40 fits 100000, tt)))
+carrier_sync t = declared_sync carrier.the_type (index_sync t, (seq_sync _ symbol_sync, (search (sendable, crosses, seq_sync) depth 40 fits 100000, (search (sendable, crosses, seq_sync) depth 40 fits 100000, tt))))
 
 ruled_sync : IsSync term.the_row → IsSync value.the_row → IsSync ruled.the_row
 ruled_sync t v =
