@@ -451,12 +451,12 @@ fn prints_each(
 
 #[test]
 fn each_fault_and_refusal_is_printed(rt: HostRuntime) -> Result<(), Fail> {
-    prints_each(&rt, rt.alloc(), REFUSED, "Book b not certified\n", 103)
+    prints_each(&rt, rt.alloc(), REFUSED, "Book b not certified\n", 106)
 }
 
 #[test]
 fn what_is_admitted_is_printed(rt: HostRuntime) -> Result<(), Fail> {
-    prints_each(&rt, rt.alloc(), ADMITTED, "Book b certified\n", 21)
+    prints_each(&rt, rt.alloc(), ADMITTED, "Book b certified\n", 22)
 }
 
 #[test]
