@@ -30,7 +30,8 @@ use Rattle.ap_strategy.specs.declared.plan.Plan.{Plan}
 use Rattle.ap_events.specs.declared.limits.Limits.{Limits}
 use Rattle.ap_events.specs.declared.attempting.Tried.{Tried}
 use Rattle.ap_events.specs.declared.owing.Owing.{Owing}
-use Rattle.ap_events.specs.Shapes.{Defined, symbol_at, is_given}
+use Rattle.ap_hints.specs.Forms.{symbol_at}
+use Rattle.ap_events.specs.Shapes.{Defined, is_given}
 use Rattle.ap_events.specs.Attempts.{tried_clause, plan_for}
 use Rattle.ap_events.specs.Texts.{event_text, translation_text, termination_text, failure_text, measure_line, obligation_line}
 use Rattle.ap_events.specs.Ends.{Step, refused_event, not_supported, bad_event, admitted}

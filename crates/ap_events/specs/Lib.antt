@@ -9,7 +9,6 @@ pub mod Events
 pub mod Limits
 pub mod Lines
 pub mod Prepared
-pub mod Runes
 pub mod Shapes
 pub mod Texts
 pub mod Theorems

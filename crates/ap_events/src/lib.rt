@@ -18,7 +18,6 @@ mod limits;
 mod lines;
 mod owing;
 mod prover;
-mod runes;
 mod shapes;
 mod taken;
 mod texts;

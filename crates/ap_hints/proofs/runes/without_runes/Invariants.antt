@@ -1,6 +1,6 @@
 use Rattle.std.proofs.Common.{◌≡◌, ◌++◌, drop}
-use Rattle.ap_events.specs.Runes.{without_runes}
-use Rattle.ap_events.proofs.runes.without_runes.Given as goal
+use Rattle.ap_hints.specs.Runes.{without_runes}
+use Rattle.ap_hints.proofs.runes.without_runes.Given as goal
 
 -- the runes so far stand before those of the ones that are left
 abbrev pub invariant-loop-rune : goal.invariant-loop-rune

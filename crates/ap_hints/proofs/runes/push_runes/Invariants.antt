@@ -1,6 +1,6 @@
 use Rattle.std.proofs.Common.{◌≡◌, drop}
-use Rattle.ap_events.specs.Runes.{with_runes}
-use Rattle.ap_events.proofs.runes.push_runes.Given as goal
+use Rattle.ap_hints.specs.Runes.{with_runes}
+use Rattle.ap_hints.proofs.runes.push_runes.Given as goal
 
 -- with what is left it comes to the same
 abbrev pub invariant-loop-rune : goal.invariant-loop-rune

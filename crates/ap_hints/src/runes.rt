@@ -4,7 +4,7 @@ ghost use Rattle.std.specs.Option.{option_copied};
 ghost use Rattle.ap_list.specs.Lists.{is_among};
 ghost use Rattle.ap_world.specs.Theories.{rune_of, rune_eq};
 ghost use Rattle.ap_world.specs.declared.theory.Rune.TheVariants as rune;
-ghost use Rattle.ap_events.specs.Runes.{class_kind, class_rune, runes_by, runes_named, is_of_function, has_class, knows_by, knows_kind, with_runes, without_runes, changed_runes};
+ghost use Rattle.ap_hints.specs.Runes.{class_kind, class_rune, runes_by, runes_named, is_of_function, has_class, knows_by, knows_kind, with_runes, without_runes, changed_runes};
 
 use ap_list::{NoMemory, Seq};
 use ap_term::is_symbol;

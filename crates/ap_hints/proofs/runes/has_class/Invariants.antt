@@ -1,6 +1,6 @@
 use Rattle.std.proofs.Common.{◌≡◌, length}
-use Rattle.ap_events.specs.Runes.{has_class}
-use Rattle.ap_events.proofs.runes.has_class.Given as goal
+use Rattle.ap_hints.specs.Runes.{has_class}
+use Rattle.ap_hints.proofs.runes.has_class.Given as goal
 
 -- what is left tells
 abbrev pub invariant-loop-left : goal.invariant-loop-left

@@ -1,7 +1,7 @@
 use Rattle.std.proofs.Common.{◌≡◌, drop, Some}
-use Rattle.ap_events.specs.Shapes.{both}
-use Rattle.ap_events.specs.Changes.{then_runes, all_runes}
-use Rattle.ap_events.proofs.changes.all_runes.Given as goal
+use Rattle.ap_hints.specs.Forms.{both}
+use Rattle.ap_hints.specs.Changes.{then_runes, all_runes}
+use Rattle.ap_hints.proofs.changes.all_runes.Given as goal
 
 -- the runes so far stand before those of the forms that are left
 abbrev pub invariant-loop-form : goal.invariant-loop-form

@@ -1,6 +1,6 @@
 use Rattle.std.proofs.Common.{◌≡◌, map, drop}
-use Rattle.ap_events.specs.Shapes.{any_keyword}
-use Rattle.ap_events.proofs.forms.is_any_keyword.Given as goal
+use Rattle.ap_hints.specs.Forms.{any_keyword}
+use Rattle.ap_hints.proofs.forms.is_any_keyword.Given as goal
 
 -- what is left of the names tells
 abbrev pub invariant-loop-name : goal.invariant-loop-name

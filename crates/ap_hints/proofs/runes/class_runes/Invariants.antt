@@ -1,6 +1,6 @@
 use Rattle.std.proofs.Common.{◌≡◌, map, take}
-use Rattle.ap_events.specs.Runes.{class_rune}
-use Rattle.ap_events.proofs.runes.class_runes.Given as goal
+use Rattle.ap_hints.specs.Runes.{class_rune}
+use Rattle.ap_hints.proofs.runes.class_runes.Given as goal
 
 -- the runes so far
 abbrev pub invariant-loop-class : goal.invariant-loop-class
