@@ -6,6 +6,7 @@ pub mod Constants
 pub mod Definitions
 pub mod Ends
 pub mod Events
+pub mod Hinting
 pub mod Limits
 pub mod Lines
 pub mod Prepared

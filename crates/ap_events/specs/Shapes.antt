@@ -58,10 +58,6 @@ given n [] = []
 given n (k ∷ []) = []
 given n (k ∷ v ∷ fs) = cond (is_keyword n k) (v ∷ given n fs) (given n fs)
 
-abbrev pub is_given : Option Form → Bool
-is_given None = false
-is_given (Some f) = true
-
 -- what is there, as a list
 abbrev pub in_list : {A : Type 0} → Option A → List A
 in_list None = []
@@ -93,17 +89,17 @@ abbrev pub none_or : (Form → Bool) → Option Form → Bool
 none_or good None = true
 none_or good (Some f) = good f
 
--- what follows a theorem's term: its classes, if they are given, and whether hints are
+-- what follows a theorem's term: its classes and its hints, if they are given
 pub record Chosen : Type 0 where
   pub classes : Option Form
-  pub hinted : Bool
+  pub hints : Option Form
 
 abbrev pub as_chosen : Choices → Chosen
-as_chosen c = record { classes = option_map (λ f. f.now) c.classes; hinted = c.hinted }
+as_chosen c = record { classes = option_map (λ f. f.now) c.classes; hints = option_map (λ f. f.now) c.hints }
 
 -- None: it isn't of the shape
 abbrev pub chosen_by : Option Form → Option Form → Option Chosen
-chosen_by classes hints = cond (none_or are_classes classes) (Some (record { classes = classes; hinted = is_given hints })) None
+chosen_by classes hints = cond (none_or are_classes classes) (Some (record { classes = classes; hints = hints })) None
 
 abbrev pub chosen_of : List Form → Option Chosen
 chosen_of fs =

@@ -101,12 +101,11 @@ fn are_classes_if_given(classes: Option<&Form>) -> bool
 #[derive(Clone, Copy)]
 pub struct Choices<'a> {
     pub classes: Option<&'a Form>,
-    /// `:hints` are given.
-    pub hinted: bool,
+    pub hints: Option<&'a Form>,
 }
 
-/// What follows a theorem's term: its classes, if they are given, and whether hints are; `None` where it isn't
-/// of the shape.
+/// What follows a theorem's term: its classes and its hints, if they are given; `None` where it isn't of the
+/// shape. What the hints say isn't looked at.
 fn chosen(options: &[Form]) -> Option<Choices<'_>>
     ensures { option_map as_chosen result ≡ chosen_of options.now }
 {
@@ -116,10 +115,7 @@ fn chosen(options: &[Form]) -> Option<Choices<'_>>
     let classes = given(b"RULE-CLASSES", options)?;
     let hints = given(b"HINTS", options)?;
     if are_classes_if_given(classes) {
-        Some(Choices {
-            classes,
-            hinted: hints.is_some(),
-        })
+        Some(Choices { classes, hints })
     } else {
         None
     }

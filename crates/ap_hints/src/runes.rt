@@ -88,7 +88,7 @@ fn runes_by(
 }
 
 /// The runes that a name stands for, or `None` where it is unknown.
-pub(crate) fn runes_named(
+pub fn runes_named(
     alloc: Global,
     w: &World,
     name: &Symbol,
@@ -198,7 +198,7 @@ fn push_runes(alloc: Global, list: &mut Seq<Rune>, runes: &[Rune]) -> Result<(),
 }
 
 /// A theory in which runes are enabled, and then others are disabled.
-pub(crate) fn changed_runes(
+pub fn changed_runes(
     alloc: Global,
     enabled: &[Rune],
     disabled: &[Rune],
