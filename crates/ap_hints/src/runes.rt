@@ -88,11 +88,7 @@ fn runes_by(
 }
 
 /// The runes that a name stands for, or `None` where it is unknown.
-pub fn runes_named(
-    alloc: Global,
-    w: &World,
-    name: &Symbol,
-) -> Result<Option<Seq<Rune>>, NoMemory>
+pub fn runes_named(alloc: Global, w: &World, name: &Symbol) -> Result<Option<Seq<Rune>>, NoMemory>
     ensures { IfOk result (λ o. o ≡ runes_named w.now.entries name.now) }
 {
     runes_by(alloc, name, w.lookup_fun(name), w.lookup_thm(name))
