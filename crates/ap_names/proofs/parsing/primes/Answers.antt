@@ -1,0 +1,1 @@
+use Rattle.ap_names.proofs.parsing.primes.Goals as goal
