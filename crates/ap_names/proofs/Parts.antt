@@ -1,8 +1,10 @@
 -- How the parts of a name are read: the digits at the head of a text, the number that they are, and
 -- the numbers with dots.
-use Rattle.std.proofs.Common.{◌≡◌, ◌≢◌, ℕ, Option, Some, None, zero, suc, Result, Ok, Err, MatchOption, nat_lt, if◌then◌else◌, length, get_or, take, lit<, ◌+◌, ◌^◌, ◌<◌, ◌≤◌, List, [], ◌∷◌, ◌++◌, refl, sym, ap, ◌∙◌, arith, decimal, codes, replicate}
+use Rattle.std.proofs.Common.{◌≡◌, ℕ, Option, Some, None, zero, suc, Result, Ok, Err, MatchOption, Bool, true, false, nat_lt, length, get_or, take, ◌^◌, ◌<◌, ◌≤◌, List, [], ◌∷◌, ◌++◌, refl, sym, ap, ◌∙◌, arith, decimal, codes, replicate}
 use mathlib.Core.List.{append_assoc, append-nil}
+use Rattle.std.proofs.lemmas.Bool.{ltb-true, ltb-false}
 use Rattle.std.proofs.lemmas.Bool.Decides.{nat_tests}
+use Rattle.std.proofs.lemmas.List.{length-replicate}
 use Rattle.std.proofs.lemmas.Fmt.{IsAscii-decimal, decimal-digits_value, decimal_digit, decimal_injective, decimal_nonempty, first_decimal, parse-decimal}
 use Rattle.std.proofs.lemmas.Str.{IsUtf8-from_ascii}
 use Rattle.std.proofs.lemmas.Str.Parse.{IsNumeralModel, numerals_by_value, tells_digits, parse_plain}
@@ -12,7 +14,7 @@ use Rattle.std.specs.Str.Parse.{AllDigits, digits_value, ParsesUnsigned}
 use Rattle.ap_list.specs.Lists.{Each}
 use Rattle.ap_names.specs.Names.{IsCount}
 use Rattle.ap_names.specs.Printed.{dotted, primes_text}
-use Rattle.ap_names.specs.Reads.{IsDigit, EndsNumber, EndsNumbers, IsNumbers, numbered, IsWhole, IsHead, HasNoHead, IsNumberHead, HasNoNumber, IsNumbersHead, HasNoNumbers, AddsDotted, HasNoDotted, BeginsWithout}
+use Rattle.ap_names.specs.Reads.{IsDigit, EndsNumber, EndsNumbers, IsNumbers, numbered, IsWhole, IsNumberHead, HasNoNumber, IsNumbersHead, HasNoNumbers, AddsDotted, HasNoDotted, BeginsWithout}
 use Rattle.ap_names.proofs.OneReading.{digits_decimal, digits_apart, each-append, dotted-cons, ends-dotted}
 
 -- a number's first digit isn't 0
@@ -176,10 +178,6 @@ numbers_then text k rest before head e numbers left (Some p) more =
     let added : AddsDotted (k ∷ []) rest (numbers p) (left p) = rw e at more in
     all_numbers text k rest (numbers p) (left p) head added
 
-pub no_bytes : (text : List ℕ) → length text ≡ 0 → text ≡ []
-no_bytes [] e = refl
-no_bytes (c ∷ cs) e = absurd (omega arith)
-
 -- up to three primes print as themselves
 pub few_primes : (n : ℕ) → n < 4 → primes_text n ≡ replicate n 39
 unfolding primes_text
@@ -189,3 +187,28 @@ few_primes n h = grind (arith, nat_tests)
 pub many_primes : (n : ℕ) → 4 ≤ n → primes_text n ≡ codes "'" ++ decimal n ++ codes "'"
 unfolding primes_text
 many_primes n h = grind (arith, nat_tests)
+
+few_taken : (n : ℕ) → n < 4 → replicate {A = ℕ} n 39 ≡ take n (39 ∷ 39 ∷ 39 ∷ [])
+few_taken zero h = refl
+few_taken (suc zero) h = refl
+few_taken (suc (suc zero)) h = refl
+few_taken (suc (suc (suc zero))) h = refl
+few_taken (suc (suc (suc (suc n)))) h = absurd (omega arith)
+
+-- a text of up to three primes
+pub read_few : (text : List ℕ) → length text < 4 → text ≡ take (length text) (39 ∷ 39 ∷ 39 ∷ []) → IsWhole (λ n. n < 2 ^ 32) primes_text text (Some (length text))
+read_few text h e = (omega arith, e ∙ sym (few_taken (length text) h) ∙ sym (few_primes (length text) h))
+
+-- and any other
+pub read_many : (text : List ℕ) → (length text < 4 → text ≡ take (length text) (39 ∷ 39 ∷ 39 ∷ []) → ⊥) → (o : Option ℕ)
+    → IsWhole (λ n. (4 ≤ n) × (n < 2 ^ 32)) (λ n. codes "'" ++ decimal n ++ codes "'") text o → IsWhole (λ n. n < 2 ^ 32) primes_text text o
+read_many text many (Some n) h = (h.0.1, h.1 ∙ sym (many_primes n h.0.0))
+read_many text many None h = λ n small e. by n small e (nat_lt n 4) refl
+  where
+    by : (n : ℕ) → n < 2 ^ 32 → text ≡ primes_text n → (b : Bool) → nat_lt n 4 ≡ b → ⊥
+    by n small e true t =
+        let few : n < 4 = ltb-true n 4 t in
+        let repeated : text ≡ replicate n 39 = e ∙ few_primes n few in
+        let len : length text ≡ n = ap length repeated ∙ length-replicate n 39 in
+        many (omega (arith, len, few)) (repeated ∙ few_taken n few ∙ ap (λ m. take m (39 ∷ 39 ∷ 39 ∷ [])) (sym len))
+    by n small e false t = let large : 4 ≤ n = ltb-false n 4 t in h n (large, small) (e ∙ many_primes n large)

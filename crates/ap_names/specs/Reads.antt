@@ -1,5 +1,5 @@
 -- What the parts of a printed name are read as: from a whole text, or from the head of one.
-use Rattle.std.specs.Prelude.{ℕ, ◌+◌, ◌<◌, ◌≤◌, ◌≡◌, List, [], ◌∷◌, ◌++◌, Option, Some, None, decimal}
+use Rattle.std.specs.Prelude.{ℕ, ◌<◌, ◌≤◌, ◌≡◌, List, [], ◌∷◌, ◌++◌, Option, Some, None, decimal}
 use Rattle.std.specs.Str.{str_to_ascii_lowercase}
 use Rattle.ap_list.specs.Lists.{Each}
 use Rattle.ap_names.specs.Names.{Name, IsCount}

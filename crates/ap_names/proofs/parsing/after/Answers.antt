@@ -1,4 +1,4 @@
-use Rattle.std.proofs.Common.{◌≡◌, Bool, true, false, refl}
+use Rattle.std.proofs.Common.{◌≡◌, true, false, refl}
 use Rattle.ap_names.proofs.Named.{after_front, not_after_front, joined_split}
 use Rattle.ap_names.proofs.parsing.after.Goals as goal
 

@@ -1,4 +1,4 @@
-use Rattle.std.proofs.Common.{arith, ◌≡◌, length}
+use Rattle.std.proofs.Common.{arith}
 use Rattle.std.specs.Str.Parse.{ParsesUnsigned}
 use Rattle.ap_names.proofs.Parts.{no_count_in_nothing, not_begun, not_utf8, parsed_text}
 use Rattle.ap_names.proofs.parsing.count_of.Goals as goal
