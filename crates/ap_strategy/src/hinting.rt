@@ -6,7 +6,7 @@ ghost use Rattle.ap_world.specs.World.{function_of, theorem_of};
 ghost use Rattle.ap_hints.specs.Known.{KnownUse, KnownHint};
 ghost use Rattle.ap_kernel.specs.Standing.{HasGround};
 ghost use Rattle.ap_kernel.specs.Reductions.{KnownClause};
-ghost use Rattle.ap_strategy.specs.Goals.{hint_for, with_hint, scheme_by};
+ghost use Rattle.ap_strategy.specs.Goals.{hint_among, hint_for, with_hint, scheme_by};
 ghost use Rattle.ap_strategy.specs.Steps.{makes_goals, used_in, used_all, hint_goals};
 
 use crate::clauses::copy_scheme;
@@ -20,16 +20,23 @@ use ap_value::Symbol;
 use ap_world::{Theory, World, copy_theory};
 use std::alloc::Global;
 
-/// The hint of a name. Takes no memory.
-pub(crate) fn hint_for<'a>(plan: &'a Plan, name: &GoalName) -> Option<&'a Hint>
-    ensures { option_copied result ≡ hint_for plan.now name.now }
+/// The first of some hints that is for a name. Takes no memory.
+fn hint_among<'a>(hints: &'a [Hint], name: &GoalName) -> Option<&'a Hint>
+    ensures { option_copied result ≡ hint_among hints.now name.now }
 {
-    for hint in plan.hints.list.as_slice() {
+    for hint in hints {
         if same_name(&hint.goal, name) {
             return Some(hint);
         }
     }
     None
+}
+
+/// The hint of a name. Takes no memory.
+pub(crate) fn hint_for<'a>(plan: &'a Plan, name: &GoalName) -> Option<&'a Hint>
+    ensures { option_copied result ≡ hint_for plan.now name.now }
+{
+    hint_among(plan.hints.list.as_slice(), name)
 }
 
 /// The theory that a hint says, or else the one that holds. Takes no memory.
