@@ -231,7 +231,7 @@ fn hinted(
     w: Ruled,
     d: Defun,
     m: Measure,
-    hints: Option<&Form>,
+    given: Option<&Form>,
     limits: &Limits,
 ) -> Result<RuledEnd, NoMemory>
     requires functions { HasFunctions (function_of w.entries) }
@@ -239,10 +239,10 @@ fn hinted(
     requires prepared { IsPrepared w.entries d }
     requires recurs { has_no_call d.name d.body ≡ false }
     requires measure { measure_of d ≡ Some m.0 }
-    ensures step { IfOk result (λ e. step_in e ≡ hinted_definition limits.now w d m (given_hints w (option_map (λ f. f.now) hints.entry))) }
+    ensures step { IfOk result (λ e. step_in e ≡ hinted_definition limits.now w d m (given_hints w (option_map (λ f. f.now) given.entry))) }
     ensures follows { IfOk result (λ e. Follows w e) }
 {
-    match given_hints(alloc, &w, hints)? {
+    match given_hints(alloc, &w, given)? {
         Ok(hints) => owing(alloc, w, d, m, hints, limits),
         Err(error) => refused(alloc, w, &d.name, b"", texts::hint(error)),
     }
@@ -268,18 +268,18 @@ fn measured(
     alloc: Global,
     w: Ruled,
     d: Defun,
-    hints: Option<&Form>,
+    given: Option<&Form>,
     limits: &Limits,
 ) -> Result<RuledEnd, NoMemory>
     requires functions { HasFunctions (function_of w.entries) }
     requires free { has_name w.entries d.name ≡ false }
     requires prepared { IsPrepared w.entries d }
     requires recurs { has_no_call d.name d.body ≡ false }
-    ensures step { IfOk result (λ e. step_in e ≡ measured_definition limits.now w d (option_map (λ f. f.now) hints.entry) (measure_of d)) }
+    ensures step { IfOk result (λ e. step_in e ≡ measured_definition limits.now w d (option_map (λ f. f.now) given.entry) (measure_of d)) }
     ensures follows { IfOk result (λ e. Follows w e) }
 {
     match measure(alloc, &w, &d)? {
-        Ok(m) => hinted(alloc, w, d, m, hints, limits),
+        Ok(m) => hinted(alloc, w, d, m, given, limits),
         Err(error) => refused(alloc, w, &d.name, b"", texts::termination(error)),
     }
 }
@@ -290,16 +290,16 @@ fn plain_hinted(
     alloc: Global,
     w: Ruled,
     d: Defun,
-    hints: Option<&Form>,
+    given: Option<&Form>,
 ) -> Result<RuledEnd, NoMemory>
     requires functions { HasFunctions (function_of w.entries) }
     requires free { has_name w.entries d.name ≡ false }
     requires prepared { IsPrepared w.entries d }
     requires plain { has_no_call d.name d.body ≡ true }
-    ensures step { IfOk result (λ e. step_in e ≡ plain_definition w d (given_hints w (option_map (λ f. f.now) hints.entry))) }
+    ensures step { IfOk result (λ e. step_in e ≡ plain_definition w d (given_hints w (option_map (λ f. f.now) given.entry))) }
     ensures follows { IfOk result (λ e. Follows w e) }
 {
-    match given_hints(alloc, &w, hints)? {
+    match given_hints(alloc, &w, given)? {
         Ok(_) => admit_plain(alloc, w, d),
         Err(error) => refused(alloc, w, &d.name, b"", texts::hint(error)),
     }
@@ -311,19 +311,19 @@ fn admitted(
     alloc: Global,
     w: Ruled,
     d: Defun,
-    hints: Option<&Form>,
+    given: Option<&Form>,
     limits: &Limits,
 ) -> Result<RuledEnd, NoMemory>
     requires functions { HasFunctions (function_of w.entries) }
     requires free { has_name w.entries d.name ≡ false }
     requires prepared { IsPrepared w.entries d }
-    ensures step { IfOk result (λ e. step_in e ≡ admitted_definition limits.now w d (option_map (λ f. f.now) hints.entry)) }
+    ensures step { IfOk result (λ e. step_in e ≡ admitted_definition limits.now w d (option_map (λ f. f.now) given.entry)) }
     ensures follows { IfOk result (λ e. Follows w e) }
 {
     if has_no_call(&d.name, &d.body) {
-        plain_hinted(alloc, w, d, hints)
+        plain_hinted(alloc, w, d, given)
     } else {
-        measured(alloc, w, d, hints, limits)
+        measured(alloc, w, d, given, limits)
     }
 }
 

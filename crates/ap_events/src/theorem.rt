@@ -171,16 +171,16 @@ fn hinted(
     alloc: Global,
     w: Ruled,
     theorem: Theorem,
-    hints: Option<&Form>,
+    given: Option<&Form>,
     limits: &Limits,
 ) -> Result<RuledEnd, NoMemory>
     requires functions { HasFunctions (function_of w.entries) }
     requires free { has_name w.entries theorem.name ≡ false }
     requires known { IsTrue (known (function_of w.entries) theorem.term) }
-    ensures step { IfOk result (λ e. step_in e ≡ hinted_theorem limits.now w theorem (given_hints w (option_map (λ f. f.now) hints.entry))) }
+    ensures step { IfOk result (λ e. step_in e ≡ hinted_theorem limits.now w theorem (given_hints w (option_map (λ f. f.now) given.entry))) }
     ensures follows { IfOk result (λ e. Follows w e) }
 {
-    match given_hints(alloc, &w, hints)? {
+    match given_hints(alloc, &w, given)? {
         Ok(hints) => tried(alloc, w, theorem, hints, limits),
         Err(error) => refused(alloc, w, &theorem.name, b"", texts::hint(error)),
     }
@@ -203,18 +203,18 @@ fn ruled(
     alloc: Global,
     w: Ruled,
     theorem: Theorem,
-    hints: Option<&Form>,
+    given: Option<&Form>,
     limits: &Limits,
 ) -> Result<RuledEnd, NoMemory>
     requires functions { HasFunctions (function_of w.entries) }
     requires free { has_name w.entries theorem.name ≡ false }
     requires known { IsTrue (known (function_of w.entries) theorem.term) }
-    ensures step { IfOk result (λ e. step_in e ≡ judged_theorem limits.now w theorem (option_map (λ f. f.now) hints.entry)) }
+    ensures step { IfOk result (λ e. step_in e ≡ judged_theorem limits.now w theorem (option_map (λ f. f.now) given.entry)) }
     ensures follows { IfOk result (λ e. Follows w e) }
 {
     match rule_refusal(alloc, &theorem)? {
         Some(error) => refused(alloc, w, &theorem.name, b"", texts::rule(error)),
-        None => hinted(alloc, w, theorem, hints, limits),
+        None => hinted(alloc, w, theorem, given, limits),
     }
 }
 
