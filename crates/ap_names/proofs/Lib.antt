@@ -1,3 +1,4 @@
 pub mod OneReading
 pub mod Parts
 pub mod Named
+pub mod Read

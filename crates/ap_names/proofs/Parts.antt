@@ -17,6 +17,9 @@ use Rattle.ap_names.specs.Printed.{dotted, primes_text}
 use Rattle.ap_names.specs.Reads.{IsDigit, EndsNumber, EndsNumbers, IsNumbers, numbered, IsWhole, IsNumberHead, HasNoNumber, IsNumbersHead, HasNoNumbers, AddsDotted, HasNoDotted, BeginsWithout}
 use Rattle.ap_names.proofs.OneReading.{digits_decimal, digits_apart, each-append, dotted-cons, ends-dotted}
 
+pub false_true : false ≡ true → ⊥
+false_true h = cc
+
 -- a number's first digit isn't 0
 pub begins_count : (k : ℕ) → IsCount k → (c : ℕ) (cs : List ℕ) → c ∷ cs ≡ decimal k → (49 ≤ c) × (c ≤ 57)
 begins_count k h c cs = by (decimal k) (digits_decimal k (omega arith)) (first_decimal k (omega arith) (omega arith))
@@ -90,9 +93,6 @@ pub record Reading (before text numbers rest ks : List ℕ) : Type 0 where
   pub counts : Each IsCount ks
   pub done : text ≡ dotted ks ++ rest
   pub left : (b t : List ℕ) → Each IsCount b → EndsNumbers t → text ≡ dotted b ++ t → Left b t ks rest
-
-pub begun : (before text : List ℕ) → Reading before text before text []
-begun before text = record { added = sym (append-nil before); counts = tt; done = refl; left = λ b t p u e. (b, (p, (refl, e))) }
 
 -- no dot follows: all is read
 pub ended : (before text numbers rest ks : List ℕ) → Reading before text numbers rest ks → BeginsWithout 46 rest → AddsDotted before text numbers rest

@@ -1,9 +1,7 @@
-use Rattle.std.proofs.Common.{◌≡◌, true, false, refl}
+use Rattle.std.proofs.Common.{refl}
 use Rattle.ap_names.proofs.Named.{after_front, not_after_front, joined_split}
+use Rattle.ap_names.proofs.Parts.{false_true}
 use Rattle.ap_names.proofs.parsing.after.Goals as goal
-
-false_true : false ≡ true → ⊥
-false_true h = cc
 
 pub returns-then-eq_ignore_ascii_case : goal.returns-then-eq_ignore_ascii_case
 returns-then-eq_ignore_ascii_case c =

@@ -1,13 +1,10 @@
-use Rattle.std.proofs.Common.{◌≡◌, true, false, arith, refl}
-use Rattle.ap_names.proofs.Parts.{read_few, read_many}
+use Rattle.std.proofs.Common.{arith, refl}
+use Rattle.ap_names.proofs.Parts.{false_true, read_few, read_many}
 use Rattle.ap_names.proofs.parsing.primes.Goals as goal
 use Rattle.ap_names.proofs.parsing.primes.Goals.{else-len-lt4-via-then-len-lt4+else-is_same, else-len-lt4-via-else-len-lt4}
 
 pub returns-then-is_same : goal.returns-then-is_same
 returns-then-is_same c = read_few c.args.text.now c.if-len-lt4.true (c.if-is_same.ensures.0 refl)
-
-false_true : false ≡ true → ⊥
-false_true h = cc
 
 pub returns : goal.returns
 returns c =
