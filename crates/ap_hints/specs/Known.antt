@@ -1,5 +1,5 @@
 -- Hints that speak of a world: the calls in their terms are of its functions, and the theorems that they use are its own.
-use Rattle.std.specs.Prelude.{ℕ, ◌<◌, ◌^◌, ◌+◌, List, length, IsTrue, IfSome, is_some}
+use Rattle.std.specs.Prelude.{ℕ, ◌<◌, ◌^◌, ◌+◌, false, List, [], length, IsTrue, IfSome, is_some}
 use Rattle.ap_list.specs.Lists.{Each}
 use Rattle.ap_value.specs.declared.symbol.Symbol.{Symbol}
 use Rattle.ap_term.specs.declared.term.Subst.{Subst}
@@ -29,3 +29,7 @@ pub record KnownHint (W : List Entry) (h : Hint) : Type 0 where
 
 abbrev pub KnownHints : List Entry → Hints → Type 0
 KnownHints W hs = Each (KnownHint W) hs.list
+
+-- of an event without any
+abbrev pub no_hints : Hints
+no_hints = record { list = []; do_not_induct = false }

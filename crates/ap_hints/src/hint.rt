@@ -1,9 +1,13 @@
+ghost use Rattle.std.specs.Prelude.{◌≡◌};
+ghost use Rattle.ap_hints.specs.Known.{no_hints};
+
 use ap_list::Seq;
 use ap_names::GoalName;
 use ap_term::{Subst, Term};
 use ap_value::Symbol;
 use ap_walk::Process;
 use ap_world::Theory;
+use std::alloc::Global;
 
 /// What a user says of one goal. `theory`, `expand` and `skip` hold for the goal and all below it: the theory in
 /// place of what holds above, the calls to open and the processes that don't apply beside it. Each of `uses` is a
@@ -26,4 +30,14 @@ pub struct Hint {
 pub struct Hints {
     pub list: Seq<Hint>,
     pub do_not_induct: bool,
+}
+
+/// The hints of an event without any. Takes no memory.
+pub fn no_hints(alloc: Global) -> Hints
+    ensures { result ≡ no_hints }
+{
+    Hints {
+        list: Seq::new(alloc),
+        do_not_induct: false,
+    }
 }

@@ -10,6 +10,7 @@ mod fault;
 mod forms;
 mod hint;
 mod runes;
+mod same;
 
 pub use ap_list::{NoMemory, Seq};
 pub use ap_names::GoalName;
@@ -20,5 +21,6 @@ pub use ap_world::{Theory, World};
 pub use changes::{Changes, changed_theory, changes_by};
 pub use fault::HintError;
 pub use forms::{is_any_keyword, is_keyword, is_nil, is_symbol, items, symbol};
-pub use hint::{Hint, Hints};
+pub use hint::{Hint, Hints, no_hints};
 pub use runes::{changed_runes, runes_named};
+pub use same::same_hints;

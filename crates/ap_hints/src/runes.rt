@@ -88,11 +88,7 @@ fn runes_by(
 }
 
 /// The runes that a name stands for, or `None` where it is unknown.
-pub(crate) fn runes_named(
-    alloc: Global,
-    w: &World,
-    name: &Symbol,
-) -> Result<Option<Seq<Rune>>, NoMemory>
+pub fn runes_named(alloc: Global, w: &World, name: &Symbol) -> Result<Option<Seq<Rune>>, NoMemory>
     ensures { IfOk result (λ o. o ≡ runes_named w.now.entries name.now) }
 {
     runes_by(alloc, name, w.lookup_fun(name), w.lookup_thm(name))
@@ -198,7 +194,7 @@ fn push_runes(alloc: Global, list: &mut Seq<Rune>, runes: &[Rune]) -> Result<(),
 }
 
 /// A theory in which runes are enabled, and then others are disabled.
-pub(crate) fn changed_runes(
+pub fn changed_runes(
     alloc: Global,
     enabled: &[Rune],
     disabled: &[Rune],
