@@ -1,6 +1,7 @@
 -- A goal with its hint, and the induction of a goal, keep what goals keep.
 use Rattle.std.proofs.Common.{◌≡◌, ◌≤◌, ℕ, true, true≢false, List, [], ◌∷◌, ◌++◌, Option, Some, None, refl, sym, arith}
 use Rattle.ap_list.specs.Lists.{Each}
+use Rattle.ap_term.specs.declared.term.Term.{Term}
 use Rattle.ap_names.specs.Names.{Name, is_pushed, pushed_of}
 use Rattle.ap_hints.specs.declared.hint.Hint.{Hint}
 use Rattle.ap_hints.specs.Known.{KnownTerm, KnownHints}
@@ -50,6 +51,15 @@ inducted_is_goal g k goal = record {
   induction = λ q. (is_pushed_of g.name k, refl);
   others = λ q. absurd (true≢false q);
 }
+
+-- the same of what is made with parts that are equal
+pub hinted_kept : (g : Goal) (name : Name) (ts : List Term) (s : Settings) (o : Option Term) → IsGoal g → name ≡ g.name → ts ≡ g.clause.0 → s ≡ (hinted g).settings → o ≡ g.scheme
+    → IsGoal (record g { name = name; clause = record { 0 = ts }; settings = s; scheme = o })
+hinted_kept g name ts s o k a b d e = rw (a, b, d, e) (hinted_is_goal g k)
+
+pub inducted_kept : (g : Goal) (k : ℕ) (name : Name) (ts : List Term) (s : Settings) (o : Option Term) → IsGoal g → name ≡ pushed_of g.name k → ts ≡ g.clause.0 → s ≡ (hinted g).settings
+    → o ≡ (inducted g k).scheme → IsGoal (record (inducted g k) { name = name; clause = record { 0 = ts }; settings = s; scheme = o })
+inducted_kept g k name ts s o goal a b d e = rw (a, b, d, e) (inducted_is_goal g k goal)
 
 -- a goal without a hint is as it is
 pub unhinted : (g : Goal) → hint_for g.plan g.name ≡ None → hint_step (hinted g) (hint_for g.plan g.name) ≡ open_step g

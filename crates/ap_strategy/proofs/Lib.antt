@@ -4,4 +4,3 @@ pub mod Counted
 pub mod Grounded
 pub mod Kept
 pub mod Made
-pub mod Used

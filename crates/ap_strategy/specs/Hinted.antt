@@ -23,14 +23,14 @@ use Rattle.ap_strategy.specs.Steps.{reduced_to, used_in, used_all, cased_by, hin
 -- the hint of a name is one of those that are known
 among_known : (W : List Entry) (hs : List Hint) (name : Name) (h : Hint) → Each (KnownHint W) hs → hint_among hs name ≡ Some h → KnownHint W h
 among_known W [] name h ks e = cc
-among_known W (x ∷ xs) name h ks e = go (name_eq x.goal name) e
+among_known W (x ∷ xs) name h ks e = go (name_eq x.goal name) (among_known W xs name h ks.1) e
   where
     same : Some x ≡ Some h → x ≡ h
     same q = cc
 
-    go : (b : Bool) → cond b (Some x) (hint_among xs name) ≡ Some h → KnownHint W h
-    go true q = subst (KnownHint W) (same q) ks.0
-    go false q = among_known W xs name h ks.1 q
+    go : (b : Bool) → (hint_among xs name ≡ Some h → KnownHint W h) → cond b (Some x) (hint_among xs name) ≡ Some h → KnownHint W h
+    go true more q = subst (KnownHint W) (same q) ks.0
+    go false more q = more q
 
 pub hint_known : (plan : Plan) (name : Name) (h : Hint) → KnownHints plan.world.entries plan.hints → hint_for plan name ≡ Some h → KnownHint plan.world.entries h
 hint_known plan name h said q = among_known plan.world.entries plan.hints.list name h said q
