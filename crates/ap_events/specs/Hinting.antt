@@ -4,7 +4,8 @@ use Rattle.ap_world.specs.World.{Shown}
 use Rattle.ap_reader.specs.declared.form.Form.{Form}
 use Rattle.ap_hints.specs.declared.hint.Hints.{Hints}
 use Rattle.ap_hints.specs.Answers.{Answer}
-use Rattle.ap_hints.specs.Hinted.{no_hints, hints_in}
+use Rattle.ap_hints.specs.Hinted.{hints_in}
+use Rattle.ap_hints.specs.Known.{no_hints}
 
 -- they are read in the world before the event; none, where `:hints` isn't given
 abbrev pub given_hints : Shown → Option Form → Answer Hints

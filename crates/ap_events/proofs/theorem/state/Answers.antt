@@ -1,7 +1,7 @@
 use Rattle.std.proofs.Common.{sym, ◌∙◌}
 use Rattle.ap_events.specs.Theorems.{named_theorem}
 use Rattle.ap_events.proofs.Refusing.{held_refused}
-use Rattle.ap_events.proofs.theorem.named.Goals as goal
+use Rattle.ap_events.proofs.theorem.state.Goals as goal
 
 pub returns-then-is_taken-clause-step : goal.returns-then-is_taken-clause-step
 unfolding named_theorem
