@@ -1,3 +1,4 @@
+pub mod Equal
 pub mod OneReading
 pub mod Parts
 pub mod Named

@@ -1,9 +1,9 @@
 -- What a text is read as, by its front and by the parts after it.
-use Rattle.std.proofs.Common.{◌≡◌, ◌==◌, true, false, ℕ, Option, Some, None, length, take, drop, lit<, ◌^◌, ◌<◌, List, [], ◌∷◌, ◌++◌, map, refl, sym, ap, ◌∙◌, arith, decimal, codes}
+use Rattle.std.proofs.Common.{◌≡◌, ◌==◌, true, false, ℕ, Option, Some, None, length, take, drop, lit<, ◌^◌, ◌<◌, ◌+◌, List, [], ◌∷◌, ◌++◌, map, refl, sym, ap, ◌∙◌, arith, decimal, codes}
 use mathlib.Core.List.{append_assoc}
 use Rattle.std.proofs.lemmas.Bool.{eqb-true}
 use Rattle.std.proofs.lemmas.Bool.Decides.{nat_tests}
-use Rattle.std.proofs.lemmas.List.{map-append, length-map, take-append-drop}
+use Rattle.std.proofs.lemmas.List.{map-append, length-map, length-append, take-append-drop}
 use Rattle.std.specs.Char.{to_ascii_lowercase}
 use Rattle.ap_list.specs.Lists.{Each}
 use Rattle.ap_names.specs.Names.{Name, IsName, IsCount, IsPlaced}
@@ -34,6 +34,14 @@ not_after_front front text head rest e n h t f =
     h (same_front (map to_ascii_lowercase head) (map to_ascii_lowercase front) (map to_ascii_lowercase rest) t
     (length-map head to_ascii_lowercase ∙ n ∙ sym (length-map front to_ascii_lowercase))
     (sym (ap (map to_ascii_lowercase) e ∙ map-append to_ascii_lowercase head rest) ∙ f))
+
+pub short_front : (front text : List ℕ) → length text < length front → BeginsOtherwise front text
+short_front front text n t f =
+    let a : length (map to_ascii_lowercase text) ≡ length text = length-map text to_ascii_lowercase in
+    let b : length (map to_ascii_lowercase front) ≡ length front = length-map front to_ascii_lowercase in
+    let c : length (map to_ascii_lowercase front ++ t) ≡ length (map to_ascii_lowercase front) + length t = length-append (map to_ascii_lowercase front) t in
+    let d : length (map to_ascii_lowercase text) ≡ length (map to_ascii_lowercase front ++ t) = ap length f in
+    omega (arith, a, b, c, d, n)
 
 -- a text whose lower case is below the letters is that text
 raised : (ps rest : List ℕ) → Each IsUncased ps → ps ≡ map to_ascii_lowercase rest → rest ≡ ps

@@ -94,6 +94,9 @@ pub record Reading (before text numbers rest ks : List ℕ) : Type 0 where
   pub done : text ≡ dotted ks ++ rest
   pub left : (b t : List ℕ) → Each IsCount b → EndsNumbers t → text ≡ dotted b ++ t → Left b t ks rest
 
+pub begun : (before text : List ℕ) → Reading before text before text []
+begun before text = record { added = sym (append-nil before); counts = tt; done = refl; left = λ b t p u e. (b, (p, (refl, e))) }
+
 -- no dot follows: all is read
 pub ended : (before text numbers rest ks : List ℕ) → Reading before text numbers rest ks → BeginsWithout 46 rest → AddsDotted before text numbers rest
 ended before text numbers rest ks r hn = (ks, r.added, record { is = r.counts; prints = r.done; alone = λ b t p u e. by b t (r.left b t p u e) })

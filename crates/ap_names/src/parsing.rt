@@ -3,9 +3,11 @@ ghost use Rattle.std.specs.Str.{str_to_ascii_lowercase};
 ghost use Rattle.ap_list.specs.Lists.{Each};
 ghost use Rattle.ap_names.specs.Names.{IsCount};
 ghost use Rattle.ap_names.specs.Printed.{primes_text, IsReading};
+ghost use Rattle.ap_names.specs.Reading.{name_of};
 ghost use Rattle.ap_names.specs.Reads.{IsDigit, EndsNumber, IsWhole, IsNumberHead, HasNoNumber, IsNumbersHead, HasNoNumbers, AddsDotted, HasNoDotted, BeginsWithout, BeginsOtherwise, IsAfter, IsReadingAfter};
 
 use crate::name::GoalName;
+use crate::reading::printing_has_one_reading;
 use ap_list::{NoMemory, Seq};
 use std::alloc::Global;
 use std::str;
@@ -221,9 +223,8 @@ fn subgoal_name(alloc: Global, text: &[u8]) -> Result<Option<GoalName>, NoMemory
     }
 }
 
-/// The name that prints as a text, the case of letters aside, and `None` exactly where no name does.
-/// Takes no more memory than the name.
-pub fn parse(alloc: Global, text: &[u8]) -> Result<Option<GoalName>, NoMemory>
+/// The name by its front.
+fn read(alloc: Global, text: &[u8]) -> Result<Option<GoalName>, NoMemory>
     ensures { IfOk result (λ o. IsReading text.now o) }
 {
     if let Some(rest) = after(text, b"*") {
@@ -236,4 +237,15 @@ pub fn parse(alloc: Global, text: &[u8]) -> Result<Option<GoalName>, NoMemory>
         Some(rest) => Ok(root_name(alloc, rest)),
         None => Ok(None),
     }
+}
+
+/// The name that prints as a text, the case of letters aside, and `None` exactly where no name does.
+/// Takes no more memory than the name. See the manual's topic `goal-spec`.
+pub fn parse(alloc: Global, text: &[u8]) -> Result<Option<GoalName>, NoMemory>
+    ensures is { IfOk result (λ o. o ≡ name_of text.now) }
+    ensures reads { IfOk result (λ o. IsReading text.now o) }
+{
+    printing_has_one_reading();
+    let name = read(alloc, text)?;
+    Ok(name)
 }

@@ -1,5 +1,7 @@
-use Rattle.ap_names.proofs.Named.{no_front}
+use Rattle.ap_names.specs.Reading.{name_of}
 use Rattle.ap_names.proofs.parsing.parse.Goals as goal
 
-pub returns-in-None : goal.returns-in-None
-returns-in-None c = no_front c.args.text.now c.in_default.ensures c.in_default-after.ensures c.in-None.ensures
+pub returns-clause-is : goal.returns-clause-is
+returns-clause-is c =
+    c.printing_has_one_reading.ensures.texts c.args.text.now c.in_ok-name.name (name_of c.args.text.now) c.in_ok-name.ensures
+    (c.printing_has_one_reading.ensures.reading c.args.text.now)
