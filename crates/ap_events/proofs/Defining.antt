@@ -1,5 +1,5 @@
 -- A definition keeps the world sound.
-use Rattle.std.proofs.Common.{◌≡◌, ℕ, true, false, true≢false, List, [], ◌∷◌, Some, None, Result, Ok, IfOk, map, refl, ap, sym, ◌∙◌, subst}
+use Rattle.std.proofs.Common.{◌≡◌, ℕ, true, false, true≢false, List, [], ◌∷◌, Option, Some, None, Result, Ok, IfOk, map, refl, ap, sym, ◌∙◌, subst}
 use Rattle.ap_list.specs.Lists.{Each, is_distinct, is_within}
 use Rattle.ap_value.specs.declared.symbol.Symbol.{Symbol}
 use Rattle.ap_value.specs.declared.value.Value.TheVariants.{Sym}
@@ -20,6 +20,7 @@ use Rattle.ap_world.proofs.Grounded.{given_free}
 use Rattle.ap_world.proofs.Knowing.{known_quote}
 use Rattle.ap_world.proofs.Starting.{has_all}
 use Rattle.ap_world.proofs.Written.{vars_quote}
+use Rattle.ap_reader.specs.declared.form.Form.{Form}
 use Rattle.ap_translate.specs.declared.fault.TransKind.{TransKind}
 use Rattle.ap_translate.specs.Answers.{Answer, refused as refused_at}
 use Rattle.ap_translate.specs.Laws.{HasMacroFunctions}
@@ -31,8 +32,9 @@ use Rattle.ap_admit.proofs.Masked.{stubs_know}
 use Rattle.ap_events.specs.declared.limits.Limits.{Limits}
 use Rattle.ap_events.specs.declared.end.RuledEnd.{RuledEnd}
 use Rattle.ap_events.specs.Ends.{step_in, Follows}
+use Rattle.ap_events.specs.Hinting.{given_hints}
 use Rattle.ap_events.specs.Texts.{translation_text, termination_text}
-use Rattle.ap_events.specs.Definitions.{stub, function_with, refused_definition, owing_definition, unmeasured, measured_definition, admitted_definition, defined_step}
+use Rattle.ap_events.specs.Definitions.{stub, function_with, refused_definition, hinted_definition, unmeasured, measured_definition, admitted_definition, defined_step}
 use Rattle.ap_events.specs.Prepared.{IsPrepared}
 
 -- the functions that macros stand for are among the given ones
@@ -100,27 +102,27 @@ pub follows_as_was : {E : Type 0} (r : Result RuledEnd E) (w v : Shown) → v �
 follows_as_was r w v same h = subst (λ u. IfOk r (Follows u)) same h
 
 -- the event of a definition whose parts are translated, in the world as it was
-pub translated_step : {E : Type 0} (r : Result RuledEnd E) (limits : Limits) (w v : Shown) (n : Symbol) (a : Answer Defun) (d : Defun) → v ≡ w → a ≡ Ok d
-    → IfOk r (λ e. step_in e ≡ admitted_definition limits v d) → IfOk r (λ e. step_in e ≡ defined_step limits w n a)
+pub translated_step : {E : Type 0} (r : Result RuledEnd E) (limits : Limits) (w v : Shown) (n : Symbol) (hints : Option Form) (a : Answer Defun) (d : Defun) → v ≡ w → a ≡ Ok d
+    → IfOk r (λ e. step_in e ≡ admitted_definition limits v d hints) → IfOk r (λ e. step_in e ≡ defined_step limits w n hints a)
 unfolding defined_step
-translated_step r limits w v n a d same is h =
-    subst (λ b. IfOk r (λ e. step_in e ≡ defined_step limits w n b)) (sym is)
-    (subst (λ u. IfOk r (λ e. step_in e ≡ admitted_definition limits u d)) same h)
+translated_step r limits w v n hints a d same is h =
+    subst (λ b. IfOk r (λ e. step_in e ≡ defined_step limits w n hints b)) (sym is)
+    (subst (λ u. IfOk r (λ e. step_in e ≡ admitted_definition limits u d hints)) same h)
 
-pub untranslated_step : {E : Type 0} (r : Result RuledEnd E) (limits : Limits) (w : Shown) (n : Symbol) (a : Answer Defun) (p : ℕ) (k : TransKind) → a ≡ refused_at p k
-    → IfOk r (λ e. step_in e ≡ refused_definition n [] (translation_text k)) → IfOk r (λ e. step_in e ≡ defined_step limits w n a)
+pub untranslated_step : {E : Type 0} (r : Result RuledEnd E) (limits : Limits) (w : Shown) (n : Symbol) (hints : Option Form) (a : Answer Defun) (p : ℕ) (k : TransKind) → a ≡ refused_at p k
+    → IfOk r (λ e. step_in e ≡ refused_definition n [] (translation_text k)) → IfOk r (λ e. step_in e ≡ defined_step limits w n hints a)
 unfolding defined_step
-untranslated_step r limits w n a p k is h = subst (λ b. IfOk r (λ e. step_in e ≡ defined_step limits w n b)) (sym is) h
+untranslated_step r limits w n hints a p k is h = subst (λ b. IfOk r (λ e. step_in e ≡ defined_step limits w n hints b)) (sym is) h
 
 -- the event of a definition that calls itself, by its measure
-pub measured_step : {E : Type 0} (r : Result RuledEnd E) (limits : Limits) (w : Shown) (d : Defun) (m : Measure) → measure_of d ≡ Some m.0
-    → IfOk r (λ e. step_in e ≡ owing_definition limits w d m) → IfOk r (λ e. step_in e ≡ measured_definition limits w d (measure_of d))
+pub measured_step : {E : Type 0} (r : Result RuledEnd E) (limits : Limits) (w : Shown) (d : Defun) (hints : Option Form) (m : Measure) → measure_of d ≡ Some m.0
+    → IfOk r (λ e. step_in e ≡ hinted_definition limits w d m (given_hints w hints)) → IfOk r (λ e. step_in e ≡ measured_definition limits w d hints (measure_of d))
 unfolding measured_definition
-measured_step r limits w d m is h = subst (λ o. IfOk r (λ e. step_in e ≡ measured_definition limits w d o)) (sym is) h
+measured_step r limits w d hints m is h = subst (λ o. IfOk r (λ e. step_in e ≡ measured_definition limits w d hints o)) (sym is) h
 
-pub unmeasured_step : {E : Type 0} (r : Result RuledEnd E) (limits : Limits) (w : Shown) (d : Defun) (t : TerminateError) → (measure_of d ≡ None) × (unmeasured d ≡ t)
-    → IfOk r (λ e. step_in e ≡ refused_definition d.name [] (termination_text t)) → IfOk r (λ e. step_in e ≡ measured_definition limits w d (measure_of d))
+pub unmeasured_step : {E : Type 0} (r : Result RuledEnd E) (limits : Limits) (w : Shown) (d : Defun) (hints : Option Form) (t : TerminateError) → (measure_of d ≡ None) × (unmeasured d ≡ t)
+    → IfOk r (λ e. step_in e ≡ refused_definition d.name [] (termination_text t)) → IfOk r (λ e. step_in e ≡ measured_definition limits w d hints (measure_of d))
 unfolding measured_definition
-unmeasured_step r limits w d t why h =
-    subst (λ o. IfOk r (λ e. step_in e ≡ measured_definition limits w d o)) (sym why.0)
+unmeasured_step r limits w d hints t why h =
+    subst (λ o. IfOk r (λ e. step_in e ≡ measured_definition limits w d hints o)) (sym why.0)
     (subst (λ (t : TerminateError). IfOk r (λ e. step_in e ≡ refused_definition d.name [] (termination_text t))) (sym why.1) h)

@@ -2,6 +2,7 @@ pub mod Attempted
 pub mod Defining
 pub mod Ending
 pub mod Formals
+pub mod Hinted
 pub mod Measuring
 pub mod Obligations
 pub mod Refusing

@@ -9,6 +9,7 @@ use Rattle.ap_walk.specs.declared.act.Reason.{Reason}
 use Rattle.ap_walk.specs.declared.rule.Rule.{Rule}
 use Rattle.ap_attempt.specs.declared.verdict.Verdict.{Verdict}
 use Rattle.ap_attempt.specs.Attempts.{Course, walks_of, attempt}
+use Rattle.ap_hints.specs.declared.hint.Hints.{Hints}
 use Rattle.ap_strategy.specs.declared.plan.Plan.{Plan}
 use Rattle.ap_strategy.specs.Goals.{Goal, first_settings, root_goal, inducted}
 use Rattle.ap_strategy.specs.Steps.{step_of, depth_of}
@@ -28,9 +29,9 @@ first_rule limits = record {
   limited = (limits.within.goals_some, goals_fit limits.goals limits.within.goals_few);
 }
 
--- the attempt that starts from a goal
+-- the attempt that starts from a goal; a hint of its plan may forbid induction
 abbrev pub attempt_from : Limits → Goal → Course Goal
-attempt_from limits g = attempt step_of depth_of inducted g false (first_rule limits) g
+attempt_from limits g = attempt step_of depth_of inducted g g.plan.hints.do_not_induct (first_rule limits) g
 
 -- its lines, why it failed, if it did, and its checkpoints
 abbrev pub reason_in : Verdict → Option Reason
@@ -63,6 +64,6 @@ clause_goal plan c = record {
 abbrev pub tried_clause : Limits → Plan → Clause → Tried
 tried_clause limits plan c = tried_from limits (clause_goal plan c)
 
--- the plan of a theorem, and of obligations: no hints are built
-abbrev pub plan_for : Limits → Shown → Plan
-plan_for limits w = record { world = w; step_limit = limits.steps }
+-- the plan of a theorem, and of obligations
+abbrev pub plan_for : Limits → Shown → Hints → Plan
+plan_for limits w hs = record { world = w; hints = hs; step_limit = limits.steps }

@@ -4,7 +4,7 @@ use Rattle.ap_reader.specs.declared.form.Form.{Form}
 use Rattle.ap_translate.specs.Parts.{items_in}
 use Rattle.ap_world.specs.declared.entry.RuleClass.{RuleClass}
 use Rattle.ap_world.specs.declared.entry.RuleClass.TheVariants as class
-use Rattle.ap_events.specs.Shapes.{is_keyword}
+use Rattle.ap_hints.specs.Forms.{is_keyword}
 
 abbrev pub class_of : Form → RuleClass
 class_of f =

@@ -27,13 +27,17 @@ use Rattle.ap_terminate.specs.Refusals.{is_nested, has_bad_measure}
 use Rattle.ap_admit.specs.Admission.{with_function}
 use Rattle.ap_admit.specs.Condition.{owed, clause_of}
 use Rattle.ap_strategy.specs.declared.plan.Plan.{Plan}
+use Rattle.ap_hints.specs.declared.hint.Hints.{Hints}
+use Rattle.ap_hints.specs.Answers as hinting
+use Rattle.ap_hints.specs.Forms.{symbol_at}
 use Rattle.ap_events.specs.declared.limits.Limits.{Limits}
 use Rattle.ap_events.specs.declared.attempting.Tried.{Tried}
 use Rattle.ap_events.specs.declared.owing.Owing.{Owing}
-use Rattle.ap_events.specs.Shapes.{Defined, symbol_at, is_given}
+use Rattle.ap_events.specs.Shapes.{Defined}
 use Rattle.ap_events.specs.Attempts.{tried_clause, plan_for}
-use Rattle.ap_events.specs.Texts.{event_text, translation_text, termination_text, failure_text, measure_line, obligation_line}
-use Rattle.ap_events.specs.Ends.{Step, refused_event, not_supported, bad_event, admitted}
+use Rattle.ap_events.specs.Hinting.{given_hints}
+use Rattle.ap_events.specs.Texts.{event_text, translation_text, termination_text, hint_text, failure_text, measure_line, obligation_line}
+use Rattle.ap_events.specs.Ends.{Step, refused_event, bad_event, admitted}
 
 -- the formals: each may be bound after those before it
 abbrev pub formal_by : List Symbol → Option Symbol → Option Symbol
@@ -137,46 +141,51 @@ ended_definition w d m lines (Some r) = refused_definition d.name lines (failure
 abbrev pub owing_by : Shown → Defun → Measure → Owing → Step
 owing_by w d m o = ended_definition w d m o.lines o.failed
 
-abbrev pub owing_definition : Limits → Shown → Defun → Measure → Step
-owing_definition limits w d m =
-    owing_by w d m (with_lines (measure_line m.0) (obligations_tried limits (plan_for limits w) 1 (map clause_of (owed d m))))
+abbrev pub owing_definition : Limits → Shown → Hints → Defun → Measure → Step
+owing_definition limits w hs d m =
+    owing_by w d m (with_lines (measure_line m.0) (obligations_tried limits (plan_for limits w hs) 1 (map clause_of (owed d m))))
+
+-- before that its hints are read, which hold for each obligation
+unfoldable pub hinted_definition : Limits → Shown → Defun → Measure → hinting.Answer Hints → Step
+hinted_definition limits w d m (Err e) = refused_definition d.name [] (hint_text e)
+hinted_definition limits w d m (Ok hs) = owing_definition limits w hs d m
 
 -- why it has no measure
 abbrev pub unmeasured : Defun → TerminateError
 unmeasured d = cond (is_nested d) TerminateError.NestedRecursion (cond (has_bad_measure d) TerminateError.BadMeasure TerminateError.NoMeasure)
 
 -- before that its measure is looked for
-unfoldable pub measured_definition : Limits → Shown → Defun → Option (List Term) → Step
-measured_definition limits w d None = refused_definition d.name [] (termination_text (unmeasured d))
-measured_definition limits w d (Some m) = owing_definition limits w d (record { 0 = m })
+unfoldable pub measured_definition : Limits → Shown → Defun → Option Form → Option (List Term) → Step
+measured_definition limits w d hints None = refused_definition d.name [] (termination_text (unmeasured d))
+measured_definition limits w d hints (Some m) = hinted_definition limits w d (record { 0 = m }) (given_hints w hints)
 
--- a function that doesn't call itself needs no measure, and keeps none
-unfoldable pub admitted_definition : Limits → Shown → Defun → Step
-admitted_definition limits w d =
+-- a function that doesn't call itself needs no measure, and keeps none; its hints are read, and there is nothing to prove
+unfoldable pub plain_definition : Shown → Defun → hinting.Answer Hints → Step
+plain_definition w d (Err e) = refused_definition d.name [] (hint_text e)
+plain_definition w d (Ok hs) = added_definition w (function_with w d None []) []
+
+unfoldable pub admitted_definition : Limits → Shown → Defun → Option Form → Step
+admitted_definition limits w d hints =
     cond (has_no_call d.name d.body)
-    (added_definition w (function_with w d None []) [])
-    (measured_definition limits w d (measure_of d))
+    (plain_definition w d (given_hints w hints))
+    (measured_definition limits w d hints (measure_of d))
 
 -- before that the parts are translated
-unfoldable pub defined_step : Limits → Shown → Symbol → Answer Defun → Step
-defined_step limits w n (Err e) = refused_definition n [] (translation_text e.kind)
-defined_step limits w n (Ok d) = admitted_definition limits w d
+unfoldable pub defined_step : Limits → Shown → Symbol → Option Form → Answer Defun → Step
+defined_step limits w n hints (Err e) = refused_definition n [] (translation_text e.kind)
+defined_step limits w n hints (Ok d) = admitted_definition limits w d hints
 
 -- before that its name is looked up
 unfoldable pub named_definition : Limits → Shown → Defined → Step
 named_definition limits w d =
     cond (has_name w.entries d.name)
     (refused_definition d.name [] (codes "3 NameTaken"))
-    (defined_step limits w d.name (translated_definition w.entries d))
+    (defined_step limits w d.name d.xargs.hints (translated_definition w.entries d))
 
 -- guards aren't verified yet
 unfoldable pub unguarded_definition : Limits → Shown → Defined → Step
 unguarded_definition limits w d = cond d.xargs.verify (refused_definition d.name [] (codes "11 GuardsAsked")) (named_definition limits w d)
 
--- hints aren't built
-unfoldable pub plain_definition : Limits → Shown → Symbol → Defined → Step
-plain_definition limits w h d = cond (is_given d.xargs.hints) (not_supported h) (unguarded_definition limits w d)
-
 unfoldable pub definition_step : Limits → Shown → Symbol → Option Defined → Step
 definition_step limits w h None = bad_event h
-definition_step limits w h (Some d) = plain_definition limits w h d
+definition_step limits w h (Some d) = unguarded_definition limits w d

@@ -8,8 +8,8 @@ use Rattle.ap_events.specs.declared.limits.Limits.{Limits}
 use Rattle.ap_events.specs.Shapes.{Stated, Defined, head_of, statement_of, definition_of, constant_of}
 use Rattle.ap_events.specs.Texts.{no_head_text}
 use Rattle.ap_events.specs.Ends.{Step, refused, not_supported, bad_event}
-use Rattle.ap_events.specs.Theorems.{stated_theorem, theorem_step}
-use Rattle.ap_events.specs.Definitions.{plain_definition, definition_step}
+use Rattle.ap_events.specs.Theorems.{named_theorem, theorem_step}
+use Rattle.ap_events.specs.Definitions.{unguarded_definition, definition_step}
 use Rattle.ap_events.specs.Constants.{constant_step}
 use Rattle.ap_events.specs.Changes.{changes_of, theory_step, disabled}
 
@@ -21,14 +21,14 @@ abbrev pub definition_head : Symbol
 definition_head = acl2 (codes "DEFUN")
 
 abbrev pub disabled_statement : Limits → Shown → Stated → Step
-disabled_statement limits w s = disabled s.name (stated_theorem limits w theorem_head s)
+disabled_statement limits w s = disabled s.name (named_theorem limits w s)
 
 unfoldable pub disabled_theorem : Limits → Shown → Option Stated → Step
 disabled_theorem limits w None = bad_event theorem_head
 disabled_theorem limits w (Some s) = disabled_statement limits w s
 
 abbrev pub disabled_function : Limits → Shown → Defined → Step
-disabled_function limits w d = disabled d.name (plain_definition limits w definition_head d)
+disabled_function limits w d = disabled d.name (unguarded_definition limits w d)
 
 unfoldable pub disabled_definition : Limits → Shown → Option Defined → Step
 disabled_definition limits w None = bad_event definition_head

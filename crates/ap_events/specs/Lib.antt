@@ -6,10 +6,10 @@ pub mod Constants
 pub mod Definitions
 pub mod Ends
 pub mod Events
+pub mod Hinting
 pub mod Limits
 pub mod Lines
 pub mod Prepared
-pub mod Runes
 pub mod Shapes
 pub mod Texts
 pub mod Theorems

@@ -2,7 +2,6 @@
 use Rattle.std.specs.Prelude.{ℕ, Bool, true, false, cond, ◌&&◌, ◌||◌, List, [], ◌∷◌, ◌++◌, Option, Some, None, is_some, option_map, codes}
 use Rattle.std.specs.List.{list_all}
 use Rattle.ap_value.specs.declared.symbol.Symbol.{Symbol}
-use Rattle.ap_value.specs.Values.{bytes_eq}
 use Rattle.ap_reader.specs.declared.form.Form.{Form}
 use Rattle.ap_reader.specs.declared.form.Body.TheOpen.{Body-F}
 use Rattle.ap_events.specs.declared.shapes.Choices.{Choices}
@@ -13,11 +12,7 @@ use Rattle.ap_events.specs.declared.shapes.Definition.{Definition}
 use Rattle.ap_events.specs.declared.shapes.Constant.{Constant}
 use Rattle.ap_translate.specs.Parts.{Layer, layer_of, symbol_in, items_in, is_symbol}
 use Rattle.ap_translate.specs.Names.{may_name, may_name_constant}
-
--- the symbol that a form is; the empty list is none here
-abbrev pub symbol_at : Layer → Option Symbol
-symbol_at (Body-F.Sym s) = Some s
-symbol_at l = None
+use Rattle.ap_hints.specs.Forms.{symbol_at, is_keyword, is_nil, any_keyword, both, and_then}
 
 -- the symbol at the head of a list, or of a dotted one
 abbrev pub first_symbol : List Form → Option Symbol
@@ -40,22 +35,6 @@ string_at l = false
 abbrev pub is_string : Form → Bool
 is_string f = string_at (layer_of f)
 
--- the keyword that a form is, by its name
-abbrev pub keyword_by : List ℕ → Option Symbol → Bool
-keyword_by n None = false
-keyword_by n (Some s) = s.keyword && bytes_eq s.name n
-
-abbrev pub is_keyword : List ℕ → Form → Bool
-is_keyword n f = keyword_by n (symbol_at (layer_of f))
-
--- `nil`, or the empty list, which is the same
-abbrev pub empty_by : Option (List Form) → Bool
-empty_by (Some []) = true
-empty_by o = false
-
-abbrev pub is_nil : Form → Bool
-is_nil f = empty_by (items_in f)
-
 -- a name of a function or a theorem, and one of a constant
 abbrev pub name_by : (Symbol → Bool) → Option Symbol → Option Symbol
 name_by good None = None
@@ -68,10 +47,6 @@ abbrev pub constant_name_in : Form → Option Symbol
 constant_name_in f = name_by may_name_constant (symbol_at (layer_of f))
 
 -- pairs of one of these keywords and a value
-abbrev pub any_keyword : List (List ℕ) → Form → Bool
-any_keyword [] f = false
-any_keyword (n ∷ ns) f = is_keyword n f || any_keyword ns f
-
 abbrev pub are_keyed : List (List ℕ) → List Form → Bool
 are_keyed ns [] = true
 are_keyed ns (k ∷ []) = false
@@ -82,10 +57,6 @@ abbrev pub given : List ℕ → List Form → List Form
 given n [] = []
 given n (k ∷ []) = []
 given n (k ∷ v ∷ fs) = cond (is_keyword n k) (v ∷ given n fs) (given n fs)
-
-abbrev pub is_given : Option Form → Bool
-is_given None = false
-is_given (Some f) = true
 
 -- what is there, as a list
 abbrev pub in_list : {A : Type 0} → Option A → List A
@@ -100,16 +71,6 @@ at_most_one (v ∷ w ∷ vs) = None
 
 abbrev pub given_once : List ℕ → List Form → Option (Option Form)
 given_once n fs = at_most_one (given n fs)
-
--- handed on, where both are there
-abbrev pub both : {A B C : Type 0} → (A → B → Option C) → Option A → Option B → Option C
-both g None o = None
-both g (Some a) None = None
-both g (Some a) (Some b) = g a b
-
-abbrev pub and_then : {A B : Type 0} → Option A → (A → Option B) → Option B
-and_then None g = None
-and_then (Some a) g = g a
 
 -- Theorems: (defthm NAME TERM [:rule-classes C] [:hints H])
 
@@ -128,17 +89,17 @@ abbrev pub none_or : (Form → Bool) → Option Form → Bool
 none_or good None = true
 none_or good (Some f) = good f
 
--- what follows a theorem's term: its classes, if they are given, and whether hints are
+-- what follows a theorem's term: its classes and its hints, if they are given
 pub record Chosen : Type 0 where
   pub classes : Option Form
-  pub hinted : Bool
+  pub hints : Option Form
 
 abbrev pub as_chosen : Choices → Chosen
-as_chosen c = record { classes = option_map (λ f. f.now) c.classes; hinted = c.hinted }
+as_chosen c = record { classes = option_map (λ f. f.now) c.classes; hints = option_map (λ f. f.now) c.hints }
 
 -- None: it isn't of the shape
 abbrev pub chosen_by : Option Form → Option Form → Option Chosen
-chosen_by classes hints = cond (none_or are_classes classes) (Some (record { classes = classes; hinted = is_given hints })) None
+chosen_by classes hints = cond (none_or are_classes classes) (Some (record { classes = classes; hints = hints })) None
 
 abbrev pub chosen_of : List Form → Option Chosen
 chosen_of fs =

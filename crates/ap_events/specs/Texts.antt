@@ -5,6 +5,7 @@ use Rattle.ap_value.specs.Values.{acl2}
 use Rattle.ap_term.specs.declared.term.Term.{Term, Call}
 use Rattle.ap_term.specs.Printed.{symbol_text, term_text}
 use Rattle.ap_rules.specs.declared.refusing.RuleError.{RuleError}
+use Rattle.ap_hints.specs.declared.fault.HintError.{HintError}
 use Rattle.ap_terminate.specs.declared.measures.TerminateError.{TerminateError}
 use Rattle.ap_translate.specs.declared.fault.TransKind.{TransKind}
 use Rattle.ap_translate.specs.declared.fault.TransKind.TheVariants as kinds
@@ -54,6 +55,15 @@ rule_text RuleError.FreeInRhs = codes "5.3 FreeInRhs"
 rule_text RuleError.NotInequality = codes "5.4 NotInequality"
 rule_text RuleError.NotTypeForm = codes "5.5 NotTypeForm"
 rule_text RuleError.NoMemory = []
+
+-- why hints are refused
+unfoldable pub hint_text : HintError → List ℕ
+hint_text HintError.BadGoalName = codes "6.1 BadGoalName"
+hint_text HintError.UnknownKeyword = codes "6.2 UnknownKeyword"
+hint_text HintError.UnknownRune = codes "6.3 UnknownRune"
+hint_text HintError.BadInstance = codes "6.4 BadInstance"
+hint_text HintError.Repeated = codes "6.5 Repeated"
+hint_text HintError.NoMemory = []
 
 -- why a function that calls itself has no measure
 unfoldable pub termination_text : TerminateError → List ℕ

@@ -9,15 +9,19 @@ use Rattle.ap_world.specs.World.{Shown, has_name}
 use Rattle.ap_walk.specs.declared.act.Reason.{Reason}
 use Rattle.ap_rules.specs.declared.refusing.RuleError.{RuleError}
 use Rattle.ap_rules.specs.Refused.{refusal}
+use Rattle.ap_reader.specs.declared.form.Form.{Form}
 use Rattle.ap_translate.specs.Answers.{Answer}
 use Rattle.ap_translate.specs.Table.{translated}
+use Rattle.ap_hints.specs.declared.hint.Hints.{Hints}
+use Rattle.ap_hints.specs.Answers as hinting
 use Rattle.ap_events.specs.declared.limits.Limits.{Limits}
 use Rattle.ap_events.specs.declared.attempting.Tried.{Tried}
 use Rattle.ap_events.specs.Shapes.{Stated}
 use Rattle.ap_events.specs.Classes.{classes_in}
 use Rattle.ap_events.specs.Attempts.{tried, plan_for}
-use Rattle.ap_events.specs.Texts.{event_text, translation_text, rule_text, failure_text}
-use Rattle.ap_events.specs.Ends.{Step, refused_event, not_supported, bad_event, admitted}
+use Rattle.ap_events.specs.Hinting.{given_hints}
+use Rattle.ap_events.specs.Texts.{event_text, translation_text, rule_text, hint_text, failure_text}
+use Rattle.ap_events.specs.Ends.{Step, refused_event, bad_event, admitted}
 
 abbrev pub added_theorem : Shown → Theorem → List ℕ → Step
 added_theorem w t lines = admitted w (entry.Theorem t) (event_text (codes "DEFTHM") t.name lines (codes " proved"))
@@ -33,19 +37,24 @@ ended_theorem w t lines checkpoints (Some r) = refused_theorem t.name (lines ++ 
 abbrev pub tried_theorem : Shown → Theorem → Tried → Step
 tried_theorem w t a = ended_theorem w t a.lines a.checkpoints a.failed
 
+-- before that its hints are read
+unfoldable pub hinted_theorem : Limits → Shown → Theorem → hinting.Answer Hints → Step
+hinted_theorem limits w t (Err e) = refused_theorem t.name [] (hint_text e)
+hinted_theorem limits w t (Ok hs) = tried_theorem w t (tried limits (plan_for limits w hs) t.term)
+
 -- before that it is asked whether it gives rules of its classes
-unfoldable pub ruled_theorem : Limits → Shown → Theorem → Option RuleError → Step
-ruled_theorem limits w t (Some e) = refused_theorem t.name [] (rule_text e)
-ruled_theorem limits w t None = tried_theorem w t (tried limits (plan_for limits w) t.term)
+unfoldable pub ruled_theorem : Limits → Shown → Theorem → Option Form → Option RuleError → Step
+ruled_theorem limits w t hints (Some e) = refused_theorem t.name [] (rule_text e)
+ruled_theorem limits w t hints None = hinted_theorem limits w t (given_hints w hints)
 
 abbrev pub theorem_of : Stated → Term → Theorem
 theorem_of s u = record { name = s.name; term = u; classes = classes_in s.chosen.classes }
 
-abbrev pub judged_theorem : Limits → Shown → Theorem → Step
-judged_theorem limits w t = ruled_theorem limits w t (refusal t.name t.term t.classes)
+abbrev pub judged_theorem : Limits → Shown → Theorem → Option Form → Step
+judged_theorem limits w t hints = ruled_theorem limits w t hints (refusal t.name t.term t.classes)
 
 abbrev pub classified_theorem : Limits → Shown → Stated → Term → Step
-classified_theorem limits w s u = judged_theorem limits w (theorem_of s u)
+classified_theorem limits w s u = judged_theorem limits w (theorem_of s u) s.chosen.hints
 
 -- before that its term is translated
 unfoldable pub translated_theorem : Limits → Shown → Stated → Answer Term → Step
@@ -59,10 +68,6 @@ named_theorem limits w s =
     (refused_theorem s.name [] (codes "3 NameTaken"))
     (translated_theorem limits w s (translated w.entries None s.term))
 
--- hints aren't built
-unfoldable pub stated_theorem : Limits → Shown → Symbol → Stated → Step
-stated_theorem limits w h s = cond s.chosen.hinted (not_supported h) (named_theorem limits w s)
-
 unfoldable pub theorem_step : Limits → Shown → Symbol → Option Stated → Step
 theorem_step limits w h None = bad_event h
-theorem_step limits w h (Some s) = stated_theorem limits w h s
+theorem_step limits w h (Some s) = named_theorem limits w s

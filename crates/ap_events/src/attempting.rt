@@ -4,6 +4,7 @@ ghost use Rattle.ap_world.specs.Sound.{known, HasFunctions, Sound};
 ghost use Rattle.ap_world.specs.World.{are_distinct};
 ghost use Rattle.ap_names.specs.Names.{root};
 ghost use Rattle.ap_kernel.specs.Reductions.{KnownClause};
+ghost use Rattle.ap_hints.specs.Known.{KnownHints};
 ghost use Rattle.ap_strategy.specs.Goals.{defs_of};
 ghost use Rattle.ap_strategy.specs.Steps.{IsGood};
 ghost use Rattle.ap_events.specs.Attempts.{first_rule, reason_in, tried_from, tried, clause_goal, tried_clause};
@@ -50,17 +51,12 @@ fn reason(verdict: Verdict) -> Option<Reason>
 
 /// Works the attempt that starts from a task. Where it doesn't fail, the task is good.
 #[tactic(auto, unfolding(crate::specs::Attempts::tried_from))]
-fn attempt_from(
-    alloc: Global,
-    plan: &Plan,
-    limits: &Limits,
-    root: Task<'_>,
-) -> Result<Tried, NoMemory>
+fn attempt_from(alloc: Global, limits: &Limits, root: Task<'_>) -> Result<Tried, NoMemory>
     ensures tried { IfOk result (λ t. t ≡ tried_from limits.now root.entry) }
     ensures good { IfOk result (λ t. t.failed ≡ None → IsGood root.entry) }
 {
     let prover = Proving {
-        step: Acl2Step::new(plan),
+        step: Acl2Step::new(root.plan),
     };
     let done = prove(alloc, &prover, root, first_rule(limits))?;
     let lines = walk_lines(alloc, done.walks.as_slice())?;
@@ -91,12 +87,13 @@ pub(crate) fn attempt(
 ) -> Result<Tried, NoMemory>
     requires functions { HasFunctions (defs_of plan.now) }
     requires known { IsTrue (known (defs_of plan.now) term.now) }
+    requires hints { KnownHints plan.now.world.entries plan.now.hints }
     ensures tried { IfOk result (λ t. t ≡ tried limits.now plan.now term.now) }
     ensures valid { IfOk result (λ t. t.failed ≡ None → Valid (defs_of plan.now) (term.now ∷ [])) }
 {
     is_sound(plan);
     let root = root_task(alloc, plan, term)?;
-    attempt_from(alloc, plan, limits, root)
+    attempt_from(alloc, limits, root)
 }
 
 /// The name `Goal`.
@@ -115,6 +112,7 @@ fn root_name(alloc: Global) -> GoalName
 fn clause_task<'a>(alloc: Global, plan: &'a Plan, clause: &Clause) -> Result<Task<'a>, NoMemory>
     requires functions { HasFunctions (defs_of plan.now) }
     requires known { KnownClause (defs_of plan.now) clause.now }
+    requires hints { KnownHints plan.now.world.entries plan.now.hints }
     ensures { IfOk result (λ t. t ≡ clause_goal plan.now clause.now) }
 {
     let clause = Clause(copy_terms(alloc, clause.0.as_slice())?);
@@ -140,10 +138,11 @@ pub(crate) fn attempt_clause(
 ) -> Result<Tried, NoMemory>
     requires functions { HasFunctions (defs_of plan.now) }
     requires known { KnownClause (defs_of plan.now) clause.now }
+    requires hints { KnownHints plan.now.world.entries plan.now.hints }
     ensures tried { IfOk result (λ t. t ≡ tried_clause limits.now plan.now clause.now) }
     ensures valid { IfOk result (λ t. t.failed ≡ None → Valid (defs_of plan.now) clause.now.0) }
 {
     is_sound(plan);
     let root = clause_task(alloc, plan, clause)?;
-    attempt_from(alloc, plan, limits, root)
+    attempt_from(alloc, limits, root)
 }

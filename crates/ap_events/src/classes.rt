@@ -2,7 +2,7 @@ ghost use Rattle.std.specs.Prelude.{◌≡◌, IfOk, map, option_map};
 ghost use Rattle.ap_events.specs.Classes.{class_of, classes_listed, classes_in};
 ghost use Rattle.ap_translate.specs.Parts.{items_in};
 
-use crate::forms::{is_keyword, items};
+use ap_hints::{is_keyword, items};
 use ap_list::{NoMemory, Seq};
 use ap_reader::Form;
 use ap_world::RuleClass;

@@ -1,5 +1,5 @@
 //! The event of a function.
-ghost use Rattle.std.specs.Prelude.{◌≡◌, [], ◌∷◌, ◌++◌, None, Some, IfErr, IfOk, false, true, map, codes};
+ghost use Rattle.std.specs.Prelude.{◌≡◌, [], ◌∷◌, ◌++◌, None, Some, IfErr, IfOk, false, true, map, codes, option_map};
 ghost use Rattle.ap_list.specs.Lists.{Each};
 ghost use Rattle.ap_world.specs.declared.entry.Entry.TheVariants as entry;
 ghost use Rattle.ap_world.specs.Meaning.{Valid};
@@ -8,20 +8,25 @@ ghost use Rattle.ap_world.specs.Sound.{HasFunctions, Sound};
 ghost use Rattle.ap_world.specs.World.{function_of, has_name};
 ghost use Rattle.ap_world.specs.KeptTypes.{kept_types};
 ghost use Rattle.ap_admit.specs.Condition.{owed, clause_of};
+ghost use Rattle.ap_hints.specs.Known.{KnownHints};
 ghost use Rattle.ap_events.specs.Shapes.{as_defined};
+ghost use Rattle.ap_events.specs.Hinting.{given_hints};
 ghost use Rattle.ap_events.specs.Ends.{admitted, step_in, Follows};
 ghost use Rattle.ap_events.specs.Texts.{event_text, refused_as, failure_text, translation_text};
 ghost use Rattle.ap_events.specs.Prepared.{IsPrepared};
-ghost use Rattle.ap_events.specs.Definitions.{function_by, function_with, added_definition, refused_definition, ended_definition, owing_definition, unmeasured, measured_definition, admitted_definition, translated_definition, defined_step, named_definition, plain_definition};
+ghost use Rattle.ap_events.specs.Definitions.{function_by, function_with, added_definition, refused_definition, ended_definition, owing_definition, hinted_definition, unmeasured, measured_definition, plain_definition, admitted_definition, translated_definition, defined_step, named_definition, unguarded_definition};
 
-use crate::end::{RuledEnd, not_supported};
+use crate::end::RuledEnd;
+use crate::hinting::given_hints;
 use crate::limits::Limits;
 use crate::owing::{Owing, pay};
 use crate::shapes::Definition;
 use crate::taken::is_taken;
 use crate::texts;
 use crate::translating::translated;
+use ap_hints::Hints;
 use ap_list::{Bytes, NoMemory, Seq};
+use ap_reader::Form;
 use ap_rules::Ruled;
 use ap_strategy::Plan;
 use ap_terminate::{TerminateError, has_no_call, measure_for};
@@ -191,12 +196,14 @@ fn ended(alloc: Global, w: Ruled, d: Defun, m: Measure, owing: &Owing) -> Result
     }
 }
 
-/// Tries what a definition owes that calls itself, by its measure, and adds its function where all is proved.
+/// Tries what a definition owes that calls itself, by its measure and by hints, and adds its function where all is
+/// proved.
 fn owing(
     alloc: Global,
     w: Ruled,
     d: Defun,
     m: Measure,
+    hints: Hints,
     limits: &Limits,
 ) -> Result<RuledEnd, NoMemory>
     requires functions { HasFunctions (function_of w.entries) }
@@ -204,15 +211,41 @@ fn owing(
     requires prepared { IsPrepared w.entries d }
     requires recurs { has_no_call d.name d.body ≡ false }
     requires measure { measure_of d ≡ Some m.0 }
-    ensures step { IfOk result (λ e. step_in e ≡ owing_definition limits.now w d m) }
+    requires hints { KnownHints w.entries hints }
+    ensures step { IfOk result (λ e. step_in e ≡ owing_definition limits.now w hints d m) }
     ensures follows { IfOk result (λ e. Follows w e) }
 {
     let plan = Plan {
         world: w,
+        hints,
         step_limit: limits.steps,
     };
     let owing = pay(alloc, &plan, limits, &d, &m)?;
     ended(alloc, plan.world, d, m, &owing)
+}
+
+/// Tries what a definition owes that calls itself, by its measure, unless the hints that are given are refused.
+#[tactic(auto, unfolding(crate::specs::Definitions::hinted_definition))]
+fn hinted(
+    alloc: Global,
+    w: Ruled,
+    d: Defun,
+    m: Measure,
+    given: Option<&Form>,
+    limits: &Limits,
+) -> Result<RuledEnd, NoMemory>
+    requires functions { HasFunctions (function_of w.entries) }
+    requires free { has_name w.entries d.name ≡ false }
+    requires prepared { IsPrepared w.entries d }
+    requires recurs { has_no_call d.name d.body ≡ false }
+    requires measure { measure_of d ≡ Some m.0 }
+    ensures step { IfOk result (λ e. step_in e ≡ hinted_definition limits.now w d m (given_hints w (option_map (λ f. f.now) given.entry))) }
+    ensures follows { IfOk result (λ e. Follows w e) }
+{
+    match given_hints(alloc, &w, given)? {
+        Ok(hints) => owing(alloc, w, d, m, hints, limits),
+        Err(error) => refused(alloc, w, &d.name, b"", texts::hint(error)),
+    }
 }
 
 /// The measure of a definition that calls itself, or why it has none.
@@ -231,33 +264,66 @@ fn measure(alloc: Global, w: &Ruled, d: &Defun) -> Result<Result<Measure, Termin
 
 /// Does the event of a definition that calls itself: its measure is looked for.
 #[tactic(auto, unfolding(crate::specs::Definitions::measured_definition))]
-fn measured(alloc: Global, w: Ruled, d: Defun, limits: &Limits) -> Result<RuledEnd, NoMemory>
+fn measured(
+    alloc: Global,
+    w: Ruled,
+    d: Defun,
+    given: Option<&Form>,
+    limits: &Limits,
+) -> Result<RuledEnd, NoMemory>
     requires functions { HasFunctions (function_of w.entries) }
     requires free { has_name w.entries d.name ≡ false }
     requires prepared { IsPrepared w.entries d }
     requires recurs { has_no_call d.name d.body ≡ false }
-    ensures step { IfOk result (λ e. step_in e ≡ measured_definition limits.now w d (measure_of d)) }
+    ensures step { IfOk result (λ e. step_in e ≡ measured_definition limits.now w d (option_map (λ f. f.now) given.entry) (measure_of d)) }
     ensures follows { IfOk result (λ e. Follows w e) }
 {
     match measure(alloc, &w, &d)? {
-        Ok(m) => owing(alloc, w, d, m, limits),
+        Ok(m) => hinted(alloc, w, d, m, given, limits),
         Err(error) => refused(alloc, w, &d.name, b"", texts::termination(error)),
+    }
+}
+
+/// Adds the function of a definition that doesn't call itself, unless the hints that are given are refused.
+#[tactic(auto, unfolding(crate::specs::Definitions::plain_definition))]
+fn plain_hinted(
+    alloc: Global,
+    w: Ruled,
+    d: Defun,
+    given: Option<&Form>,
+) -> Result<RuledEnd, NoMemory>
+    requires functions { HasFunctions (function_of w.entries) }
+    requires free { has_name w.entries d.name ≡ false }
+    requires prepared { IsPrepared w.entries d }
+    requires plain { has_no_call d.name d.body ≡ true }
+    ensures step { IfOk result (λ e. step_in e ≡ plain_definition w d (given_hints w (option_map (λ f. f.now) given.entry))) }
+    ensures follows { IfOk result (λ e. Follows w e) }
+{
+    match given_hints(alloc, &w, given)? {
+        Ok(_) => admit_plain(alloc, w, d),
+        Err(error) => refused(alloc, w, &d.name, b"", texts::hint(error)),
     }
 }
 
 /// Adds the function of a translated definition, where it ends.
 #[tactic(auto, unfolding(crate::specs::Definitions::admitted_definition))]
-fn admitted(alloc: Global, w: Ruled, d: Defun, limits: &Limits) -> Result<RuledEnd, NoMemory>
+fn admitted(
+    alloc: Global,
+    w: Ruled,
+    d: Defun,
+    given: Option<&Form>,
+    limits: &Limits,
+) -> Result<RuledEnd, NoMemory>
     requires functions { HasFunctions (function_of w.entries) }
     requires free { has_name w.entries d.name ≡ false }
     requires prepared { IsPrepared w.entries d }
-    ensures step { IfOk result (λ e. step_in e ≡ admitted_definition limits.now w d) }
+    ensures step { IfOk result (λ e. step_in e ≡ admitted_definition limits.now w d (option_map (λ f. f.now) given.entry)) }
     ensures follows { IfOk result (λ e. Follows w e) }
 {
     if has_no_call(&d.name, &d.body) {
-        admit_plain(alloc, w, d)
+        plain_hinted(alloc, w, d, given)
     } else {
-        measured(alloc, w, d, limits)
+        measured(alloc, w, d, given, limits)
     }
 }
 
@@ -285,18 +351,18 @@ fn untaken(
 ) -> Result<RuledEnd, NoMemory>
     requires functions { HasFunctions (function_of w.entries) }
     requires free { has_name w.entries definition.now.name.now ≡ false }
-    ensures step { IfOk result (λ e. step_in e ≡ defined_step limits.now w definition.now.name.now (translated_definition w.entries (as_defined definition.now))) }
+    ensures step { IfOk result (λ e. step_in e ≡ defined_step limits.now w definition.now.name.now (as_defined definition.now).xargs.hints (translated_definition w.entries (as_defined definition.now))) }
     ensures follows { IfOk result (λ e. Follows w e) }
 {
     let mut world = w;
     match translated(alloc, &mut world, definition) {
-        Ok(d) => admitted(alloc, world, d, limits),
+        Ok(d) => admitted(alloc, world, d, definition.xargs.hints, limits),
         Err(TransError::NoMemory) => Err(AllocError),
         Err(TransError::Fault { kind, .. }) => untranslated(alloc, world, definition.name, kind),
     }
 }
 
-/// Does a definition's event that asks for no guards and gives no hints.
+/// Does a definition's event that asks for no guards.
 #[tactic(auto, unfolding(crate::specs::Definitions::named_definition))]
 fn unguarded(
     alloc: Global,
@@ -315,21 +381,17 @@ fn unguarded(
 }
 
 /// Does a definition's event, by what it defines.
-#[tactic(auto, unfolding(crate::specs::Definitions::plain_definition, crate::specs::Definitions::unguarded_definition))]
+#[tactic(auto, unfolding(crate::specs::Definitions::unguarded_definition))]
 pub(crate) fn define(
     alloc: Global,
     w: Ruled,
-    head: &Symbol,
     definition: &Definition<'_>,
     limits: &Limits,
 ) -> Result<RuledEnd, NoMemory>
     requires functions { HasFunctions (function_of w.entries) }
-    ensures step { IfOk result (λ e. step_in e ≡ plain_definition limits.now w head.now (as_defined definition.now)) }
+    ensures step { IfOk result (λ e. step_in e ≡ unguarded_definition limits.now w (as_defined definition.now)) }
     ensures follows { IfOk result (λ e. Follows w e) }
 {
-    if definition.xargs.hints.is_some() {
-        return not_supported(alloc, w, head);
-    }
     if definition.xargs.verify {
         return refused(alloc, w, definition.name, b"", b"11 GuardsAsked");
     }

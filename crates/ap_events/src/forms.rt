@@ -1,40 +1,13 @@
 //! What a form is at its top.
-ghost use Rattle.std.specs.Prelude.{◌≡◌, option_map, map, is_some};
+ghost use Rattle.std.specs.Prelude.{◌≡◌, option_map, is_some};
 ghost use Rattle.std.specs.List.{list_all};
 ghost use Rattle.ap_reader.specs.declared.form.Body.TheOpen.{Body-F};
-ghost use Rattle.ap_translate.specs.Parts.{layer_of, symbol_in, items_in, is_symbol, symbol_at as named_at};
-ghost use Rattle.ap_events.specs.Shapes.{symbol_at, first_symbol, head_of, is_string, is_keyword, is_nil, any_keyword, are_symbols};
+ghost use Rattle.ap_translate.specs.Parts.{symbol_in, symbol_at as named_at};
+ghost use Rattle.ap_events.specs.Shapes.{first_symbol, head_of, is_string, are_symbols};
 
+use ap_hints::symbol;
 use ap_reader::{Body, Form};
-use ap_value::{Symbol, is_named};
-
-/// The symbol that a form is; the empty list is none here.
-pub(crate) fn symbol(form: &Form) -> Option<&Symbol>
-    ensures { option_map (λ s. s.now) result ≡ symbol_at (layer_of form.now) }
-{
-    match &form.body {
-        Body::Sym(symbol) => Some(symbol),
-        _ => None,
-    }
-}
-
-/// The forms of a list, or none of `nil`.
-#[tactic(auto, unfolding(ap_world::specs::Names::nil_name))]
-pub(crate) fn items(form: &Form) -> Option<&[Form]>
-    ensures { option_map (λ fs. fs.now) result ≡ items_in form.now }
-{
-    match &form.body {
-        Body::List(items) => Some(items.as_slice()),
-        Body::Sym(symbol) => {
-            if is_named(symbol, b"NIL") {
-                Some(&[])
-            } else {
-                None
-            }
-        }
-        _ => None,
-    }
-}
+use ap_value::Symbol;
 
 /// The symbol that the first form is.
 fn first_symbol(forms: &[Form]) -> Option<&Symbol>
@@ -63,48 +36,6 @@ pub(crate) fn is_string(form: &Form) -> bool
 {
     match &form.body {
         Body::Str(_) => true,
-        _ => false,
-    }
-}
-
-/// Whether a form is the symbol of package `ACL2` with this name.
-pub(crate) fn is_symbol(form: &Form, name: &[u8]) -> bool
-    ensures { result ≡ is_symbol name.now form.now }
-{
-    match &form.body {
-        Body::Sym(symbol) => is_named(symbol, name),
-        _ => false,
-    }
-}
-
-/// Whether a form is the keyword of this name.
-pub(crate) fn is_keyword(form: &Form, name: &[u8]) -> bool
-    ensures { result ≡ is_keyword name.now form.now }
-{
-    match symbol(form) {
-        Some(symbol) => symbol.keyword && symbol.name.as_slice() == name,
-        None => false,
-    }
-}
-
-/// Whether a form is a keyword of one of these names.
-pub(crate) fn is_any_keyword(form: &Form, names: &[&'static [u8]]) -> bool
-    ensures { result ≡ any_keyword (map (λ n. n.now) names.now) form.now }
-{
-    for name in names {
-        if is_keyword(form, name) {
-            return true;
-        }
-    }
-    false
-}
-
-/// Whether a form is `nil`, written so or as the empty list.
-pub(crate) fn is_nil(form: &Form) -> bool
-    ensures { result ≡ is_nil form.now }
-{
-    match items(form) {
-        Some([]) => true,
         _ => false,
     }
 }

@@ -1,13 +1,14 @@
 ghost use Rattle.std.specs.Prelude.{◌≡◌, IfOk};
 ghost use Rattle.ap_world.specs.Sound.{HasFunctions};
 ghost use Rattle.ap_world.specs.World.{function_of};
-ghost use Rattle.ap_events.specs.Ends.{refused, without_index, step_in, text_in, next_in, world_in, Kept, Follows};
+ghost use Rattle.ap_value.specs.Values.{acl2};
+ghost use Rattle.ap_events.specs.Ends.{refused, bad_event, without_index, step_in, text_in, next_in, world_in, Kept, Follows};
 ghost use Rattle.ap_events.specs.Theorems.{theorem_step};
 ghost use Rattle.ap_events.specs.Definitions.{definition_step};
 ghost use Rattle.ap_events.specs.Constants.{constant_step};
 ghost use Rattle.ap_events.specs.Changes.{changes_of, theory_step};
 ghost use Rattle.ap_events.specs.Shapes.{as_stated, statement_of, as_defined, definition_of, constant_of};
-ghost use Rattle.ap_events.specs.Events.{theorem_head, definition_head, disabled_statement, disabled_theorem, disabled_function, disabled_definition, named_event, event_of};
+ghost use Rattle.ap_events.specs.Events.{disabled_statement, disabled_theorem, disabled_function, disabled_definition, named_event, event_of};
 
 use crate::changes::{change, changes_in, disable};
 use crate::constant::constant;
@@ -38,7 +39,7 @@ fn theorem_event(
     ensures follows { IfOk result (λ e. Follows w e) }
 {
     match theorem_in(f) {
-        Some(statement) => state(alloc, w, head, &statement, limits),
+        Some(statement) => state(alloc, w, &statement, limits),
         None => bad_event(alloc, w, head),
     }
 }
@@ -56,7 +57,7 @@ fn definition_event(
     ensures follows { IfOk result (λ e. Follows w e) }
 {
     match definition_in(f) {
-        Some(definition) => define(alloc, w, head, &definition, limits),
+        Some(definition) => define(alloc, w, &definition, limits),
         None => bad_event(alloc, w, head),
     }
 }
@@ -72,20 +73,27 @@ fn constant_event(alloc: Global, w: Ruled, head: &Symbol, f: &Form) -> Result<Ru
     }
 }
 
+/// An event that isn't of the shape of the head that it prints.
+fn bad_event_of(alloc: Global, w: Ruled, name: &[u8]) -> Result<RuledEnd, NoMemory>
+    ensures step { IfOk result (λ e. step_in e ≡ bad_event (acl2 name.now)) }
+    ensures follows { IfOk result (λ e. Follows w e) }
+{
+    let head = acl2(alloc, name)?;
+    bad_event(alloc, w, &head)
+}
+
 /// Does a theorem's event, and disables the theorem.
 fn disabled_statement(
     alloc: Global,
     w: Ruled,
-    head: &Symbol,
     statement: &Statement<'_>,
     limits: &Limits,
 ) -> Result<RuledEnd, NoMemory>
-    requires head { head.now ≡ theorem_head }
     requires functions { HasFunctions (function_of w.entries) }
     ensures step { IfOk result (λ e. step_in e ≡ disabled_statement limits.now w (as_stated statement.now)) }
     ensures follows { IfOk result (λ e. Follows w e) }
 {
-    let end = state(alloc, w, head, statement, limits)?;
+    let end = state(alloc, w, statement, limits)?;
     disable(alloc, statement.name, end)
 }
 
@@ -100,10 +108,9 @@ fn disabled_theorem_event(
     ensures step { IfOk result (λ e. step_in e ≡ disabled_theorem limits.now w (statement_of f.now)) }
     ensures follows { IfOk result (λ e. Follows w e) }
 {
-    let head = acl2(alloc, b"DEFTHM")?;
     match theorem_in(f) {
-        Some(statement) => disabled_statement(alloc, w, &head, &statement, limits),
-        None => bad_event(alloc, w, &head),
+        Some(statement) => disabled_statement(alloc, w, &statement, limits),
+        None => bad_event_of(alloc, w, b"DEFTHM"),
     }
 }
 
@@ -111,16 +118,14 @@ fn disabled_theorem_event(
 fn disabled_function(
     alloc: Global,
     w: Ruled,
-    head: &Symbol,
     definition: &Definition<'_>,
     limits: &Limits,
 ) -> Result<RuledEnd, NoMemory>
-    requires head { head.now ≡ definition_head }
     requires functions { HasFunctions (function_of w.entries) }
     ensures step { IfOk result (λ e. step_in e ≡ disabled_function limits.now w (as_defined definition.now)) }
     ensures follows { IfOk result (λ e. Follows w e) }
 {
-    let end = define(alloc, w, head, definition, limits)?;
+    let end = define(alloc, w, definition, limits)?;
     disable(alloc, definition.name, end)
 }
 
@@ -135,10 +140,9 @@ fn disabled_definition_event(
     ensures step { IfOk result (λ e. step_in e ≡ disabled_definition limits.now w (definition_of f.now)) }
     ensures follows { IfOk result (λ e. Follows w e) }
 {
-    let head = acl2(alloc, b"DEFUN")?;
     match definition_in(f) {
-        Some(definition) => disabled_function(alloc, w, &head, &definition, limits),
-        None => bad_event(alloc, w, &head),
+        Some(definition) => disabled_function(alloc, w, &definition, limits),
+        None => bad_event_of(alloc, w, b"DEFUN"),
     }
 }
 

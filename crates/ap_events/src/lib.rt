@@ -1,6 +1,6 @@
-//! One event of a book: what it prints, and the world after it. So far a theorem without hints, a function without
-//! hints, a constant, and a change of the current theory. See the manual's topics `defthm`, `rule-classes`,
-//! `defun`, `measure`, `defconst` and `in-theory`.
+//! One event of a book: what it prints, and the world after it. So far a theorem, a function, a constant, and a change
+//! of the current theory. See the manual's topics `defthm`, `rule-classes`, `hints`, `defun`, `measure`, `defconst`
+//! and `in-theory`.
 //!
 //! [`work`] does an event in a world with the index of its rules, which goes on to the next event. [`event`] does
 //! one in a world alone, and makes the index first.
@@ -14,11 +14,11 @@ mod definition;
 mod end;
 mod forms;
 mod heads;
+mod hinting;
 mod limits;
 mod lines;
 mod owing;
 mod prover;
-mod runes;
 mod shapes;
 mod taken;
 mod texts;

@@ -6,6 +6,7 @@ ghost use Rattle.ap_world.specs.Recursion.{has_no_call};
 ghost use Rattle.ap_world.specs.Sound.{HasFunctions};
 ghost use Rattle.ap_kernel.specs.Reductions.{KnownClause};
 ghost use Rattle.ap_admit.specs.Condition.{owed, clause_of, IsAdmissible};
+ghost use Rattle.ap_hints.specs.Known.{KnownHints};
 ghost use Rattle.ap_strategy.specs.Goals.{defs_of};
 ghost use Rattle.ap_events.specs.Attempts.{tried_clause};
 ghost use Rattle.ap_events.specs.Texts.{measure_line};
@@ -60,6 +61,7 @@ fn try_one(
 ) -> Result<Option<Reason>, NoMemory>
     requires functions { HasFunctions (defs_of plan.now) }
     requires known { KnownClause (defs_of plan.now) clause.now }
+    requires hints { KnownHints plan.now.world.entries plan.now.hints }
     ensures told { OnOk result (text.new ≡ text.old ++ obligation_text k (tried_clause limits.now plan.now clause.now)) }
     ensures failed { IfOk result (λ o. o ≡ (tried_clause limits.now plan.now clause.now).failed) }
     ensures valid { IfOk result (λ o. o ≡ None → Valid (defs_of plan.now) clause.now.0) }
@@ -80,6 +82,7 @@ fn try_each(
 ) -> Result<Owing, NoMemory>
     requires functions { HasFunctions (defs_of plan.now) }
     requires known { Each (KnownClause (defs_of plan.now)) clauses.now }
+    requires hints { KnownHints plan.now.world.entries plan.now.hints }
     ensures tried { IfOk result (λ o. o ≡ with_lines opening (obligations_tried limits.now plan.now 1 clauses.now)) }
     ensures valid { IfOk result (λ o. o.failed ≡ None → Each (λ c. Valid (defs_of plan.now) c.0) clauses.now) }
 {
@@ -111,6 +114,7 @@ pub(crate) fn pay(
     requires functions { HasFunctions (defs_of plan.now) }
     requires admissible { IsAdmissible plan.now.world d.now m.now }
     requires recurs { has_no_call d.now.name d.now.body ≡ false }
+    requires hints { KnownHints plan.now.world.entries plan.now.hints }
     ensures tried { IfOk result (λ o. o ≡ with_lines (measure_line m.now.0) (obligations_tried limits.now plan.now 1 (map clause_of (owed d.now m.now)))) }
     ensures valid { IfOk result (λ o. o.failed ≡ None → Each (λ c. Valid (defs_of plan.now) c.0) (map clause_of (owed d.now m.now))) }
 {

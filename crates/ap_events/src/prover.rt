@@ -1,4 +1,4 @@
-ghost use Rattle.std.specs.Prelude.{◌≡◌, ◌≤◌, ◌<◌, ℕ, IfOk};
+ghost use Rattle.std.specs.Prelude.{◌≡◌, ◌≤◌, ◌<◌, ℕ, Bool, IfOk};
 ghost use Rattle.ap_list.specs.Lists.{Each};
 ghost use Rattle.ap_names.specs.Names.{pushed_of};
 ghost use Rattle.ap_walk.specs.declared.act.Out.{Out};
@@ -19,10 +19,17 @@ pub trait Inducts: Step {
     /// How many inductions may stand within each other below a task.
     ghost rank: { Self.Task → ℕ };
 
+    /// Whether no induction may be made.
+    ghost forbids: { Self → Bool };
+
     /// The induction of a task that a walk pushed as number `k`, from 1. The only error is want of memory.
     fn induct(&self, alloc: Global, task: &Self::Task, k: u32) -> Result<Self::Task, NoMemory>
         requires { 1 ≤ k }
         ensures { IfOk result (λ induction. induction ≡ inducted task.now k) };
+
+    /// Whether a hint forbids induction (the manual's topic `do-not-induct`). Takes no memory.
+    fn forbids_induction(&self) -> bool
+        ensures { result ≡ forbids self.now };
 
     // An induction has the name of the pushed goal.
     ghost called: { (task : Self.Task) (k : ℕ) → 1 ≤ k → Self.name (inducted task k) ≡ pushed_of (Self.name task) k };
@@ -40,11 +47,14 @@ pub trait Inducts: Step {
 impl<'a> Inducts for Acl2Step<'a> {
     ghost use Rattle.std.proofs.Common.{refl};
     ghost use Rattle.ap_strategy.specs.Goals.{inducted};
+    ghost use Rattle.ap_strategy.specs.Laws.{by_induction};
     ghost use Rattle.ap_strategy.specs.Ranks.{rank_of, ranked, falling};
 
     ghost inducted = { inducted };
 
     ghost rank = { rank_of };
+
+    ghost forbids = { λ s. s.plan.now.hints.do_not_induct };
 
     ghost called = { λ task k some. refl };
 
@@ -52,15 +62,19 @@ impl<'a> Inducts for Acl2Step<'a> {
 
     ghost less_rank = { falling };
 
-    ghost shows = { λ task k some good. good };
+    ghost shows = { λ task k some good. by_induction task k good };
 
     fn induct(&self, alloc: Global, task: &Task<'a>, k: u32) -> Result<Task<'a>, NoMemory> {
         induct_task(alloc, task, k)
     }
+
+    fn forbids_induction(&self) -> bool {
+        self.do_not_induct()
+    }
 }
 
-/// A waterfall that proves what it pushes by induction, and that reverts to the goal as it came. No hint
-/// forbids induction.
+/// A waterfall that proves what it pushes by induction, unless a hint forbids it, and that reverts to the goal as it
+/// came.
 #[derive(Drop)]
 pub struct Proving<S> {
     pub step: S,
@@ -101,7 +115,6 @@ impl<S: Step> Step for Proving<S> {
 }
 
 impl<S: Inducts> Prover for Proving<S> {
-    ghost use Rattle.std.specs.Prelude.{false};
     ghost use Rattle.std.proofs.Common.{refl};
 
     ghost inducted = { S.inducted };
@@ -110,7 +123,7 @@ impl<S: Inducts> Prover for Proving<S> {
 
     ghost rank = { S.rank };
 
-    ghost refuses_induction = { λ _. false };
+    ghost refuses_induction = { λ p. S.forbids p.step };
 
     ghost named = { S.called };
 
@@ -133,6 +146,6 @@ impl<S: Inducts> Prover for Proving<S> {
     }
 
     fn do_not_induct(&self) -> bool {
-        false
+        self.step.forbids_induction()
     }
 }

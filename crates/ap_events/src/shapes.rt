@@ -4,9 +4,8 @@ ghost use Rattle.std.specs.List.{list_all};
 ghost use Rattle.ap_events.specs.Shapes.{name_in, constant_name_in, are_keyed, given_once, is_class, are_classes, none_or, as_chosen, chosen_of, as_stated, statement_of, as_xargs, no_xargs, truth_in, xargs_of, is_declaration, in_list, xargs_by, xargs_lists, at_most_one, declared_in, as_before, before_body, as_defined, formals_in, defined_in, definition_of, as_constant, constant_of};
 ghost use Rattle.ap_translate.specs.Parts.{items_in};
 
-use crate::forms::{
-    are_symbols, is_any_keyword, is_keyword, is_nil, is_string, is_symbol, items, symbol,
-};
+use crate::forms::{are_symbols, is_string};
+use ap_hints::{is_any_keyword, is_keyword, is_nil, is_symbol, items, symbol};
 use ap_reader::Form;
 use ap_translate::{may_name, may_name_constant};
 use ap_value::Symbol;
@@ -102,12 +101,11 @@ fn are_classes_if_given(classes: Option<&Form>) -> bool
 #[derive(Clone, Copy)]
 pub struct Choices<'a> {
     pub classes: Option<&'a Form>,
-    /// `:hints` are given.
-    pub hinted: bool,
+    pub hints: Option<&'a Form>,
 }
 
-/// What follows a theorem's term: its classes, if they are given, and whether hints are; `None` where it isn't
-/// of the shape.
+/// What follows a theorem's term: its classes and its hints, if they are given; `None` where it isn't of the
+/// shape. What the hints say isn't looked at.
 fn chosen(options: &[Form]) -> Option<Choices<'_>>
     ensures { option_map as_chosen result ≡ chosen_of options.now }
 {
@@ -117,10 +115,7 @@ fn chosen(options: &[Form]) -> Option<Choices<'_>>
     let classes = given(b"RULE-CLASSES", options)?;
     let hints = given(b"HINTS", options)?;
     if are_classes_if_given(classes) {
-        Some(Choices {
-            classes,
-            hinted: hints.is_some(),
-        })
+        Some(Choices { classes, hints })
     } else {
         None
     }

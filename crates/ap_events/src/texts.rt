@@ -1,8 +1,9 @@
 //! The printed lines of events.
 ghost use Rattle.std.specs.Prelude.{◌≡◌, IfOk};
 ghost use Rattle.ap_term.specs.Printed.{symbol_text};
-ghost use Rattle.ap_events.specs.Texts.{no_head_text, not_supported_text, bad_event_text, event_line, event_text, constant_line, theory_line, refused_as, measure_term, measure_line, obligation_line, kind_text, translation_text, rule_text, termination_text, reason_text, failure_text};
+ghost use Rattle.ap_events.specs.Texts.{no_head_text, not_supported_text, bad_event_text, event_line, event_text, constant_line, theory_line, refused_as, measure_term, measure_line, obligation_line, kind_text, translation_text, rule_text, hint_text, termination_text, reason_text, failure_text};
 
+use ap_hints::HintError;
 use ap_list::{Bytes, NoMemory};
 use ap_print::print_term;
 use ap_rules::RuleError;
@@ -184,6 +185,21 @@ pub(crate) fn rule(error: RuleError) -> &'static [u8]
         RuleError::NotInequality => b"5.4 NotInequality",
         RuleError::NotTypeForm => b"5.5 NotTypeForm",
         RuleError::NoMemory => b"",
+    }
+}
+
+/// Why hints are refused, by its number and name; nothing where memory is wanting.
+#[tactic(auto, unfolding(crate::specs::Texts::hint_text))]
+pub(crate) fn hint(error: HintError) -> &'static [u8]
+    ensures { result.now ≡ hint_text error }
+{
+    match error {
+        HintError::BadGoalName => b"6.1 BadGoalName",
+        HintError::UnknownKeyword => b"6.2 UnknownKeyword",
+        HintError::UnknownRune => b"6.3 UnknownRune",
+        HintError::BadInstance => b"6.4 BadInstance",
+        HintError::Repeated => b"6.5 Repeated",
+        HintError::NoMemory => b"",
     }
 }
 

@@ -1,4 +1,4 @@
-ghost use Rattle.std.specs.Prelude.{◌≡◌, ◌++◌, [], ◌∷◌, None, IfOk, IsTrue, false, codes};
+ghost use Rattle.std.specs.Prelude.{◌≡◌, ◌++◌, [], ◌∷◌, None, IfOk, IsTrue, false, codes, option_map};
 ghost use Rattle.ap_world.specs.Meaning.{Valid};
 ghost use Rattle.ap_world.specs.Sound.{known, HasFunctions};
 ghost use Rattle.ap_world.specs.World.{function_of, has_name};
@@ -6,19 +6,23 @@ ghost use Rattle.ap_world.specs.declared.entry.Entry.TheVariants as entry;
 ghost use Rattle.ap_rules.specs.Refused.{refusal};
 ghost use Rattle.ap_translate.specs.Answers.{Gives};
 ghost use Rattle.ap_translate.specs.Table.{translated};
+ghost use Rattle.ap_hints.specs.Known.{KnownHints};
 ghost use Rattle.ap_events.specs.Shapes.{as_stated};
+ghost use Rattle.ap_events.specs.Hinting.{given_hints};
 ghost use Rattle.ap_events.specs.Ends.{admitted, step_in, Follows};
 ghost use Rattle.ap_events.specs.Attempts.{tried, plan_for};
 ghost use Rattle.ap_events.specs.Texts.{event_text, refused_as, failure_text, translation_text};
-ghost use Rattle.ap_events.specs.Theorems.{added_theorem, refused_theorem, theorem_of, tried_theorem, judged_theorem, classified_theorem, named_theorem, stated_theorem};
+ghost use Rattle.ap_events.specs.Theorems.{added_theorem, refused_theorem, theorem_of, tried_theorem, hinted_theorem, judged_theorem, classified_theorem, named_theorem};
 
 use crate::attempting::{Tried, attempt};
 use crate::classes::classes_of;
-use crate::end::{RuledEnd, not_supported};
+use crate::end::RuledEnd;
+use crate::hinting::given_hints;
 use crate::limits::Limits;
 use crate::shapes::Statement;
 use crate::taken::is_taken;
 use crate::texts;
+use ap_hints::Hints;
 use ap_list::{Bytes, NoMemory, Seq};
 use ap_reader::Form;
 use ap_rules::{RuleError, Ruled, rules_of};
@@ -137,20 +141,49 @@ fn ended(alloc: Global, w: Ruled, theorem: Theorem, tried: &Tried) -> Result<Rul
     }
 }
 
-/// Tries to prove a theorem whose name is free, and adds it where it is proved.
-fn tried(alloc: Global, w: Ruled, theorem: Theorem, limits: &Limits) -> Result<RuledEnd, NoMemory>
+/// Tries to prove a theorem whose name is free by hints, and adds it where it is proved.
+fn tried(
+    alloc: Global,
+    w: Ruled,
+    theorem: Theorem,
+    hints: Hints,
+    limits: &Limits,
+) -> Result<RuledEnd, NoMemory>
     requires functions { HasFunctions (function_of w.entries) }
     requires free { has_name w.entries theorem.name ≡ false }
     requires known { IsTrue (known (function_of w.entries) theorem.term) }
-    ensures step { IfOk result (λ e. step_in e ≡ tried_theorem w theorem (tried limits.now (plan_for limits.now w) theorem.term)) }
+    requires hints { KnownHints w.entries hints }
+    ensures step { IfOk result (λ e. step_in e ≡ tried_theorem w theorem (tried limits.now (plan_for limits.now w hints) theorem.term)) }
     ensures follows { IfOk result (λ e. Follows w e) }
 {
     let plan = Plan {
         world: w,
+        hints,
         step_limit: limits.steps,
     };
     let tried = attempt(alloc, &plan, limits, &theorem.term)?;
     ended(alloc, plan.world, theorem, &tried)
+}
+
+/// Tries a theorem whose name is free, unless the hints that are given are refused.
+#[tactic(auto, unfolding(crate::specs::Theorems::hinted_theorem))]
+fn hinted(
+    alloc: Global,
+    w: Ruled,
+    theorem: Theorem,
+    given: Option<&Form>,
+    limits: &Limits,
+) -> Result<RuledEnd, NoMemory>
+    requires functions { HasFunctions (function_of w.entries) }
+    requires free { has_name w.entries theorem.name ≡ false }
+    requires known { IsTrue (known (function_of w.entries) theorem.term) }
+    ensures step { IfOk result (λ e. step_in e ≡ hinted_theorem limits.now w theorem (given_hints w (option_map (λ f. f.now) given.entry))) }
+    ensures follows { IfOk result (λ e. Follows w e) }
+{
+    match given_hints(alloc, &w, given)? {
+        Ok(hints) => tried(alloc, w, theorem, hints, limits),
+        Err(error) => refused(alloc, w, &theorem.name, b"", texts::hint(error)),
+    }
 }
 
 /// Why a theorem gives no rules of its classes, if it gives none.
@@ -166,16 +199,22 @@ fn rule_refusal(alloc: Global, theorem: &Theorem) -> Result<Option<RuleError>, N
 
 /// Tries a theorem whose name is free, unless it gives no rules of its classes.
 #[tactic(auto, unfolding(crate::specs::Theorems::ruled_theorem))]
-fn ruled(alloc: Global, w: Ruled, theorem: Theorem, limits: &Limits) -> Result<RuledEnd, NoMemory>
+fn ruled(
+    alloc: Global,
+    w: Ruled,
+    theorem: Theorem,
+    given: Option<&Form>,
+    limits: &Limits,
+) -> Result<RuledEnd, NoMemory>
     requires functions { HasFunctions (function_of w.entries) }
     requires free { has_name w.entries theorem.name ≡ false }
     requires known { IsTrue (known (function_of w.entries) theorem.term) }
-    ensures step { IfOk result (λ e. step_in e ≡ judged_theorem limits.now w theorem) }
+    ensures step { IfOk result (λ e. step_in e ≡ judged_theorem limits.now w theorem (option_map (λ f. f.now) given.entry)) }
     ensures follows { IfOk result (λ e. Follows w e) }
 {
     match rule_refusal(alloc, &theorem)? {
         Some(error) => refused(alloc, w, &theorem.name, b"", texts::rule(error)),
-        None => tried(alloc, w, theorem, limits),
+        None => hinted(alloc, w, theorem, given, limits),
     }
 }
 
@@ -207,7 +246,7 @@ fn classified(
     ensures follows { IfOk result (λ e. Follows w e) }
 {
     let theorem = theorem_of(alloc, statement, term)?;
-    ruled(alloc, w, theorem, limits)
+    ruled(alloc, w, theorem, statement.choices.hints, limits)
 }
 
 /// The term that a theorem's form is.
@@ -233,9 +272,9 @@ fn untranslated(
     refused(alloc, w, name, b"", reason.as_slice())
 }
 
-/// Does the event of a theorem without hints.
+/// Does a theorem's event, by what it states.
 #[tactic(auto, unfolding(crate::specs::Theorems::named_theorem, crate::specs::Theorems::translated_theorem))]
-fn named(
+pub(crate) fn state(
     alloc: Global,
     w: Ruled,
     statement: &Statement<'_>,
@@ -253,23 +292,4 @@ fn named(
         Err(TransError::NoMemory) => Err(AllocError),
         Err(TransError::Fault { kind, .. }) => untranslated(alloc, w, statement.name, kind),
     }
-}
-
-/// Does a theorem's event, by what it states.
-#[tactic(auto, unfolding(crate::specs::Theorems::stated_theorem))]
-pub(crate) fn state(
-    alloc: Global,
-    w: Ruled,
-    head: &Symbol,
-    statement: &Statement<'_>,
-    limits: &Limits,
-) -> Result<RuledEnd, NoMemory>
-    requires functions { HasFunctions (function_of w.entries) }
-    ensures step { IfOk result (λ e. step_in e ≡ stated_theorem limits.now w head.now (as_stated statement.now)) }
-    ensures follows { IfOk result (λ e. Follows w e) }
-{
-    if statement.choices.hinted {
-        return not_supported(alloc, w, head);
-    }
-    named(alloc, w, statement, limits)
 }

@@ -15,8 +15,8 @@ ghost use Rattle.ap_events.specs.Shapes.{as_defined};
 ghost use Rattle.ap_events.specs.Prepared.{IsPrepared};
 ghost use Rattle.ap_events.specs.Definitions.{formal_in, formal_names, component_forms, guard_forms, translated_all, translated_measure, stub, prepared_definition, translated_parts, translated_definition};
 
-use crate::forms::{is_symbol, items, symbol};
 use crate::shapes::Definition;
+use ap_hints::{is_symbol, items, symbol};
 use ap_kernel::nil_term;
 use ap_list::{NoMemory, Seq};
 use ap_reader::Form;

@@ -1,5 +1,5 @@
 -- The tasks of the waterfall, as contracts see them.
-use Rattle.std.specs.Prelude.{◌≡◌, ◌≤◌, ℕ, Bool, true, false, IsTrue, IfSome, [], Option, None}
+use Rattle.std.specs.Prelude.{◌≡◌, ◌≤◌, ℕ, Bool, true, false, cond, IsTrue, IfSome, List, [], ◌∷◌, ◌++◌, Option, Some, None, unwrap_or}
 use Rattle.ap_list.specs.Lists.{Each}
 use Rattle.ap_term.specs.declared.term.Term.{Term}
 use Rattle.ap_term.specs.declared.term.Clause.{Clause}
@@ -7,7 +7,9 @@ use Rattle.ap_world.specs.Clauses.{flat}
 use Rattle.ap_world.specs.Meaning.{Defs}
 use Rattle.ap_world.specs.Sound.{known, HasFunctions}
 use Rattle.ap_world.specs.World.{function_of}
-use Rattle.ap_names.specs.Names.{Name, root, is_pushed, pushed_of}
+use Rattle.ap_names.specs.Names.{Name, name_eq, root, is_pushed, pushed_of}
+use Rattle.ap_hints.specs.declared.hint.Hint.{Hint}
+use Rattle.ap_hints.specs.Known.{KnownHints}
 use Rattle.ap_kernel.specs.Reductions.{KnownClause}
 use Rattle.ap_strategy.specs.declared.plan.Plan.{Plan}
 use Rattle.ap_strategy.specs.declared.plan.Settings.{Settings}
@@ -32,6 +34,7 @@ defs_of plan = function_of plan.world.entries
 -- what each task keeps
 pub record IsGoal (g : Goal) : Type 0 where
   pub functions : HasFunctions (defs_of g.plan)
+  pub hints : KnownHints g.plan.world.entries g.plan.hints
   pub clause : KnownClause (defs_of g.plan) g.clause
   pub expand : Each (λ u. IsTrue (known (defs_of g.plan) u)) g.settings.expand
   pub scheme : IfSome g.scheme (λ u. IsTrue (known (defs_of g.plan) u))
@@ -57,7 +60,30 @@ root_goal plan u = record {
   scheme = None;
 }
 
--- the induction of a goal that was pushed as number k of its walk: it has the pushed goal's name, and new
--- paths begin at it
+-- the hint of a name, the first that is for it
+abbrev pub hint_among : List Hint → Name → Option Hint
+hint_among [] name = None
+hint_among (h ∷ hs) name = cond (name_eq h.goal name) (Some h) (hint_among hs name)
+
+abbrev pub hint_for : Plan → Name → Option Hint
+hint_for plan name = hint_among plan.hints.list name
+
+-- what a hint says beside what holds from above: its theory takes the place of that one; its calls to open and its
+-- processes that don't apply are added
+abbrev pub with_hint : Option Hint → Settings → Settings
+with_hint None s = s
+with_hint (Some h) s = record { theory = unwrap_or h.theory s.theory; expand = s.expand ++ h.expand; skip = s.skip ++ h.skip }
+
+-- a goal with what its own name's hint says of it and of all below
+abbrev pub hinted : Goal → Goal
+hinted g = record g { settings = with_hint (hint_for g.plan g.name) g.settings }
+
+-- the call that a hint says an induction is to be by
+abbrev pub scheme_by : Option Hint → Option Term
+scheme_by None = None
+scheme_by (Some h) = h.scheme
+
+-- the induction of a goal that was pushed as number k of its walk: it has the pushed goal's name, new paths begin
+-- at it, and the hint of the goal that was pushed holds for it
 abbrev pub inducted : Goal → ℕ → Goal
-inducted g k = record g { name = pushed_of g.name k; depth = 0; under = false; induct = true }
+inducted g k = record (hinted g) { name = pushed_of g.name k; depth = 0; under = false; induct = true; scheme = scheme_by (hint_for g.plan g.name) }

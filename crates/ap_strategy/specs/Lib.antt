@@ -1,5 +1,6 @@
 pub mod Goals
 pub mod Steps
+pub mod Hinted
 pub mod Later
 pub mod Repeats
 pub mod Reduced

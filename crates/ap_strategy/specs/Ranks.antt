@@ -10,8 +10,8 @@ use Rattle.ap_walk.specs.declared.act.Reason.{Reason}
 use Rattle.ap_walk.specs.declared.act.Out.{Out}
 use Rattle.ap_walk.specs.Visits.{out_children}
 use Rattle.ap_kernel.specs.declared.reductions.Inference.{Inference}
-use Rattle.ap_strategy.specs.Goals.{Goal, inducted}
-use Rattle.ap_strategy.specs.Steps.{named, counted_down, child, seen_below, clause_step, stop_step, scheme_step, induct_step, step_of}
+use Rattle.ap_strategy.specs.Goals.{Goal, hinted, inducted}
+use Rattle.ap_strategy.specs.Steps.{hint_goals, named, counted_down, child, children, seen_below, clause_step, stop_step, scheme_step, induct_step, step_of}
 use Rattle.ap_strategy.specs.Laws.{scheme_for, of_step}
 
 -- by whether the goal is an induction, and the count of its name's numbers: an induction under more than
@@ -56,11 +56,15 @@ plain_low : (b : Bool) (n : ℕ) → b ≡ false → rank_at false n ≤ rank_at
 plain_low true n plain = absurd (true≢false plain)
 plain_low false n plain = omega arith
 
+plain_children : (g : Goal) (ds : List Clause) → g.induct ≡ false → Each (λ c. rank_of c ≤ rank_of g) (children g ds)
+plain_children g ds plain = children_low g (named g.name ds) (plain_low g.induct (length g.name.induction) plain) (named_same g.name ds)
+
 -- no child has a greater rank
 pub ranked : (g : Goal) → Each (λ c. rank_of c ≤ rank_of g) (out_children (step_of g).out)
-ranked g = of_step (λ g s. Each (λ c. rank_of c ≤ rank_of g) (out_children s.out)) g (λ missed r. tt) (λ limited. tt)
-    (λ ds plain above q. children_low g (named g.name ds) (plain_low g.induct (length g.name.induction) plain) (named_same g.name ds))
-    (λ p limited plain above q. children_low (seen_below true g) (named g.name p.1) (plain_low g.induct (length g.name.induction) plain) (named_same g.name p.1))
+ranked g = of_step (λ g s. Each (λ c. rank_of c ≤ rank_of g) (out_children s.out)) g (λ missed r. tt) (λ missed limited. tt)
+    (λ h plain above q. plain_children (hinted g) (hint_goals g.plan.world.entries h g.clause) plain)
+    (λ ds plain above q. plain_children (hinted g) ds plain)
+    (λ p limited plain above q. plain_children (seen_below true (hinted g)) p.1 plain)
     (λ p q few h. children_low g (counted_down g.name p.1.to) (few_low g.induct (length g.name.induction) few) (counted_same g.name p.1.to))
 
 -- one number more

@@ -1,20 +1,30 @@
--- The waterfall's step on a goal: it is simplified, or else the first of the later processes that applies makes
--- its children, or it is pushed, or the attempt stops at it; a pushed goal's induction splits into its cases.
-use Rattle.std.specs.Prelude.{◌≡◌, ℕ, ◌+◌, ◌-◌, Bool, true, false, cond, nat_eq, nat_le, nat_lt, List, [], ◌∷◌, ◌++◌, length, map, Option, Some, None, IsTrue, IfSome}
+-- The waterfall's step on a goal: its hint splits or pushes it; or it is simplified, or else the first of the later
+-- processes that applies makes its children, or it is pushed, or the attempt stops at it; a pushed goal's induction
+-- splits into its cases.
+use Rattle.std.specs.Prelude.{◌≡◌, ℕ, ◌+◌, ◌-◌, Bool, true, false, cond, ◌||◌, nat_eq, nat_le, nat_lt, List, [], ◌∷◌, ◌++◌, length, map, Option, Some, None, IsTrue, IfSome}
 use Rattle.std.specs.Option.{option_map}
 use Rattle.ap_list.specs.Lists.{is_among, joined}
+use Rattle.ap_value.specs.declared.symbol.Symbol.{Symbol}
+use Rattle.ap_term.specs.declared.term.Subst.{Subst}
 use Rattle.ap_term.specs.declared.term.Term.{Term}
 use Rattle.ap_term.specs.declared.term.Clause.{Clause}
+use Rattle.ap_term.specs.Terms.{subst_of}
+use Rattle.ap_world.specs.declared.entry.Entry.{Entry}
+use Rattle.ap_world.specs.declared.entry.Theorem.{Theorem}
+use Rattle.ap_world.specs.Clauses.{negate}
 use Rattle.ap_world.specs.Meaning.{Valid}
 use Rattle.ap_world.specs.Recursion.{args_eq}
 use Rattle.ap_world.specs.Sound.{known, Sound, HasFunctions}
-use Rattle.ap_world.specs.World.{are_distinct}
+use Rattle.ap_world.specs.World.{theorem_of, are_distinct}
 use Rattle.ap_names.specs.Names.{Name, child_of, primed_of}
+use Rattle.ap_hints.specs.declared.hint.Hint.{Hint}
+use Rattle.ap_hints.specs.Known.{KnownHints}
 use Rattle.ap_walk.specs.declared.act.Reason.{Reason}
 use Rattle.ap_walk.specs.declared.act.Process.{Process}
 use Rattle.ap_walk.specs.declared.act.Out.{Out}
 use Rattle.ap_walk.specs.declared.act.Stepped.{Stepped}
 use Rattle.ap_kernel.specs.declared.reductions.Inference.{Inference}
+use Rattle.ap_kernel.specs.Hinting.{case_clauses}
 use Rattle.ap_kernel.specs.Reductions.{KnownClause}
 use Rattle.ap_kernel.specs.Tidying.{tidied, holds_by_itself, tidy_goals}
 use Rattle.ap_kernel.specs.Solving.{any_true, solved_made}
@@ -28,7 +38,7 @@ use Rattle.ap_weaken.specs.Generalize.{generalize_made}
 use Rattle.ap_weaken.specs.Irrelevance.{irrelevance_made}
 use Rattle.ap_strategy.specs.declared.plan.Plan.{Plan}
 use Rattle.ap_strategy.specs.declared.plan.Settings.{Settings}
-use Rattle.ap_strategy.specs.Goals.{Goal, defs_of}
+use Rattle.ap_strategy.specs.Goals.{Goal, defs_of, hint_for, hinted}
 
 -- what a goal's literals are rewritten by: its plan's world and the settings that hold for it
 abbrev pub setting_by : Plan → Settings → Setting
@@ -99,11 +109,8 @@ named name (d ∷ []) = (primed_of name, d) ∷ []
 named name ds = counted_down name ds
 
 -- the call that is given for an induction is for that one alone
-abbrev pub scheme_below : Goal → Option Term
-scheme_below g = cond g.induct None g.scheme
-
 abbrev pub child : Goal → Name × Clause → Goal
-child g p = record g { name = p.0; clause = p.1; depth = g.depth + 1; induct = false; scheme = scheme_below g }
+child g p = record g { name = p.0; clause = p.1; depth = g.depth + 1; induct = false; scheme = None }
 
 abbrev pub children : Goal → List Clause → List Goal
 children g ds = map (child g) (named g.name ds)
@@ -172,13 +179,51 @@ abbrev pub simplify_step : Goal → Option (List Clause) → Stepped Goal
 simplify_step g None = missed_step g true (later g)
 simplify_step g (Some ds) = cond (is_alone g.clause ds) (missed_step g false (later g)) (done Process.Simplify false false (Out.Split (children g ds)))
 
+abbrev pub open_step : Goal → Stepped Goal
+open_step g = simplify_step g (simplified (setting_of g) g.plan.step_limit g.clause)
+
+-- a theorem's instance is assumed in a clause: its negation stands first
+abbrev pub used_in : Option Theorem → Subst → Clause → Clause
+used_in None s c = c
+used_in (Some thm) s c = record { 0 = negate (subst_of s.0 thm.term) ∷ c.0 }
+
+-- the instances that are used, the first of them first
+abbrev pub used_all : List Entry → List (Symbol × Subst) → Clause → Clause
+used_all W [] c = c
+used_all W (p ∷ ps) c = used_in (theorem_of W p.0) p.1 (used_all W ps c)
+
+-- the cases of a clause: the clause alone where there are none
+abbrev pub cased_by : List Term → Clause → List Clause
+cased_by us c = case_clauses us c.0
+
+-- what a hint makes of a clause: its cases, in each of which the instances are assumed
+abbrev pub hint_goals : List Entry → Hint → Clause → List Clause
+hint_goals W h c = map (used_all W h.uses) (cased_by h.cases c)
+
+abbrev pub has_any : {A : Type 0} → List A → Bool
+has_any [] = false
+has_any (x ∷ xs) = true
+
+-- there are theorems to use, or cases
+abbrev pub makes_goals : Hint → Bool
+makes_goals h = has_any h.uses || has_any h.cases
+
+-- a hint that makes goals makes the goal's children; another one with a call pushes the goal at once, which is no miss
+abbrev pub pushed_or_open : Goal → Option Term → Stepped Goal
+pushed_or_open g None = open_step g
+pushed_or_open g (Some u) = done Process.Push false false Out.Push
+
+abbrev pub hint_step : Goal → Option Hint → Stepped Goal
+hint_step g None = open_step g
+hint_step g (Some h) = cond (makes_goals h) (done Process.Hint false false (Out.Split (children g (hint_goals g.plan.world.entries h g.clause)))) (pushed_or_open g h.scheme)
+
 abbrev pub stop_step : Bool → Reason → Stepped Goal
 stop_step missed r = done Process.Stop missed false (Out.Stop r)
 
 -- the empty clause counts as left unchanged
 abbrev pub clause_step : Goal → List Term → Stepped Goal
 clause_step g [] = stop_step true Reason.EmptyClause
-clause_step g us = cond (nat_le 250 g.depth) (stop_step false Reason.PathDepth) (simplify_step g (simplified (setting_of g) g.plan.step_limit g.clause))
+clause_step g us = cond (nat_le 250 g.depth) (stop_step false Reason.PathDepth) (hint_step (hinted g) (hint_for g.plan g.name))
 
 -- the clauses of an induction
 abbrev pub cases_in : Term × Inference → List Clause
@@ -206,7 +251,9 @@ KnownScheme g = IfSome g.scheme (λ u. IsTrue (known (defs_of g.plan) u))
 
 -- what a proof of a goal establishes: in its plan's world, where that is sound, the clause is valid
 abbrev pub IsGood : Goal → Type 0
-IsGood g = HasFunctions (defs_of g.plan) → Sound g.plan.world.entries → are_distinct g.plan.world.entries ≡ true → KnownClause (defs_of g.plan) g.clause → KnownScheme g → Valid (defs_of g.plan) g.clause.0
+IsGood g =
+    HasFunctions (defs_of g.plan) → Sound g.plan.world.entries → are_distinct g.plan.world.entries ≡ true → KnownClause (defs_of g.plan) g.clause → KnownHints g.plan.world.entries g.plan.hints
+    → KnownScheme g → Valid (defs_of g.plan) g.clause.0
 
 -- as inferences of the kernel
 abbrev pub reduced_to : Clause → List Clause → Inference

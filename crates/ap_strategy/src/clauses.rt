@@ -3,7 +3,7 @@ ghost use Rattle.ap_world.specs.Recursion.{args_eq};
 ghost use Rattle.ap_strategy.specs.Steps.{is_repeated, unrepeated, is_alone};
 
 use ap_list::{NoMemory, Seq};
-use ap_term::{Clause, Term, copy_terms, same_term};
+use ap_term::{Clause, Term, copy_term, copy_terms, same_term};
 use std::alloc::Global;
 
 /// Whether two lists of terms are one. Takes no memory.
@@ -33,6 +33,16 @@ pub(crate) fn copy_clause(alloc: Global, c: &Clause) -> Result<Clause, NoMemory>
     ensures { IfOk result (λ d. d ≡ c.now) }
 {
     Ok(Clause(copy_terms(alloc, c.0.as_slice())?))
+}
+
+/// A copy of a term, where there is one.
+pub(crate) fn copy_scheme(alloc: Global, scheme: &Option<Term>) -> Result<Option<Term>, NoMemory>
+    ensures { IfOk result (λ s. s ≡ scheme.now) }
+{
+    match scheme {
+        Some(term) => Ok(Some(copy_term(alloc, term)?)),
+        None => Ok(None),
+    }
 }
 
 /// Whether a clause is one of a list. Takes no memory.

@@ -1,10 +1,12 @@
 //! One step of the waterfall of ACL2 (the manual's topic `hints-and-the-waterfall`; "Computer-Aided
-//! Reasoning", 2000) on a goal: the goal is simplified, or it is pushed, or the attempt stops at it. Each
+//! Reasoning", 2000) on a goal: the hint for its name says what is done with it; or it is simplified, or it is pushed,
+//! or the attempt stops at it. Each
 //! clause that a goal is simplified to comes from the kernel's rows: a clause is tidied; a literal that solves a
 //! variable replaces it; or else each literal is rewritten, with linear arithmetic, and what is left is split and tidied.
 #![tactic(auto)]
 
 mod clauses;
+mod hinting;
 mod later;
 mod oracles;
 mod plan;
@@ -14,6 +16,7 @@ mod step;
 mod stepping;
 mod task;
 
+pub use ap_hints::Hints;
 pub use ap_list::{NoMemory, Seq};
 pub use ap_names::GoalName;
 pub use ap_rules::Ruled;

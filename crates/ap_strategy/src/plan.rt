@@ -1,6 +1,7 @@
 ghost use Rattle.std.specs.Prelude.{◌≡◌, IfOk};
 ghost use Rattle.ap_strategy.specs.Goals.{first_settings};
 
+use ap_hints::Hints;
 use ap_list::{NoMemory, Seq};
 use ap_rules::Ruled;
 use ap_term::{Term, copy_terms};
@@ -8,11 +9,12 @@ use ap_walk::Process;
 use ap_world::{Theory, copy_theory};
 use std::alloc::Global;
 
-/// What the goals of an attempt are worked by: the world with the index of its rules, and the number of steps that
-/// one clause may spend.
+/// What the goals of an attempt are worked by: the world with the index of its rules, the hints for goals by their
+/// names, and the number of steps that one clause may spend.
 #[derive(Drop)]
 pub struct Plan {
     pub world: Ruled,
+    pub hints: Hints,
     pub step_limit: u32,
 }
 

@@ -2,6 +2,7 @@ ghost use Rattle.std.specs.Prelude.{◌≡◌, ◌↔◌, IsTrue};
 
 use crate::clauses::same_terms;
 use crate::plan::{Plan, Settings};
+use ap_hints::same_hints;
 use ap_walk::Process;
 use ap_world::{same_theory, same_world};
 
@@ -9,7 +10,9 @@ use ap_world::{same_theory, same_world};
 pub(crate) fn same_plan(a: &Plan, b: &Plan) -> bool
     ensures { IsTrue result ↔ (a.now ≡ b.now) }
 {
-    a.step_limit == b.step_limit && same_world(a.world.world(), b.world.world())
+    a.step_limit == b.step_limit
+        && same_hints(&a.hints, &b.hints)
+        && same_world(a.world.world(), b.world.world())
 }
 
 /// Whether two lists of processes are one. Takes no memory.

@@ -1,5 +1,6 @@
 ghost use Rattle.std.specs.Prelude.{◌≡◌, IfOk, IsTrue};
 ghost use Rattle.ap_world.specs.Sound.{known, HasFunctions};
+ghost use Rattle.ap_hints.specs.Known.{KnownHints};
 ghost use Rattle.ap_strategy.specs.Goals.{defs_of, root_goal};
 
 use crate::plan::Plan;
@@ -32,10 +33,18 @@ impl<'a> Acl2Step<'a> {
         self.plan
     }
 
+    /// Whether the plan's hints say that nothing is to be proved by induction. Takes no memory.
+    pub fn do_not_induct(&self) -> bool
+        ensures { result ≡ self.now.plan.now.hints.do_not_induct }
+    {
+        self.plan.hints.do_not_induct
+    }
+
     /// The task that the attempt on a term starts from. The only error is want of memory.
     pub fn root(&self, alloc: Global, term: &Term) -> Result<Task<'a>, NoMemory>
         requires functions { HasFunctions (defs_of self.now.plan.now) }
         requires term { IsTrue (known (defs_of self.now.plan.now) term.now) }
+        requires hints { KnownHints self.now.plan.now.world.entries self.now.plan.now.hints }
         ensures { IfOk result (λ t. t ≡ root_goal self.now.plan.now term.now) }
     {
         root_task(alloc, self.plan, term)

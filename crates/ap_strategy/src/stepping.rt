@@ -2,19 +2,22 @@ ghost use Rattle.std.specs.Prelude.{◌≡◌, ◌+◌, ◌^◌, ◌<◌, ◌≤
 ghost use Rattle.std.specs.Option.{option_map};
 ghost use Rattle.ap_list.specs.Lists.{Each};
 ghost use Rattle.ap_names.specs.Names.{is_pushed};
+ghost use Rattle.ap_hints.specs.Known.{KnownHint};
 ghost use Rattle.ap_walk.specs.declared.act.Process.{Process};
 ghost use Rattle.ap_walk.specs.declared.act.Out.{Out};
 ghost use Rattle.ap_walk.specs.declared.act.Reason.{Reason};
 ghost use Rattle.ap_kernel.specs.Reductions.{KnownClause};
 ghost use Rattle.ap_induct.specs.Choosing.{scheme_of};
 ghost use Rattle.ap_strategy.specs.Goals.{defs_of, IsGoal};
-ghost use Rattle.ap_strategy.specs.Steps.{setting_of, scheme_below, child, seen_below, counted_down, children, cases_in, done, stop_step, later, missed_step, simplify_step, simplified, clause_step, induct_step, step_of};
+ghost use Rattle.ap_strategy.specs.Steps.{child, seen_below, counted_down, children, cases_in, done, stop_step, later, missed_step, open_step, pushed_or_open, hint_step, clause_step, induct_step, step_of};
 
 use crate::clauses::{copy_clause, is_alone};
+use crate::hinting::{hint_for, hint_goals, makes_goals};
 use crate::later::later;
 use crate::plan::copy_settings;
 use crate::simplifying::simplify;
-use crate::task::{Task, copy_scheme};
+use crate::task::{Task, hinted};
+use ap_hints::Hint;
 use ap_induct::scheme;
 use ap_list::{NoMemory, Seq};
 use ap_names::GoalName;
@@ -22,18 +25,8 @@ use ap_term::{Clause, Term};
 use ap_walk::{Act, Out, Process, Reason, Stepped};
 use std::alloc::Global;
 
-/// The call that is given for the inductions below a task: an induction's own is for that one alone.
-fn scheme_below(alloc: Global, task: &Task<'_>) -> Result<Option<Term>, NoMemory>
-    ensures { IfOk result (λ s. s ≡ scheme_below task.now) }
-{
-    if task.induct {
-        return Ok(None);
-    }
-    copy_scheme(alloc, &task.scheme)
-}
-
 /// A task below another one, with a name and a clause of its own, told whether it is below a checkpoint. It is no
-/// induction.
+/// induction, and no call is given for one.
 fn child<'a>(
     alloc: Global,
     task: &Task<'a>,
@@ -48,7 +41,6 @@ fn child<'a>(
     ensures { IfOk result (λ t. t ≡ child (seen_below under task.now) (name, clause)) }
 {
     let settings = copy_settings(alloc, &task.settings)?;
-    let scheme = scheme_below(alloc, task)?;
     Ok(Task {
         plan: task.plan,
         name,
@@ -57,7 +49,7 @@ fn child<'a>(
         under,
         settings,
         induct: false,
-        scheme,
+        scheme: None,
     })
 }
 
@@ -123,16 +115,30 @@ fn stopped<'a>(missed: bool, reason: Reason) -> Stepped<Task<'a>>
 }
 
 /// The step of a task that is set aside for an induction.
-fn pushed<'a>(limited: bool) -> Stepped<Task<'a>>
-    ensures { result ≡ done Process.Push true limited Out.Push }
+fn pushed<'a>(missed: bool, limited: bool) -> Stepped<Task<'a>>
+    ensures { result ≡ done Process.Push missed limited Out.Push }
 {
     Stepped {
         act: Act {
             process: Process::Push,
-            missed: true,
+            missed,
             limited,
         },
         out: Out::Push,
+    }
+}
+
+/// The step of a task that a process splits, where nothing missed.
+fn split<'a>(process: Process, children: Seq<Task<'a>>) -> Stepped<Task<'a>>
+    ensures { result ≡ done process false false (Out.Split children.entry) }
+{
+    Stepped {
+        act: Act {
+            process,
+            missed: false,
+            limited: false,
+        },
+        out: Out::Split(children),
     }
 }
 
@@ -162,30 +168,16 @@ fn missed_step<'a>(
     ensures { IfOk result (λ s. s ≡ missed_step task.now limited (later task.now)) }
 {
     let Some((process, clauses)) = later(alloc, task)? else {
-        return Ok(pushed(limited));
+        return Ok(pushed(true, limited));
     };
     Ok(made(process, limited, children(alloc, task, true, clauses)?))
 }
 
-/// The step of a task that was simplified.
-fn simplified<'a>(children: Seq<Task<'a>>) -> Stepped<Task<'a>>
-    ensures { result ≡ done Process.Simplify false false (Out.Split children.entry) }
-{
-    Stepped {
-        act: Act {
-            process: Process::Simplify,
-            missed: false,
-            limited: false,
-        },
-        out: Out::Split(children),
-    }
-}
-
 /// Simplifies a task; where its clause stays the same, or the steps run out, that is a miss.
-fn simplify_step<'a>(alloc: Global, task: &Task<'a>) -> Result<Stepped<Task<'a>>, NoMemory>
+fn open_step<'a>(alloc: Global, task: &Task<'a>) -> Result<Stepped<Task<'a>>, NoMemory>
     requires above { task.now.depth < 250 }
     requires plain { task.now.induct ≡ false }
-    ensures { IfOk result (λ s. s ≡ simplify_step task.now (simplified (setting_of task.now) task.now.plan.step_limit task.now.clause)) }
+    ensures { IfOk result (λ s. s ≡ open_step task.now) }
 {
     let clause = copy_clause(alloc, &task.clause)?;
     let Some(clauses) = simplify(alloc, task.plan, &task.settings, clause)? else {
@@ -194,7 +186,42 @@ fn simplify_step<'a>(alloc: Global, task: &Task<'a>) -> Result<Stepped<Task<'a>>
     if is_alone(&task.clause, clauses.as_slice()) {
         return missed_step(alloc, task, false);
     }
-    Ok(simplified(children(alloc, task, task.under, clauses)?))
+    Ok(split(
+        Process::Simplify,
+        children(alloc, task, task.under, clauses)?,
+    ))
+}
+
+/// Pushes a task whose hint has a call to induct by; else simplifies it.
+fn pushed_or_open<'a>(
+    alloc: Global,
+    task: &Task<'a>,
+    scheme: &Option<Term>,
+) -> Result<Stepped<Task<'a>>, NoMemory>
+    requires above { task.now.depth < 250 }
+    requires plain { task.now.induct ≡ false }
+    ensures { IfOk result (λ s. s ≡ pushed_or_open task.now scheme.now) }
+{
+    match scheme {
+        Some(_) => Ok(pushed(false, false)),
+        None => open_step(alloc, task),
+    }
+}
+
+/// The step of a task whose settings hold its hint.
+fn hint_step<'a>(alloc: Global, task: &Task<'a>, hint: &Hint) -> Result<Stepped<Task<'a>>, NoMemory>
+    requires above { task.now.depth < 250 }
+    requires plain { task.now.induct ≡ false }
+    requires hint { KnownHint task.now.plan.world.entries hint.now }
+    ensures { IfOk result (λ s. s ≡ hint_step task.now (Some hint.now)) }
+{
+    if !makes_goals(hint) {
+        return pushed_or_open(alloc, task, &hint.scheme);
+    }
+    task.is_goal();
+    let clause = copy_clause(alloc, &task.clause)?;
+    let clauses = hint_goals(alloc, task.plan.world.world(), hint, clause)?;
+    Ok(split(Process::Hint, children(alloc, task, task.under, clauses)?))
 }
 
 /// The step of a task that isn't an induction.
@@ -208,7 +235,11 @@ fn clause_step<'a>(alloc: Global, task: &Task<'a>) -> Result<Stepped<Task<'a>>, 
     if task.depth >= 250 {
         return Ok(stopped(false, Reason::PathDepth));
     }
-    simplify_step(alloc, task)
+    task.is_goal();
+    let Some(hint) = hint_for(task.plan, &task.name) else {
+        return open_step(alloc, task);
+    };
+    hint_step(alloc, &hinted(alloc, task)?, hint)
 }
 
 /// The clauses of the induction of a task, if there is one.
@@ -227,20 +258,6 @@ fn cases(alloc: Global, task: &Task<'_>) -> Result<Option<Seq<Clause>>, NoMemory
     Ok(Some(clauses))
 }
 
-/// The step of a task whose induction has these cases.
-fn inducted<'a>(cases: Seq<Task<'a>>) -> Stepped<Task<'a>>
-    ensures { result ≡ done Process.Induct false false (Out.Split cases.entry) }
-{
-    Stepped {
-        act: Act {
-            process: Process::Induct,
-            missed: false,
-            limited: false,
-        },
-        out: Out::Split(cases),
-    }
-}
-
 /// The step of a task that is an induction: its cases, unless it is under too many inductions or has no scheme.
 fn induct_step<'a>(alloc: Global, task: &Task<'a>) -> Result<Stepped<Task<'a>>, NoMemory>
     requires induction { task.now.induct ≡ true }
@@ -252,7 +269,10 @@ fn induct_step<'a>(alloc: Global, task: &Task<'a>) -> Result<Stepped<Task<'a>>, 
     let Some(clauses) = cases(alloc, task)? else {
         return Ok(stopped(false, Reason::NoScheme));
     };
-    Ok(inducted(counted_down(alloc, task, task.under, clauses)?))
+    Ok(split(
+        Process::Induct,
+        counted_down(alloc, task, task.under, clauses)?,
+    ))
 }
 
 /// The step of a task.

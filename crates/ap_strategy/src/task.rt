@@ -1,15 +1,17 @@
 ghost use Rattle.std.specs.Prelude.{◌≡◌, ◌≤◌, ◌↔◌, IfOk, IsTrue};
 ghost use Rattle.ap_world.specs.Sound.{known, HasFunctions};
 ghost use Rattle.ap_names.specs.Names.{root};
-ghost use Rattle.ap_strategy.specs.Goals.{IsGoal, defs_of, root_goal, inducted};
+ghost use Rattle.ap_hints.specs.Known.{KnownHints};
+ghost use Rattle.ap_strategy.specs.Goals.{IsGoal, defs_of, root_goal, hinted, inducted};
 
-use crate::clauses::same_terms;
+use crate::clauses::{copy_scheme, same_terms};
+use crate::hinting::{scheme_of_hint, settings_with_hint};
 use crate::plan::{Plan, Settings, copy_settings, first_settings};
 use crate::same::{same_plan, same_settings};
 use ap_clausify::flat;
 use ap_list::{NoMemory, Seq};
 use ap_names::{GoalName, same_name};
-use ap_term::{Clause, Term, copy_term, copy_terms, same_term};
+use ap_term::{Clause, Term, copy_terms, same_term};
 use std::alloc::Global;
 use std::marker::Model;
 
@@ -18,7 +20,8 @@ use std::marker::Model;
 /// whether it is the induction of a pushed goal; and the call that it is by, where one is given.
 ///
 /// Its type keeps what its step needs. The plan's world has the functions of the ground world, and each call
-/// in the task's terms is of a primitive or of a function of that world, with its number of arguments.
+/// in the task's terms and in the plan's hints is of a primitive or of a function of that world, with its number of
+/// arguments. Each theorem that the hints use is one of that world.
 /// `depth` is at most 250, and the name has no more primes than that. Where `induct` is true the name is a
 /// pushed goal's, and `depth` is 0; where it is false the name is none.
 #[derive(Drop)]
@@ -57,16 +60,6 @@ impl<'a> Task<'a> {
     }
 }
 
-/// A copy of a term, where there is one.
-pub(crate) fn copy_scheme(alloc: Global, scheme: &Option<Term>) -> Result<Option<Term>, NoMemory>
-    ensures { IfOk result (λ s. s ≡ scheme.now) }
-{
-    match scheme {
-        Some(term) => Ok(Some(copy_term(alloc, term)?)),
-        None => Ok(None),
-    }
-}
-
 /// The name `Goal`.
 fn root_name(alloc: Global) -> GoalName
     ensures { result ≡ root }
@@ -84,6 +77,7 @@ fn root_name(alloc: Global) -> GoalName
 pub fn root_task<'a>(alloc: Global, plan: &'a Plan, term: &Term) -> Result<Task<'a>, NoMemory>
     requires functions { HasFunctions (defs_of plan.now) }
     requires term { IsTrue (known (defs_of plan.now) term.now) }
+    requires hints { KnownHints plan.now.world.entries plan.now.hints }
     ensures { IfOk result (λ t. t ≡ root_goal plan.now term.now) }
 {
     plan.world.world().is_sound();
@@ -122,16 +116,36 @@ pub fn copy_task<'a>(alloc: Global, task: &Task<'a>) -> Result<Task<'a>, NoMemor
     })
 }
 
-/// The induction of a task that its walk pushed as number `k`, from 1: the goal has the pushed goal's name,
-/// and new paths begin at it. The only error is want of memory.
+/// A copy of a task with what its own name's hint says in its settings.
+pub(crate) fn hinted<'a>(alloc: Global, task: &Task<'a>) -> Result<Task<'a>, NoMemory>
+    ensures { IfOk result (λ t. t ≡ hinted task.now) }
+{
+    let name = task.name.copy(alloc)?;
+    let clause = Clause(copy_terms(alloc, task.clause.0.as_slice())?);
+    let settings = settings_with_hint(alloc, task.plan, &task.name, &task.settings)?;
+    let scheme = copy_scheme(alloc, &task.scheme)?;
+    Ok(Task {
+        plan: task.plan,
+        name,
+        clause,
+        depth: task.depth,
+        under: task.under,
+        settings,
+        induct: task.induct,
+        scheme,
+    })
+}
+
+/// The induction of a task that its walk pushed as number `k`, from 1: the goal has the pushed goal's name, new
+/// paths begin at it, and the hint of the goal that was pushed holds for it. The only error is want of memory.
 pub fn induct_task<'a>(alloc: Global, task: &Task<'a>, k: u32) -> Result<Task<'a>, NoMemory>
     requires { 1 ≤ k }
     ensures { IfOk result (λ t. t ≡ inducted task.now k) }
 {
     let name = task.name.pushed(alloc, k)?;
     let clause = Clause(copy_terms(alloc, task.clause.0.as_slice())?);
-    let settings = copy_settings(alloc, &task.settings)?;
-    let scheme = copy_scheme(alloc, &task.scheme)?;
+    let settings = settings_with_hint(alloc, task.plan, &task.name, &task.settings)?;
+    let scheme = scheme_of_hint(alloc, task.plan, &task.name)?;
     Ok(Task {
         plan: task.plan,
         name,
@@ -155,7 +169,7 @@ fn same_scheme(a: &Option<Term>, b: &Option<Term>) -> bool
     }
 }
 
-/// Whether two tasks are one, in all that they hold, their plans' worlds too. The plans are compared last.
+/// Whether two tasks are one, in all that they hold, their plans' worlds and hints too. The plans are compared last.
 /// Takes no memory.
 pub fn same_task(a: &Task<'_>, b: &Task<'_>) -> bool
     ensures { IsTrue result ↔ (a.now ≡ b.now) }

@@ -8,6 +8,8 @@ mod arithmetic;
 #[cfg(test)]
 mod events;
 #[cfg(test)]
+mod hints;
+#[cfg(test)]
 mod induction;
 #[cfg(test)]
 mod processes;

@@ -1,6 +1,4 @@
-use crate::working::worked_within;
-use ap_events::{Bytes, NoMemory};
-use std::alloc::Global;
+use crate::working::printed_by;
 use std::test::Fail;
 
 const REVERSED: &str = r#"(defun app (x y) (if (consp x) (cons (car x) (app (cdr x) y)) y))
@@ -102,13 +100,6 @@ Subgoal *1/1': (OR (CONSP X) (EQUAL 'NIL X))
 Subgoal *1.1/2': (OR (NOT (CONSP R1)) (NOT (EQUAL (REV (APP (CDR R1) (CONS X1 'NIL))) (CONS X1 (REV (CDR R1))))) (EQUAL (APP (REV (APP (CDR R1) (CONS X1 'NIL))) (CONS (CAR R1) 'NIL)) (CONS X1 (APP (REV (CDR R1)) (CONS (CAR R1) 'NIL)))))
 DEFTHM RB refused 8.1 NoScheme
 ";
-
-/// What the events of a text print.
-fn printed_by(alloc: Global, text: &str) -> Result<Bytes, NoMemory> {
-    let mut printed = Bytes::new(alloc);
-    worked_within(alloc, text, 100, &mut printed)?;
-    Ok(printed)
-}
 
 #[test]
 fn a_proof_goes_through_each_process_and_a_second_induction(rt: HostRuntime) -> Result<(), Fail> {

@@ -87,6 +87,13 @@ pub(crate) fn worked(alloc: Global, text: &str, printed: &mut Bytes) -> Result<W
     worked_within(alloc, text, 10, printed)
 }
 
+/// What a text's events print, with attempts of at most a hundred goals.
+pub(crate) fn printed_by(alloc: Global, text: &str) -> Result<Bytes, NoMemory> {
+    let mut printed = Bytes::new(alloc);
+    worked_within(alloc, text, 100, &mut printed)?;
+    Ok(printed)
+}
+
 /// A line on a function of the world: its name and the types that its calls may have.
 pub(crate) fn told(alloc: Global, w: &World, name: &str) -> Result<String, Fail> {
     let symbol = acl2(alloc, name.as_bytes())?;

@@ -4,6 +4,8 @@
 #[cfg(test)]
 mod clauses;
 #[cfg(test)]
+mod hints;
+#[cfg(test)]
 mod kernel;
 #[cfg(test)]
 mod known;

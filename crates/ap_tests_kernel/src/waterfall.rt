@@ -1,6 +1,7 @@
 //! Walks by the waterfall's step, by a table.
 ghost use Rattle.std.specs.Prelude.{◌≤◌, IfOk};
 ghost use Rattle.ap_world.specs.Sound.{HasFunctions};
+ghost use Rattle.ap_hints.specs.Known.{KnownHints};
 ghost use Rattle.ap_strategy.specs.Goals.{defs_of};
 
 use crate::clauses::is_written;
@@ -9,6 +10,7 @@ use crate::written::{number, term};
 use ap_eval::is_known;
 use ap_ground::ground_world;
 use ap_ground::laws::ground_has_its_functions;
+use ap_hints::no_hints;
 use ap_list::{Boxed, Bytes, NoMemory, Seq};
 use ap_rules::Ruled;
 use ap_strategy::{Acl2Step, Plan, Task, induct_task};
@@ -33,16 +35,22 @@ const ROWS: &str =
 
 /// A plan of the ground world.
 fn first_plan(alloc: Global, step_limit: u32) -> Result<Plan, NoMemory>
-    ensures { IfOk result (λ p. HasFunctions (defs_of p)) }
+    ensures functions { IfOk result (λ p. HasFunctions (defs_of p)) }
+    ensures hints { IfOk result (λ p. KnownHints p.world.entries p.hints) }
 {
     ground_has_its_functions();
     let world = Ruled::of(alloc, ground_world(alloc)?)?;
-    Ok(Plan { world, step_limit })
+    Ok(Plan {
+        world,
+        hints: no_hints(alloc),
+        step_limit,
+    })
 }
 
 /// The task of a term, which is one of the plan's world.
 fn root<'a>(alloc: Global, plan: &'a Plan, t: &Term) -> Result<Task<'a>, NoMemory>
-    requires { HasFunctions (defs_of plan.now) }
+    requires functions { HasFunctions (defs_of plan.now) }
+    requires hints { KnownHints plan.now.world.entries plan.now.hints }
 {
     if is_known(plan.world.world(), t) {
         Acl2Step::new(plan).root(alloc, t)
@@ -102,7 +110,8 @@ fn names(alloc: Global, marks: &[Mark<Task<'_>>]) -> Result<Bytes, NoMemory> {
 
 /// The walk of a conjecture.
 fn walk<'a>(alloc: Global, plan: &'a Plan, conjecture: &Term) -> Result<Walked<Task<'a>>, NoMemory>
-    requires { HasFunctions (defs_of plan.now) }
+    requires functions { HasFunctions (defs_of plan.now) }
+    requires hints { KnownHints plan.now.world.entries plan.now.hints }
 {
     let task = Boxed::new(alloc, root(alloc, plan, conjecture)?)?;
     let rule = Rule {
@@ -133,7 +142,8 @@ fn walked_names(
     conjecture: &Term,
     visits: &[Term],
 ) -> Result<Bytes, NoMemory>
-    requires { HasFunctions (defs_of plan.now) }
+    requires functions { HasFunctions (defs_of plan.now) }
+    requires hints { KnownHints plan.now.world.entries plan.now.hints }
 {
     let walked = walk(alloc, plan, conjecture)?;
     visited_names(alloc, walked.marks.as_slice(), visits)
@@ -175,7 +185,7 @@ fn text_names(alloc: Global, text: &str) -> Result<Bytes, NoMemory> {
 }
 
 /// Compares the names of goals with those that a line has.
-fn expect(rt: &impl Abort, line: &str, found: &[u8], wanted: &str) {
+pub(crate) fn expect(rt: &impl Abort, line: &str, found: &[u8], wanted: &str) {
     let found = str::from_utf8(found).unwrap_or("no text");
     assert_eq!(rt; found, wanted, "{line}");
 }
@@ -192,8 +202,13 @@ fn goals_are_walked_as_the_rows_say(rt: HostRuntime) -> Result<(), NoMemory> {
 }
 
 /// The task of the term that is written.
-fn written_task<'a>(alloc: Global, plan: &'a Plan, text: &str) -> Result<Task<'a>, NoMemory>
-    requires { HasFunctions (defs_of plan.now) }
+pub(crate) fn written_task<'a>(
+    alloc: Global,
+    plan: &'a Plan,
+    text: &str,
+) -> Result<Task<'a>, NoMemory>
+    requires functions { HasFunctions (defs_of plan.now) }
+    requires hints { KnownHints plan.now.world.entries plan.now.hints }
 {
     let t = term(alloc, text)?;
     root(alloc, plan, &t)
@@ -211,7 +226,8 @@ fn last_induction<'a>(alloc: Global, tasks: &[Task<'a>], count: u32) -> Result<T
 
 /// The task of `(EQUAL X Y)`, and eleven inductions, each of the task before it.
 fn inductions<'a>(alloc: Global, plan: &'a Plan) -> Result<Seq<Task<'a>>, NoMemory>
-    requires { HasFunctions (defs_of plan.now) }
+    requires functions { HasFunctions (defs_of plan.now) }
+    requires hints { KnownHints plan.now.world.entries plan.now.hints }
 {
     let mut tasks = Seq::new(alloc);
     tasks.push(written_task(alloc, plan, "(EQUAL X Y)")?)?;
@@ -255,7 +271,8 @@ fn expect_reasons(
 }
 
 fn expect_inductions(rt: &impl Abort, alloc: Global, plan: &Plan) -> Result<(), NoMemory>
-    requires { HasFunctions (defs_of plan.now) }
+    requires functions { HasFunctions (defs_of plan.now) }
+    requires hints { KnownHints plan.now.world.entries plan.now.hints }
 {
     let tasks = inductions(alloc, plan)?;
     assert!(rt; tasks.len() == 12);
@@ -313,7 +330,8 @@ fn expect_cases(
 }
 
 fn expect_split(rt: &impl Abort, alloc: Global, plan: &Plan) -> Result<(), NoMemory>
-    requires { HasFunctions (defs_of plan.now) }
+    requires functions { HasFunctions (defs_of plan.now) }
+    requires hints { KnownHints plan.now.world.entries plan.now.hints }
 {
     let task = Boxed::new(alloc, written_task(alloc, plan, ASSOCIATIVE)?)?;
     expect_cases(rt, alloc, plan, task.get())
@@ -364,7 +382,8 @@ fn expect_tasks(
 }
 
 fn expect_copy(rt: &impl Abort, alloc: Global, plan: &Plan) -> Result<(), NoMemory>
-    requires { HasFunctions (defs_of plan.now) }
+    requires functions { HasFunctions (defs_of plan.now) }
+    requires hints { KnownHints plan.now.world.entries plan.now.hints }
 {
     let task = Boxed::new(alloc, written_task(alloc, plan, "(EQUAL X (CONS Y '1))")?)?;
     expect_tasks(rt, alloc, plan, task.get())

@@ -31,10 +31,13 @@ use Rattle.ap_rules.specs.contracts.carrying.Carrier as carrier
 use Rattle.ap_rules.specs.contracts.worlds.Ruled as ruled
 use Rattle.ap_rules.specs.contracts.worlds.Ruled.TheInside as ruled_inside
 use Rattle.ap_walk.specs.contracts.act.Process as process
+use Rattle.ap_hints.specs.contracts.hint.Hint as hint
+use Rattle.ap_hints.specs.contracts.hint.Hints as hints
 use Rattle.ap_strategy.specs.contracts.plan.Plan as plan
 use Rattle.ap_strategy.specs.contracts.plan.Settings as settings
 use Rattle.ap_names.specs.contracts.name.GoalName as name
 use Rattle.ap_term.specs.contracts.term.Clause as clause
+use Rattle.ap_term.specs.contracts.term.Subst as replacing
 use Rattle.ap_strategy.specs.contracts.task.Task as task
 use Rattle.ap_strategy.specs.contracts.task.Task.TheInside as inside
 
@@ -194,18 +197,45 @@ ruled_sync t v =
     let i : IsSync ruled_inside.the_row = declared_sync ruled_inside.the_type (world_sync t v, (carrier_sync t, tt)) in
     search (sendable, crosses) depth 40
 
+pub name_send : IsSend name.the_row
+name_send = search (sendable, crosses, seq_send) depth 40
+
+name_sync : IsSync name.the_row
+name_sync = search (sendable, crosses, seq_sync) depth 40
+
+replacing_send : IsSend term.the_row → IsSend replacing.the_row
+replacing_send t = declared_send replacing.the_type (search (sendable, crosses, seq_send, symbol_send) depth 40 fits 100000, tt)
+
+hint_send : IsSend term.the_row → IsSend hint.the_row
+hint_send t =
+    let p : IsSend process.the_row = search (sendable, crosses) depth 40 in
+    let r = replacing_send t in
+    declared_send hint.the_type (name_send, (search (sendable, crosses, theory_send) depth 40, (seq_send _ t, (seq_send _ p, (search (sendable, crosses, seq_send, symbol_send) depth 40, (seq_send _ t, (search (sendable, crosses) depth 40, tt)))))))
+
+hints_send : IsSend term.the_row → IsSend hints.the_row
+hints_send t = declared_send hints.the_type (seq_send _ (hint_send t), (search (sendable, crosses) depth 40, tt))
+
+replacing_sync : IsSync term.the_row → IsSync replacing.the_row
+replacing_sync t = declared_sync replacing.the_type (search (sendable, crosses, seq_sync, symbol_sync) depth 40 fits 100000, tt)
+
+hint_sync : IsSync term.the_row → IsSync hint.the_row
+hint_sync t =
+    let p : IsSync process.the_row = search (sendable, crosses) depth 40 in
+    let r = replacing_sync t in
+    declared_sync hint.the_type (name_sync, (search (sendable, crosses, theory_sync) depth 40, (seq_sync _ t, (seq_sync _ p, (search (sendable, crosses, seq_sync, symbol_sync) depth 40, (seq_sync _ t, (search (sendable, crosses) depth 40, tt)))))))
+
+hints_sync : IsSync term.the_row → IsSync hints.the_row
+hints_sync t = declared_sync hints.the_type (seq_sync _ (hint_sync t), (search (sendable, crosses) depth 40, tt))
+
 plan_send : IsSend term.the_row → IsSend value.the_row → IsSend plan.the_row
-plan_send t v = declared_send plan.the_type (ruled_send t v, (search (sendable, crosses) depth 40, tt))
+plan_send t v = declared_send plan.the_type (ruled_send t v, (hints_send t, (search (sendable, crosses) depth 40, tt)))
 
 pub plan_sync : IsSync term.the_row → IsSync value.the_row → IsSync plan.the_row
-plan_sync t v = declared_sync plan.the_type (ruled_sync t v, (search (sendable, crosses) depth 40, tt))
+plan_sync t v = declared_sync plan.the_type (ruled_sync t v, (hints_sync t, (search (sendable, crosses) depth 40, tt)))
 
 pub settings_send : IsSend term.the_row → IsSend settings.the_row
 settings_send t = let p : IsSend process.the_row = search (sendable, crosses) depth 40 in
     declared_send settings.the_type (theory_send, (seq_send _ t, (seq_send _ p, tt)))
-
-pub name_send : IsSend name.the_row
-name_send = search (sendable, crosses, seq_send) depth 40
 
 pub clause_send : IsSend term.the_row → IsSend clause.the_row
 clause_send t = declared_send clause.the_type (seq_send _ t, tt)

@@ -2,11 +2,13 @@
 ghost use Rattle.std.specs.Prelude.{IfOk};
 ghost use denote.Param.Send.{IsSend, IsSync};
 ghost use Rattle.ap_world.specs.Sound.{HasFunctions};
+ghost use Rattle.ap_hints.specs.Known.{KnownHints};
 ghost use Rattle.ap_strategy.specs.Goals.{defs_of};
 
 use ap_eval::is_known;
 use ap_ground::ground_world;
 use ap_ground::laws::ground_has_its_functions;
+use ap_hints::no_hints;
 use ap_list::{NoMemory, Seq};
 use ap_rules::Ruled;
 use ap_strategy::{Acl2Step, Plan, Task};
@@ -99,19 +101,22 @@ fn choice(alloc: Global, test: Term, yes: Term, no: Term) -> Result<Term, NoMemo
 
 /// A plan of the ground world.
 fn first_plan(alloc: Global) -> Result<Plan, NoMemory>
-    ensures { IfOk result (λ p. HasFunctions (defs_of p)) }
+    ensures functions { IfOk result (λ p. HasFunctions (defs_of p)) }
+    ensures hints { IfOk result (λ p. KnownHints p.world.entries p.hints) }
 {
     ground_has_its_functions();
     let world = Ruled::of(alloc, ground_world(alloc)?)?;
     Ok(Plan {
         world,
+        hints: no_hints(alloc),
         step_limit: 100,
     })
 }
 
 /// The task of a term, which is one of the plan's world.
 fn root<'a>(alloc: Global, plan: &'a Plan, t: &Term) -> Result<Task<'a>, NoMemory>
-    requires { HasFunctions (defs_of plan.now) }
+    requires functions { HasFunctions (defs_of plan.now) }
+    requires hints { KnownHints plan.now.world.entries plan.now.hints }
 {
     if is_known(plan.world.world(), t) {
         Acl2Step::new(plan).root(alloc, t)
@@ -126,7 +131,8 @@ fn waterfall_elsewhere<R: Threads + Wait + Sync>(
     alloc: Global,
     plan: &Plan,
 ) -> Result<usize, NoMemory>
-    requires { HasFunctions (defs_of plan.now) }
+    requires functions { HasFunctions (defs_of plan.now) }
+    requires hints { KnownHints plan.now.world.entries plan.now.hints }
 {
     shown::<Term>();
     shown::<Value>();

@@ -6,5 +6,5 @@ use Rattle.ap_events.proofs.attempting.attempt_clause.Goals as goal
 pub returns-clause-valid : goal.returns-clause-valid
 returns-clause-valid c =
     where_proved c.attempt_from.result _ _
-    (λ good. subst IsGood c.in_ok-root.ensures good c.requires.functions c.is_sound.ensures.sound c.is_sound.ensures.distinct c.requires.known tt)
+    (λ good. subst IsGood c.in_ok-root.ensures good c.requires.functions c.is_sound.ensures.sound c.is_sound.ensures.distinct c.requires.known c.requires.hints tt)
     c.attempt_from.ensures.good

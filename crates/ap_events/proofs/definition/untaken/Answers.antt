@@ -17,7 +17,7 @@ admitted-requires-clause-prepared c = prepared_as_was c.args.w c.translated.new.
 
 pub returns-in-Ok-clause-step : goal.returns-in-Ok-clause-step
 returns-in-Ok-clause-step c =
-    translated_step c.admitted.result c.args.limits.now c.args.w c.translated.new.w c.args.definition.now.name.now _ c.in-Ok.d c.translated.ensures.same c.in-Ok.ensures.made
+    translated_step c.admitted.result c.args.limits.now c.args.w c.translated.new.w c.args.definition.now.name.now _ _ c.in-Ok.d c.translated.ensures.same c.in-Ok.ensures.made
     c.admitted.ensures.step
 
 pub returns-in-Ok-clause-follows : goal.returns-in-Ok-clause-follows
@@ -25,7 +25,7 @@ returns-in-Ok-clause-follows c = follows_as_was c.admitted.result c.args.w c.tra
 
 pub returns-in-Err-Fault-clause-step : goal.returns-in-Err-Fault-clause-step
 returns-in-Err-Fault-clause-step c =
-    untranslated_step c.untranslated.result c.args.limits.now c.args.w c.args.definition.now.name.now _ _ c.in-Err-Fault.kind
+    untranslated_step c.untranslated.result c.args.limits.now c.args.w c.args.definition.now.name.now _ _ _ c.in-Err-Fault.kind
     (subst (λ r. Gives r (translated_definition c.args.w.entries (as_defined c.args.definition.now))) (c.in-Err-Fault.is ∙ ap Err c.in-Err-Fault.field-0-is) c.translated.ensures.made)
     c.untranslated.ensures.step
 

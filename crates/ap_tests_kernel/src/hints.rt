@@ -1,0 +1,306 @@
+//! The waterfall's step on a goal that has a hint.
+ghost use Rattle.std.specs.Prelude.{IsTrue, IfOk};
+ghost use Rattle.ap_world.specs.Sound.{HasFunctions};
+ghost use Rattle.ap_hints.specs.Known.{KnownHint, KnownHints};
+ghost use Rattle.ap_strategy.specs.Goals.{defs_of};
+
+use crate::clauses::is_written;
+use crate::known::are_known;
+use crate::waterfall::{expect, written_task};
+use crate::written::term;
+use ap_eval::is_known;
+use ap_ground::ground_world;
+use ap_ground::laws::ground_has_its_functions;
+use ap_hints::{Hint, Hints};
+use ap_list::{Boxed, Bytes, NoMemory, Seq};
+use ap_names::GoalName;
+use ap_rules::Ruled;
+use ap_strategy::{Acl2Step, Plan, Task, induct_task};
+use ap_term::{Subst, Term};
+use ap_value::{Symbol, acl2};
+use ap_walk::{Act, Out, Process, Step, Stepped};
+use ap_world::{Rune, RuneKind, Theory, World};
+use std::alloc::{AllocError, Global};
+use std::process::Abort;
+
+/// A hint that says nothing, for `Goal` with so many primes.
+fn blank(alloc: Global, primes: u32) -> Hint {
+    let goal = GoalName {
+        induction: Seq::new(alloc),
+        case: None,
+        path: Seq::new(alloc),
+        primes,
+    };
+    Hint {
+        goal,
+        theory: None,
+        expand: Seq::new(alloc),
+        skip: Seq::new(alloc),
+        uses: Seq::new(alloc),
+        cases: Seq::new(alloc),
+        scheme: None,
+    }
+}
+
+/// Whether the terms that stand for variables are terms of the world.
+fn are_pairs(w: &World, pairs: &[(Symbol, Term)]) -> bool {
+    for (_, t) in pairs {
+        if !is_known(w, t) {
+            return false;
+        }
+    }
+    true
+}
+
+/// Whether theorems that are used are the world's, and what replaces their variables is too.
+fn are_uses(w: &World, uses: &[(Symbol, Subst)]) -> bool {
+    for (name, s) in uses {
+        if w.lookup_thm(name).is_none() || !are_pairs(w, s.0.as_slice()) {
+            return false;
+        }
+    }
+    true
+}
+
+/// Whether a term is one of the world, where there is one.
+fn is_scheme(w: &World, scheme: Option<&Term>) -> bool {
+    match scheme {
+        Some(t) => is_known(w, t),
+        None => true,
+    }
+}
+
+/// Whether a hint speaks of the world, with few cases.
+fn is_hint(w: &World, hint: &Hint) -> bool
+    ensures { IsTrue result → KnownHint w.now.entries hint.now }
+{
+    are_known(w, hint.expand.as_slice())
+        && are_uses(w, hint.uses.as_slice())
+        && are_known(w, hint.cases.as_slice())
+        && hint.cases.len() < 100
+        && is_scheme(w, hint.scheme.as_ref())
+}
+
+/// A plan of the ground world with one hint.
+fn plan(alloc: Global, hint: Hint) -> Result<Plan, NoMemory>
+    ensures functions { IfOk result (λ p. HasFunctions (defs_of p)) }
+    ensures hints { IfOk result (λ p. KnownHints p.world.entries p.hints) }
+{
+    ground_has_its_functions();
+    let world = Ruled::of(alloc, ground_world(alloc)?)?;
+    if !is_hint(world.world(), &hint) {
+        return Err(AllocError);
+    }
+    let mut list = Seq::new(alloc);
+    list.push(hint)?;
+    let hints = Hints {
+        list,
+        do_not_induct: false,
+    };
+    Ok(Plan {
+        world,
+        hints,
+        step_limit: 100,
+    })
+}
+
+/// The word for what a step did.
+fn kind(act: Act) -> &'static [u8] {
+    match (act.process, act.missed, act.limited) {
+        (Process::Hint, false, false) => b"hint",
+        (Process::Push, false, false) => b"pushed",
+        (Process::Push, true, false) => b"missed",
+        (Process::Induct, false, false) => b"inducted",
+        _ => b"other",
+    }
+}
+
+/// What a step did, and the names of the goals that it made.
+fn told(alloc: Global, stepped: &Stepped<Task<'_>>) -> Result<Bytes, NoMemory> {
+    let mut text = Seq::new(alloc);
+    text.extend(kind(stepped.act))?;
+    if let Out::Split(tasks) = &stepped.out {
+        for task in tasks.as_slice() {
+            text.extend(b", ")?;
+            text.append(task.name.print(alloc)?)?;
+        }
+    }
+    Ok(text)
+}
+
+/// Whether the goals that a step made have these clauses.
+fn has_clauses(
+    alloc: Global,
+    stepped: &Stepped<Task<'_>>,
+    clauses: &[&str],
+) -> Result<bool, NoMemory> {
+    let Out::Split(tasks) = &stepped.out else {
+        return Ok(clauses.is_empty());
+    };
+    for (task, text) in tasks.as_slice().iter().zip(clauses) {
+        if !is_written(&task.clause, &term(alloc, text)?) {
+            return Ok(false);
+        }
+    }
+    Ok(tasks.len() == clauses.len())
+}
+
+/// What the step of `Goal` does under a plan, and the clauses that it makes.
+fn expect_step(
+    rt: &impl Abort,
+    alloc: Global,
+    plan: &Plan,
+    conjecture: &str,
+    wanted: &str,
+    clauses: &[&str],
+) -> Result<(), NoMemory>
+    requires functions { HasFunctions (defs_of plan.now) }
+    requires hints { KnownHints plan.now.world.entries plan.now.hints }
+{
+    let task = Boxed::new(alloc, written_task(alloc, plan, conjecture)?)?;
+    let stepped = Acl2Step::new(plan).step(alloc, task.get())?;
+    let found = told(alloc, &stepped)?;
+    expect(rt, conjecture, found.as_slice(), wanted);
+    assert!(rt; has_clauses(alloc, &stepped, clauses)?, "{conjecture}");
+    Ok(())
+}
+
+/// A theorem of the ground world whose variable X is replaced.
+fn instance(alloc: Global, name: &[u8], text: &str) -> Result<(Symbol, Subst), NoMemory> {
+    let mut pairs = Seq::new(alloc);
+    pairs.push((acl2(alloc, b"X")?, term(alloc, text)?))?;
+    Ok((acl2(alloc, name)?, Subst(pairs)))
+}
+
+#[test]
+fn instances_stand_first_in_an_only_child(rt: HostRuntime) -> Result<(), NoMemory> {
+    let alloc = rt.alloc();
+    let mut hint = blank(alloc, 0);
+    hint.uses.push(instance(alloc, b"CAR-CDR-ELIM", "Y")?)?;
+    hint.uses
+        .push(instance(alloc, b"UNICITY-OF-0", "(CAR Y)")?)?;
+    let plan = plan(alloc, hint)?;
+    expect_step(
+        &rt,
+        alloc,
+        &plan,
+        "(CONSP Y)",
+        "hint, Goal'",
+        &[
+            "(OR (NOT (IMPLIES (CONSP Y) (EQUAL (CONS (CAR Y) (CDR Y)) Y))) (NOT (EQUAL (BINARY-+ 0 (CAR Y)) (FIX (CAR Y)))) (CONSP Y))",
+        ],
+    )
+}
+
+/// A hint for a goal with so many primes, by whether X is a cons.
+fn by_cases(alloc: Global, primes: u32) -> Result<Hint, NoMemory> {
+    let mut hint = blank(alloc, primes);
+    hint.cases.push(term(alloc, "(CONSP X)")?)?;
+    Ok(hint)
+}
+
+#[test]
+fn cases_are_numbered_down(rt: HostRuntime) -> Result<(), NoMemory> {
+    let alloc = rt.alloc();
+    let plan = plan(alloc, by_cases(alloc, 0)?)?;
+    expect_step(
+        &rt,
+        alloc,
+        &plan,
+        "(EQUAL X Y)",
+        "hint, Subgoal 2, Subgoal 1",
+        &[
+            "(OR (NOT (CONSP X)) (EQUAL X Y))",
+            "(OR (CONSP X) (EQUAL X Y))",
+        ],
+    )
+}
+
+#[test]
+fn a_hint_for_another_goal_says_nothing(rt: HostRuntime) -> Result<(), NoMemory> {
+    let alloc = rt.alloc();
+    let plan = plan(alloc, by_cases(alloc, 1)?)?;
+    expect_step(&rt, alloc, &plan, "(EQUAL X Y)", "missed", &[])
+}
+
+/// The step of the induction of `Goal`.
+fn expect_induction(
+    rt: &impl Abort,
+    alloc: Global,
+    plan: &Plan,
+    conjecture: &str,
+    wanted: &str,
+) -> Result<(), NoMemory>
+    requires functions { HasFunctions (defs_of plan.now) }
+    requires hints { KnownHints plan.now.world.entries plan.now.hints }
+{
+    let task = Boxed::new(alloc, written_task(alloc, plan, conjecture)?)?;
+    let induction = Boxed::new(alloc, induct_task(alloc, task.get(), 1)?)?;
+    let stepped = Acl2Step::new(plan).step(alloc, induction.get())?;
+    let found = told(alloc, &stepped)?;
+    expect(rt, conjecture, found.as_slice(), wanted);
+    Ok(())
+}
+
+#[test]
+fn a_call_pushes_at_once_and_is_inducted_by(rt: HostRuntime) -> Result<(), NoMemory> {
+    let alloc = rt.alloc();
+    let mut hint = blank(alloc, 0);
+    hint.scheme = Some(term(alloc, "(LEN X)")?);
+    let plan = plan(alloc, hint)?;
+    expect_step(&rt, alloc, &plan, "(EQUAL X X)", "pushed", &[])?;
+    expect_induction(
+        &rt,
+        alloc,
+        &plan,
+        "(EQUAL X X)",
+        "inducted, Subgoal *1/2, Subgoal *1/1",
+    )
+}
+
+/// A hint for `Goal` by whether X is a cons, in a theory without a rune.
+fn by_cases_without(alloc: Global) -> Result<Hint, NoMemory> {
+    let mut runes = Seq::new(alloc);
+    runes.push(Rune::Definition(acl2(alloc, b"LEN")?))?;
+    let mut hint = by_cases(alloc, 0)?;
+    hint.theory = Some(Theory::disabling(alloc, runes)?);
+    Ok(hint)
+}
+
+/// Whether a task is in the theory of that hint.
+fn is_without(alloc: Global, task: &Task<'_>) -> Result<bool, NoMemory> {
+    let name = acl2(alloc, b"LEN")?;
+    Ok(!task.settings.theory.is_enabled(RuneKind::Definition, &name))
+}
+
+/// Whether all the goals that a step made are.
+fn are_without(alloc: Global, stepped: &Stepped<Task<'_>>) -> Result<bool, NoMemory> {
+    let Out::Split(tasks) = &stepped.out else {
+        return Ok(false);
+    };
+    for task in tasks.as_slice() {
+        if !is_without(alloc, task)? {
+            return Ok(false);
+        }
+    }
+    Ok(true)
+}
+
+fn expect_theory(rt: &impl Abort, alloc: Global, plan: &Plan) -> Result<(), NoMemory>
+    requires functions { HasFunctions (defs_of plan.now) }
+    requires hints { KnownHints plan.now.world.entries plan.now.hints }
+{
+    let task = Boxed::new(alloc, written_task(alloc, plan, "(EQUAL X Y)")?)?;
+    assert!(rt; !is_without(alloc, task.get())?, "above");
+    let stepped = Acl2Step::new(plan).step(alloc, task.get())?;
+    assert!(rt; are_without(alloc, &stepped)?, "below");
+    let induction = Boxed::new(alloc, induct_task(alloc, task.get(), 1)?)?;
+    assert!(rt; is_without(alloc, induction.get())?, "in the induction");
+    Ok(())
+}
+
+#[test]
+fn a_theory_holds_below_and_in_the_induction(rt: HostRuntime) -> Result<(), NoMemory> {
+    let plan = plan(rt.alloc(), by_cases_without(rt.alloc())?)?;
+    expect_theory(&rt, rt.alloc(), &plan)
+}
