@@ -85,7 +85,7 @@ fn the_state_is_what_the_calls_left(rt: HostRuntime) -> Result<(), NoMemory> {
     };
     assert!(rt; put(&rt, alloc, &table, b)?);
     let state = table.into_state();
-    assert_eq!(rt; state.history().len(), 9);
+    assert_eq!(rt; state.history().len(), 10);
     if !state.root_done(&Trees, &Tree::Three, RULE) {
         panic!(rt; "the root isn't done");
     }
