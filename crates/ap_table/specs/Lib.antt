@@ -8,4 +8,5 @@ pub mod Live
 pub mod Sums
 pub mod Settled
 pub mod Calls
+pub mod Locked
 pub mod Ended

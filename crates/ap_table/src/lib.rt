@@ -17,6 +17,7 @@ mod noting;
 mod settling;
 mod state;
 mod stored;
+mod table;
 mod telling;
 
 pub use laws::{
@@ -26,3 +27,4 @@ pub use laws::{
 pub use link::{DropNote, License, Link};
 pub use state::{TableState, first};
 pub use stored::{Claim, Entry, Grown, Job, Stage, Stored, Sum, Taken, Told};
+pub use table::{GoalTable, begin};

@@ -69,6 +69,7 @@ impl<S: Step> TableState<S> {
     ghost use Rattle.ap_walk.specs.Walks.{full};
     ghost use Rattle.ap_table.specs.Calls.{Claims, Grows, Puts, Drops, IsRootDone};
     ghost use Rattle.ap_table.specs.Ended.{HasEnded, Ends};
+    ghost use Rattle.ap_table.specs.Locked.{WasAllowed};
 
     /// Claims the first free node in serial order.
     pub fn claim_step(&mut self) -> Claim<S::Task>
@@ -104,6 +105,13 @@ impl<S: Step> TableState<S> {
         ensures { result.now ≡ self.now.history }
     {
         self.history.as_slice()
+    }
+
+    /// Each step that was taken was allowed, which the type keeps.
+    pub fn were_allowed(&self)
+        ensures { WasAllowed S.step_of S.depth self.now }
+    {
+        let _rule = self.rule;
     }
 
     /// Puts the children of a job's task into the table. A stranger is a job that isn't the table's, or one
