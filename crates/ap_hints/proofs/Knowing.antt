@@ -1,5 +1,5 @@
 -- Hints that are read in a world speak of it.
-use Rattle.std.proofs.Common.{lit<, ◌&&◌, map, ◌≡◌, ℕ, ◌+◌, ◌^◌, ◌<◌, nat_le, nat_lt, Bool, true, false, cond, IsTrue, IfSome, IfOk, Option, Some, None, is_some, unwrap_or, codes, List, [], ◌∷◌, ◌++◌, length, Result, Ok, Err, refl, sym, ap, subst}
+use Rattle.std.proofs.Common.{lit<, ◌&&◌, map, ◌≡◌, ◌+◌, ◌^◌, ◌<◌, nat_le, nat_lt, Bool, true, false, cond, IfSome, IfOk, Option, Some, None, is_some, unwrap_or, codes, List, [], ◌∷◌, ◌++◌, length, Result, Ok, Err, refl, ap, subst}
 use Rattle.std.proofs.lemmas.Bool.{ltb-true}
 use Rattle.ap_list.specs.Lists.{Each, is_among}
 use Rattle.ap_list.proofs.Eachs.{each_append}
@@ -7,11 +7,9 @@ use Rattle.ap_value.specs.declared.symbol.Symbol.{Symbol}
 use Rattle.ap_reader.specs.declared.form.Form.{Form}
 use Rattle.ap_term.specs.declared.term.Term.{Term, out-Term}
 use Rattle.ap_term.specs.declared.term.Term.TheOpen.{Term-F}
-use Rattle.ap_term.specs.declared.term.Subst.{Subst}
 use Rattle.ap_term.specs.Terms.{term_size, vars_after}
 use Rattle.ap_names.specs.Names.{Name, name_eq, root}
 use Rattle.ap_world.specs.declared.entry.Entry.{Entry}
-use Rattle.ap_world.specs.declared.entry.Theorem.{Theorem}
 use Rattle.ap_world.specs.Primitives.{prim_of}
 use Rattle.ap_world.specs.Sound.{is_head, known}
 use Rattle.ap_world.specs.World.{Shown, function_of, theorem_of}
@@ -22,12 +20,11 @@ use Rattle.ap_translate.specs.Parts.{layer_of, items_in, is_symbol}
 use Rattle.ap_translate.specs.Table as table
 use Rattle.ap_translate.proofs.Laws as law
 use Rattle.ap_hints.specs.declared.fault.HintError.{HintError}
-use Rattle.ap_hints.specs.declared.hint.Hint.{Hint}
 use Rattle.ap_hints.specs.declared.hint.Hints.{Hints}
 use Rattle.ap_hints.specs.declared.said.Said.{Said}
-use Rattle.ap_hints.specs.Answers.{Answer, ◌>>=◌, or_refused, each, Fails, Gives}
+use Rattle.ap_hints.specs.Answers.{Answer, ◌>>=◌, or_refused, each, Gives}
 use Rattle.ap_hints.specs.Forms.{symbol_at, is_keyword}
-use Rattle.ap_hints.specs.Hinted.{list_in, as_instance, term_in, terms_in, begins, one_in, calls_by, calls_in, theorem_in, replaced, replaced_by, pair_in, pairs_in, may_replace, used, instance_of, instance_named, instance_by, use_by, use_in, alone, is_instance, uses_by, uses_in, few_enough, cases_in, call_only, scheme_in, nothing, once, with_theory, with_uses, with_cases, with_expand, with_skip, with_scheme, forbidding, said_of, all_said, hint_of, goal_in, goal_of, with_hint, hint_said, hinted, entry_by, entries_in, hints_in}
+use Rattle.ap_hints.specs.Hinted.{as_instance, term_in, terms_in, begins, one_in, calls_by, calls_in, replaced_by, pair_in, pairs_in, may_replace, used, instance_of, instance_named, instance_by, use_by, use_in, alone, is_instance, uses_by, uses_in, few_enough, cases_in, call_only, scheme_in, nothing, once, forbidding, said_of, all_said, hint_of, goal_in, goal_of, with_hint, hint_said, hinted, entry_by, entries_in, hints_in}
 use Rattle.ap_hints.specs.Known.{KnownTerm, KnownUse, KnownHint, KnownHints, no_hints}
 
 abbrev Holds : {A : Type 0} → (A → Type 0) → Answer A → Type 0

@@ -1,5 +1,5 @@
 -- What keys say one after another, and the hint that they give.
-use Rattle.std.proofs.Common.{◌≡◌, ℕ, ◌+◌, ◌-◌, ◌≤◌, Bool, List, [], ◌∷◌, length, take, drop, get_or, Ok, refl, sym, ap, ◌∙◌, subst, arith}
+use Rattle.std.proofs.Common.{◌≡◌, ◌-◌, ◌≤◌, Bool, List, [], ◌∷◌, length, take, drop, get_or, Ok, sym, ap, ◌∙◌, subst, arith}
 use Rattle.std.proofs.Math.Seq.{take-length}
 use Rattle.ap_reader.specs.declared.form.Form.{Form}
 use Rattle.ap_names.specs.Names.{Name, name_eq, root}
@@ -9,7 +9,7 @@ use Rattle.ap_hints.specs.declared.hint.Hints.{Hints}
 use Rattle.ap_hints.specs.declared.said.Said.{Said}
 use Rattle.ap_hints.specs.Answers.{Answer, ◌>>=◌, Fails}
 use Rattle.ap_hints.specs.Hinted.{nothing, said_of, all_said, with_hint, hint_said}
-use Rattle.ap_hints.proofs.Refusals.{then_fails, same_fails}
+use Rattle.ap_hints.proofs.Refusals.{then_fails}
 
 pub first_and_rest : {A : Type 0} (xs : List A) (x : A) → 1 ≤ length xs → x ≡ get_or xs 0 x → xs ≡ x ∷ take (length xs - 1) (drop 1 xs)
 first_and_rest [] x h is = absurd (omega arith)

@@ -1,6 +1,6 @@
 -- What the hints of an event say in a world: (("GOAL" :key value ..) ..). See the manual's topic `hints`.
 -- The file is to be read from its end.
-use Rattle.std.specs.Prelude.{ℕ, ◌+◌, ◌^◌, Bool, true, false, cond, ◌&&◌, nat_lt, List, [], ◌∷◌, ◌++◌, length, map, Option, Some, None, unwrap_or, Result, Ok, Err, codes}
+use Rattle.std.specs.Prelude.{ℕ, ◌+◌, ◌^◌, Bool, true, false, cond, ◌&&◌, nat_lt, List, [], ◌∷◌, ◌++◌, length, map, Option, Some, None, unwrap_or, Ok, Err, codes}
 use Rattle.ap_list.specs.Lists.{is_among}
 use Rattle.ap_value.specs.declared.symbol.Symbol.{Symbol}
 use Rattle.ap_value.specs.Values.{symbol_eq}
@@ -26,7 +26,7 @@ use Rattle.ap_hints.specs.declared.hint.Hint.{Hint}
 use Rattle.ap_hints.specs.declared.hint.Hints.{Hints}
 use Rattle.ap_hints.specs.declared.said.Said.{Said}
 use Rattle.ap_hints.specs.Answers.{Answer, ◌>>=◌, or_refused, each}
-use Rattle.ap_hints.specs.Changes.{Changed, changes_by, changed_theory}
+use Rattle.ap_hints.specs.Changes.{changes_by, changed_theory}
 use Rattle.ap_hints.specs.Forms.{symbol_at, is_keyword}
 use Rattle.ap_hints.specs.Known.{no_hints}
 

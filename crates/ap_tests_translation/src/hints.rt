@@ -284,9 +284,21 @@ fn hints(alloc: Global, world: &World, text: &str) -> Hints {
 #[test]
 fn hints_are_one_whatever_the_case_of_letters(rt: HostRuntime) -> Result<(), NoMemory> {
     let world = ground_world(rt.alloc())?;
-    let a = hints(rt.alloc(), &world, r#"(("Goal" :use (:instance car-cons (x z))))"#);
-    let b = hints(rt.alloc(), &world, r#"(("GOAL" :use ((:instance car-cons (x z)))))"#);
-    let c = hints(rt.alloc(), &world, r#"(("GOAL" :use ((:instance car-cons (x y)))))"#);
+    let a = hints(
+        rt.alloc(),
+        &world,
+        r#"(("Goal" :use (:instance car-cons (x z))))"#,
+    );
+    let b = hints(
+        rt.alloc(),
+        &world,
+        r#"(("GOAL" :use ((:instance car-cons (x z)))))"#,
+    );
+    let c = hints(
+        rt.alloc(),
+        &world,
+        r#"(("GOAL" :use ((:instance car-cons (x y)))))"#,
+    );
     assert!(rt; same_hints(&a, &b));
     assert!(rt; !same_hints(&a, &c));
     assert!(rt; !same_hints(&a, &no_hints(rt.alloc())));
