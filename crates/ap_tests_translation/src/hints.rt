@@ -1,6 +1,11 @@
 //! What the hints of an event are read as: a form a line, and behind it the hints, each in brackets, or the refusal.
+ghost use Rattle.std.specs.Prelude.{IfOk};
+ghost use Rattle.ap_world.specs.World.{function_of};
+ghost use Rattle.ap_translate.specs.Laws.{HasMacroFunctions};
+
 use crate::table::{expect, one_form, sides, word};
 use ap_ground::ground_world;
+use ap_ground::laws::ground_has_its_functions;
 use ap_hints::{Hint, HintError, Hints, hints_of, no_hints, same_hints};
 use ap_list::{Bytes, NoMemory};
 use ap_print::print_term;
@@ -234,7 +239,9 @@ fn error_word(error: HintError) -> &'static str {
 }
 
 /// The hints of a form, or the refusal.
-fn answer(alloc: Global, world: &World, form: &Form) -> Result<Bytes, NoMemory> {
+fn answer(alloc: Global, world: &World, form: &Form) -> Result<Bytes, NoMemory>
+    requires { HasMacroFunctions (function_of world.now.entries) }
+{
     match hints_of(alloc, world, form) {
         Ok(hints) => written(alloc, &hints),
         Err(error) => word(alloc, error_word(error)),
@@ -242,15 +249,26 @@ fn answer(alloc: Global, world: &World, form: &Form) -> Result<Bytes, NoMemory> 
 }
 
 /// The same of a text's one form.
-fn answered(alloc: Global, world: &World, text: &str) -> Result<Bytes, NoMemory> {
+fn answered(alloc: Global, world: &World, text: &str) -> Result<Bytes, NoMemory>
+    requires { HasMacroFunctions (function_of world.now.entries) }
+{
     match one_form(alloc, text.as_bytes()) {
         Some(form) => answer(alloc, world, &form),
         None => word(alloc, "not one form"),
     }
 }
 
-fn expect_all(rt: &impl Abort, alloc: Global, rows: &str) -> Result<(), NoMemory> {
+/// The world that a book begins with, which has the functions that macros stand for.
+fn world(alloc: Global) -> Result<World, NoMemory>
+    ensures { IfOk result (λ w. HasMacroFunctions (function_of w.entries)) }
+{
+    ground_has_its_functions();
     let world = ground_world(alloc)?;
+    Ok(world)
+}
+
+fn expect_all(rt: &impl Abort, alloc: Global, rows: &str) -> Result<(), NoMemory> {
+    let world = world(alloc)?;
     for line in rows.lines() {
         let found = answered(alloc, &world, sides(line).0)?;
         expect(rt, line, found.as_slice());
@@ -271,7 +289,9 @@ fn the_first_that_is_wrong_is_refused(rt: HostRuntime) -> Result<(), NoMemory> {
 }
 
 /// The hints of a text's one form in the ground world, none where they are refused.
-fn hints(alloc: Global, world: &World, text: &str) -> Hints {
+fn hints(alloc: Global, world: &World, text: &str) -> Hints
+    requires { HasMacroFunctions (function_of world.now.entries) }
+{
     match one_form(alloc, text.as_bytes()) {
         Some(form) => match hints_of(alloc, world, &form) {
             Ok(hints) => hints,
@@ -283,7 +303,7 @@ fn hints(alloc: Global, world: &World, text: &str) -> Hints {
 
 #[test]
 fn hints_are_one_whatever_the_case_of_letters(rt: HostRuntime) -> Result<(), NoMemory> {
-    let world = ground_world(rt.alloc())?;
+    let world = world(rt.alloc())?;
     let a = hints(
         rt.alloc(),
         &world,
