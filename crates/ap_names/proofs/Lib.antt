@@ -1,1 +1,5 @@
+pub mod Equal
 pub mod OneReading
+pub mod Parts
+pub mod Named
+pub mod Read

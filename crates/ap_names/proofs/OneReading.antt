@@ -1,6 +1,6 @@
 -- No two names print as one text, the case of letters aside: where a number ends, and what stands
 -- after it, can be read off the text.
-use Rattle.std.proofs.Common.{◌≡◌, ℕ, Option, Some, None, zero, suc, Bool, true, false, nat_lt, if◌then◌else◌, length, lit<, ◌+◌, ◌%◌, ◌^◌, ◌<◌, ◌≤◌, List, [], ◌∷◌, ◌++◌, map, refl, sym, ap, ◌∙◌, arith, decimal, codes, replicate}
+use Rattle.std.proofs.Common.{◌≡◌, ℕ, Option, Some, None, zero, suc, Bool, true, false, nat_lt, if◌then◌else◌, length, lit<, ◌+◌, ◌%◌, ◌^◌, ◌<◌, List, [], ◌∷◌, ◌++◌, map, refl, sym, ap, ◌∙◌, arith, decimal, codes, replicate}
 use mathlib.Core.List.{append_assoc}
 use Rattle.std.proofs.lemmas.Bool.Decides.{nat_tests}
 use Rattle.std.proofs.lemmas.Fmt.{decimal_by_steps, decimal_injective, decimal_nonempty}
@@ -8,37 +8,25 @@ use Rattle.std.specs.Char.{to_ascii_lowercase}
 use Rattle.ap_list.specs.Lists.{Each}
 use Rattle.ap_names.specs.Names.{Name, IsName, IsCount, IsPlaced}
 use Rattle.ap_names.specs.Printed.{dotted, primes_text, place_text, induction_text, bare_text, name_text, IsReading}
-
-abbrev IsDigit : ℕ → Type 0
-IsDigit c = (48 ≤ c) × (c < 58)
-
--- what may stand after a number: nothing, or a byte below the digits
-abbrev EndsNumber : List ℕ → Type 0
-EndsNumber [] = Unit {0}
-EndsNumber (c ∷ cs) = c < 48
-
--- what may stand after numbers with dots
-abbrev EndsNumbers : List ℕ → Type 0
-EndsNumbers [] = Unit {0}
-EndsNumbers (c ∷ cs) = (c < 48) × (c ≡ 46 → ⊥)
+use Rattle.ap_names.specs.Reads.{IsDigit, EndsNumber, EndsNumbers}
 
 ends : (s : List ℕ) → EndsNumbers s → EndsNumber s
 ends [] h = tt
 ends (c ∷ cs) h = h.0
 
-each-append : (P : ℕ → Type 0) (xs ys : List ℕ) → Each P xs → Each P ys → Each P (xs ++ ys)
+pub each-append : (P : ℕ → Type 0) (xs ys : List ℕ) → Each P xs → Each P ys → Each P (xs ++ ys)
 each-append P [] ys p q = q
 each-append P (x ∷ xs) ys p q = (p.0, each-append P xs ys p.1 q)
 
-digits_decimal : (n : ℕ) → n < 2 ^ 64 → Each IsDigit (decimal n)
+pub digits_decimal : (n : ℕ) → n < 2 ^ 64 → Each IsDigit (decimal n)
 digits_decimal = decimal_by_steps (λ n ds. Each IsDigit ds) (λ n h. ((omega arith, omega arith), tt)) (λ n ds h p. each-append IsDigit ds ((48 + n % 10) ∷ []) p ((omega arith, omega arith), tt))
 
-digits_apart : (ds es s t : List ℕ) → Each IsDigit ds → Each IsDigit es → EndsNumber s → EndsNumber t → ds ++ s ≡ es ++ t → (ds ≡ es) × (s ≡ t)
+pub digits_apart : (ds es s t : List ℕ) → Each IsDigit ds → Each IsDigit es → EndsNumber s → EndsNumber t → ds ++ s ≡ es ++ t → (ds ≡ es) × (s ≡ t)
 digits_apart [] [] s t p q u v h = (refl, h)
 digits_apart [] (e ∷ es) [] t p q u v h = absurd (cc)
-digits_apart [] (e ∷ es) (c ∷ s) t p q u v h = let same : c ≡ e = cc in absurd (omega (arith, q.0.0, u))
+digits_apart [] (e ∷ es) (c ∷ s) t p q u v h = let same : e ≡ c = cc in let digit : IsDigit c = (omega (arith, q.0.0), omega (arith, q.0.1)) in absurd (u digit)
 digits_apart (d ∷ ds) [] s [] p q u v h = absurd (cc)
-digits_apart (d ∷ ds) [] s (c ∷ t) p q u v h = let same : d ≡ c = cc in absurd (omega (arith, p.0.0, v))
+digits_apart (d ∷ ds) [] s (c ∷ t) p q u v h = let same : d ≡ c = cc in let digit : IsDigit c = (omega (arith, p.0.0), omega (arith, p.0.1)) in absurd (v digit)
 digits_apart (d ∷ ds) (e ∷ es) s t p q u v h =
     let same : d ≡ e = cc in
     let rest : ds ++ s ≡ es ++ t = cc in
@@ -52,11 +40,11 @@ number_apart a b s t p q u v h =
     let parts = digits_apart (decimal a) (decimal b) s t (digits_decimal a small_a) (digits_decimal b small_b) u v h in
     (decimal_injective a b small_a small_b parts.0, parts.1)
 
-ends-dotted : (ks s : List ℕ) → EndsNumbers s → EndsNumber (dotted ks ++ s)
+pub ends-dotted : (ks s : List ℕ) → EndsNumbers s → EndsNumber (dotted ks ++ s)
 ends-dotted [] s u = ends s u
-ends-dotted (k ∷ ks) s u = lit< tt
+ends-dotted (k ∷ ks) s u = λ d. omega (arith, d.0)
 
-dotted-cons : (k : ℕ) (ks s : List ℕ) → dotted (k ∷ ks) ++ s ≡ 46 ∷ (decimal k ++ (dotted ks ++ s))
+pub dotted-cons : (k : ℕ) (ks s : List ℕ) → dotted (k ∷ ks) ++ s ≡ 46 ∷ (decimal k ++ (dotted ks ++ s))
 dotted-cons k ks s = ap (λ xs. 46 ∷ xs) (append_assoc (decimal k) (dotted ks) s)
 
 dotted_apart : (ks ls s t : List ℕ) → Each IsCount ks → Each IsCount ls → EndsNumbers s → EndsNumbers t → dotted ks ++ s ≡ dotted ls ++ t → (ks ≡ ls) × (s ≡ t)
@@ -118,10 +106,10 @@ primes_apart m n p q h = by (nat_lt m 4) (nat_lt n 4) h
     by false false e =
         let both : ◌≡◌ {A = List ℕ} (39 ∷ (decimal m ++ 39 ∷ [])) (39 ∷ (decimal n ++ 39 ∷ [])) = sym (counted m) ∙ e ∙ counted n in
         let rest : decimal m ++ 39 ∷ [] ≡ decimal n ++ 39 ∷ [] = cc in
-        (number_apart m n (39 ∷ []) (39 ∷ []) p q (lit< tt) (lit< tt) rest).0
+        (number_apart m n (39 ∷ []) (39 ∷ []) p q (λ d. omega (arith, d.0)) (λ d. omega (arith, d.0)) rest).0
 
 -- the bytes below the letters keep their case
-lowered_uncased : (xs : List ℕ) → Each (λ c. c < 65) xs → map to_ascii_lowercase xs ≡ xs
+pub lowered_uncased : (xs : List ℕ) → Each (λ c. c < 65) xs → map to_ascii_lowercase xs ≡ xs
 lowered_uncased [] p = refl
 lowered_uncased (x ∷ xs) p =
     let same : to_ascii_lowercase x ≡ x = grind (arith, nat_tests, p.0) in
@@ -132,7 +120,7 @@ each-weaken : (P Q : ℕ → Type 0) → ((c : ℕ) → P c → Q c) → (xs : L
 each-weaken P Q f [] p = tt
 each-weaken P Q f (x ∷ xs) p = (f x p.0, each-weaken P Q f xs p.1)
 
-abbrev IsUncased : ℕ → Type 0
+abbrev pub IsUncased : ℕ → Type 0
 IsUncased c = c < 65
 
 uncased_decimal : (n : ℕ) → n < 2 ^ 32 → Each IsUncased (decimal n)
@@ -146,7 +134,7 @@ uncased_replicate : (n : ℕ) → Each IsUncased (replicate n 39)
 uncased_replicate zero = tt
 uncased_replicate (suc n) = (lit< tt, uncased_replicate n)
 
-uncased_primes : (n : ℕ) → n < 2 ^ 32 → Each IsUncased (primes_text n)
+pub uncased_primes : (n : ℕ) → n < 2 ^ 32 → Each IsUncased (primes_text n)
 unfolding primes_text
 uncased_primes n h = by (nat_lt n 4)
   where
@@ -154,24 +142,24 @@ uncased_primes n h = by (nat_lt n 4)
     by true = uncased_replicate n
     by false = (lit< tt, each-append IsUncased (decimal n) (39 ∷ []) (uncased_decimal n h) (lit< tt, tt))
 
-ends_primes : (n : ℕ) → EndsNumbers (primes_text n)
+pub ends_primes : (n : ℕ) → EndsNumbers (primes_text n)
 unfolding primes_text
 ends_primes n = by (nat_lt n 4) n
   where
     by : (b : Bool) (m : ℕ) → EndsNumbers (if b then replicate m 39 else codes "'" ++ decimal n ++ codes "'")
     by true zero = tt
-    by true (suc m) = (lit< tt, λ h. omega arith)
-    by false m = (lit< tt, λ h. omega arith)
+    by true (suc m) = ((λ d. omega (arith, d.0)), λ h. omega arith)
+    by false m = ((λ d. omega (arith, d.0)), λ h. omega arith)
 
 -- a name's text in lower case, before what the primes print
-abbrev low_text : List ℕ → Option ℕ → List ℕ → List ℕ → List ℕ
+abbrev pub low_text : List ℕ → Option ℕ → List ℕ → List ℕ → List ℕ
 low_text [] case [] ps = codes "goal" ++ ps
 low_text [] case (k ∷ ks) ps = codes "subgoal " ++ (decimal k ++ (dotted ks ++ ps))
 low_text (i ∷ is) None path ps = codes "*" ++ (decimal i ++ (dotted is ++ ps))
 low_text (i ∷ is) (Some c) path ps =
     codes "subgoal *" ++ (decimal i ++ (dotted is ++ (47 ∷ (decimal c ++ (dotted path ++ ps)))))
 
-uncased_numbers : (k : ℕ) (ks xs : List ℕ) → Each IsCount (k ∷ ks) → Each IsUncased xs → Each IsUncased (decimal k ++ (dotted ks ++ xs))
+pub uncased_numbers : (k : ℕ) (ks xs : List ℕ) → Each IsCount (k ∷ ks) → Each IsUncased xs → Each IsUncased (decimal k ++ (dotted ks ++ xs))
 uncased_numbers k ks xs p q =
     each-append IsUncased (decimal k) (dotted ks ++ xs) (uncased_decimal k p.0.1) (each-append IsUncased (dotted ks) xs (uncased_dotted ks p.1) q)
 
@@ -193,7 +181,7 @@ low-text (i ∷ is) (Some c) path n ps p q r u =
     (lowered_uncased (decimal i ++ (dotted is ++ tail)) (uncased_numbers i is tail p (lit< tt, uncased_numbers c path ps (r, q) u)))
 
 -- a number doesn't begin with a star
-no_star : (k : ℕ) (xs ys : List ℕ) → k < 2 ^ 32 → decimal k ++ xs ≡ 42 ∷ ys → ⊥
+pub no_star : (k : ℕ) (xs ys : List ℕ) → k < 2 ^ 32 → decimal k ++ xs ≡ 42 ∷ ys → ⊥
 no_star k xs ys h = begins (decimal k) (digits_decimal k (omega arith)) (decimal_nonempty k (omega arith))
   where
     begins : (ds : List ℕ) → Each IsDigit ds → 0 < length ds → ds ++ xs ≡ 42 ∷ ys → ⊥
@@ -201,7 +189,7 @@ no_star k xs ys h = begins (decimal k) (digits_decimal k (omega arith)) (decimal
     begins (d ∷ ds) p q e = let same : d ≡ 42 = cc in omega (arith, p.0.0)
 
 -- texts whose first bytes differ
-differ : (a b : ℕ) {xs ys : List ℕ} → (a ≡ b → ⊥) → a ∷ xs ≡ b ∷ ys → ⊥
+pub differ : (a b : ℕ) {xs ys : List ℕ} → (a ≡ b → ⊥) → a ∷ xs ≡ b ∷ ys → ⊥
 differ a b ne h = let same : a ≡ b = cc in ne same
 
 -- the parts of two names
@@ -250,7 +238,7 @@ parts_apart (i ∷ is) (Some c) path p (j ∷ js) (Some d) route r ki kp k kb li
     let tail : List ℕ = 47 ∷ (decimal c ++ (dotted path ++ primes_text p)) in
     let tail' : List ℕ = 47 ∷ (decimal d ++ (dotted route ++ primes_text r)) in
     let rest : decimal i ++ (dotted is ++ tail) ≡ decimal j ++ (dotted js ++ tail') = cc in
-    let parts = numbers_apart i j is js tail tail' ki li (lit< tt, λ e. omega arith) (lit< tt, λ e. omega arith) rest in
+    let parts = numbers_apart i j is js tail tail' ki li ((λ d. omega (arith, d.0)), λ e. omega arith) ((λ d. omega (arith, d.0)), λ e. omega arith) rest in
     let first : i ≡ j = parts.0 in
     let more : is ≡ js = parts.1.0 in
     let tails : tail ≡ tail' = parts.1.1 in
@@ -262,7 +250,7 @@ parts_apart (i ∷ is) (Some c) path p (j ∷ js) (Some d) route r ki kp k kb li
 name_same : (m n : Name) → SameParts m.induction m.case m.path m.primes n.induction n.case n.path n.primes → m ≡ n
 name_same m n e = λ x. record { induction = e.0 x; case = e.1.0 x; path = e.1.1.0 x; primes = e.1.1.1 x }
 
-name_lowered : (m : Name) → IsName m → map to_ascii_lowercase (name_text m) ≡ low_text m.induction m.case m.path (primes_text m.primes)
+pub name_lowered : (m : Name) → IsName m → map to_ascii_lowercase (name_text m) ≡ low_text m.induction m.case m.path (primes_text m.primes)
 name_lowered m h = low-text m.induction m.case m.path m.primes (primes_text m.primes) h.induction h.path h.placed (uncased_primes m.primes h.primes)
 
 pub one_reading : (m n : Name) → IsName m → IsName n → map to_ascii_lowercase (name_text m) ≡ map to_ascii_lowercase (name_text n) → m ≡ n

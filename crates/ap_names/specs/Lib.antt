@@ -1,2 +1,4 @@
 pub mod Names
 pub mod Printed
+pub mod Reading
+pub mod Reads

@@ -1,5 +1,6 @@
 -- The names of goals, and the names that a proof gives to the goals below a goal.
-use Rattle.std.specs.Prelude.{ℕ, ◌+◌, ◌^◌, ◌<◌, ◌≤◌, ◌≡◌, Bool, true, false, List, [], ◌∷◌, ◌++◌, Option, Some, None}
+use Rattle.std.specs.Prelude.{ℕ, ◌+◌, ◌^◌, ◌<◌, ◌≤◌, ◌≡◌, Bool, true, false, ◌&&◌, nat_eq, List, [], ◌∷◌, ◌++◌, Option, Some, None}
+use Rattle.std.specs.Cmp.Lexicographic.{pointwise}
 use Rattle.ap_list.specs.Lists.{Each}
 
 -- a goal's name: the numbers of the induction that it is under, its case of that induction, its place
@@ -58,3 +59,13 @@ primed_of name = record name { primes = name.primes + 1 }
 -- the k-th goal that is pushed in the proof of what this name is under
 abbrev pub pushed_of : Name → ℕ → Name
 pushed_of name k = record { induction = name.induction ++ k ∷ []; case = None; path = []; primes = 0 }
+
+-- whether two names are one, as definitions test it
+abbrev pub case_eq : Option ℕ → Option ℕ → Bool
+case_eq None None = true
+case_eq (Some a) (Some b) = nat_eq a b
+case_eq None (Some b) = false
+case_eq (Some a) None = false
+
+abbrev pub name_eq : Name → Name → Bool
+name_eq a b = pointwise nat_eq a.induction b.induction && (case_eq a.case b.case && (pointwise nat_eq a.path b.path && nat_eq a.primes b.primes))

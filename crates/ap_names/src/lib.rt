@@ -3,9 +3,11 @@
 #![tactic(auto)]
 
 mod name;
+mod parsing;
 mod print;
 mod reading;
 
 pub use ap_list::{Bytes, NoMemory, Seq};
-pub use name::{GoalName, same_name};
+pub use name::{GoalName, is_name, same_name};
+pub use parsing::parse;
 pub use reading::printing_has_one_reading;

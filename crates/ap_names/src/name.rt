@@ -1,5 +1,5 @@
 ghost use Rattle.std.specs.Prelude.{◌≡◌, ◌<◌, ◌≤◌, ◌↔◌, false, IsTrue, IfOk};
-ghost use Rattle.ap_names.specs.Names.{child_of, primed_of, pushed_of, is_pushed, IsName};
+ghost use Rattle.ap_names.specs.Names.{child_of, primed_of, pushed_of, is_pushed, IsName, name_eq};
 ghost use Rattle.ap_names.specs.Printed.{name_text};
 
 use crate::print::{put_induction, put_place, put_primes};
@@ -145,4 +145,11 @@ pub fn same_name(a: &GoalName, b: &GoalName) -> bool
         && a.case == b.case
         && a.induction.as_slice() == b.induction.as_slice()
         && a.path.as_slice() == b.path.as_slice()
+}
+
+/// The same, as the test that definitions choose by. Takes no memory.
+pub fn is_name(a: &GoalName, b: &GoalName) -> bool
+    ensures { result ≡ name_eq a.now b.now }
+{
+    same_name(a, b)
 }

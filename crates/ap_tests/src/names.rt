@@ -1,6 +1,6 @@
 use crate::expect::expect;
 use ap_list::Bytes;
-use ap_names::{GoalName, NoMemory, Seq, same_name};
+use ap_names::{GoalName, NoMemory, Seq, parse, same_name};
 use std::alloc::{AllocError, Global};
 use std::test::Fail;
 
@@ -78,5 +78,89 @@ fn a_copy_is_the_same_name(rt: HostRuntime) -> Result<(), Fail> {
     let name = pushed(rt.alloc(), &[1, 2])?;
     let copied = name.copy(rt.alloc())?;
     assert!(rt; same_name(&name, &copied) && !is_root(rt.alloc(), &name));
+    Ok(())
+}
+
+/// What the name prints as that a text is read as.
+fn read(alloc: Global, text: &[u8]) -> Result<Option<Bytes>, NoMemory> {
+    match parse(alloc, text)? {
+        Some(name) => Ok(Some(name.print(alloc)?)),
+        None => Ok(None),
+    }
+}
+
+/// A text with its letters in upper or in lower case.
+fn cased(alloc: Global, text: &[u8], upper: bool) -> Result<Bytes, NoMemory> {
+    let mut cased = Seq::new(alloc);
+    for byte in text {
+        cased.push(if upper {
+            byte.to_ascii_uppercase()
+        } else {
+            byte.to_ascii_lowercase()
+        })?;
+    }
+    Ok(cased)
+}
+
+/// Each row: a text, and what the name prints as that it is read as, or nothing where it is no name's.
+const TEXTS: &[(&str, &str)] = &[
+    ("goal", "Goal"),
+    ("goal'", "Goal'"),
+    ("GOAL'''", "Goal'''"),
+    ("Goal'4'", "Goal'4'"),
+    ("Goal''''", ""),
+    ("Goal'3'", ""),
+    ("Goal'04'", ""),
+    ("Goal'4", ""),
+    ("Goal ", ""),
+    (" Goal", ""),
+    ("", ""),
+    ("Subgoal", ""),
+    ("Subgoal ", ""),
+    ("Subgoal 0", ""),
+    ("Subgoal 02", ""),
+    ("Subgoal 2.", ""),
+    ("Subgoal 2..1", ""),
+    ("Subgoal  2", ""),
+    ("Subgoal +2", ""),
+    ("subgoal 2.10''", "Subgoal 2.10''"),
+    ("Subgoal 4294967295", "Subgoal 4294967295"),
+    ("Subgoal 4294967296", ""),
+    ("Goal'4294967296'", ""),
+    ("*1.2", "*1.2"),
+    ("*", ""),
+    ("*0", ""),
+    ("*1.", ""),
+    ("*1'", ""),
+    ("*1/2", ""),
+    ("Subgoal *1", ""),
+    ("Subgoal *1/", ""),
+    ("Subgoal *1/0", ""),
+    ("SUBGOAL *1/2.3'", "Subgoal *1/2.3'"),
+    ("Subgoal *1.1/3'4'", "Subgoal *1.1/3'4'"),
+    ("Subgoal *1/2/3", ""),
+];
+
+#[test]
+fn texts_are_read_as_names(rt: HostRuntime) -> Result<(), Fail> {
+    for (text, wanted) in TEXTS {
+        match read(rt.alloc(), text.as_bytes())? {
+            Some(printed) => expect(&rt, printed.as_slice(), *wanted),
+            None => assert_eq!(rt; "", *wanted),
+        }
+    }
+    Ok(())
+}
+
+#[test]
+fn printed_names_are_read_back(rt: HostRuntime) -> Result<(), Fail> {
+    for (numbers, moves, text) in ROWS {
+        let printed = printed(rt.alloc(), *numbers, *moves)?;
+        for upper in [false, true] {
+            let text_cased = cased(rt.alloc(), printed.as_slice(), upper)?;
+            let read = read(rt.alloc(), text_cased.as_slice())?;
+            expect(&rt, read.ok_or("no name")?.as_slice(), *text);
+        }
+    }
     Ok(())
 }
