@@ -1,0 +1,3 @@
+pub mod Refusals
+pub mod Knowing
+pub mod Saying

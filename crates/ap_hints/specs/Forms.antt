@@ -1,5 +1,5 @@
 -- What the parts of an event's form are: symbols, keywords, `nil`; and what goes on where such parts are there.
-use Rattle.std.specs.Prelude.{ℕ, Bool, true, false, cond, ◌&&◌, ◌||◌, List, [], ◌∷◌, Option, Some, None}
+use Rattle.std.specs.Prelude.{ℕ, Bool, true, false, ◌&&◌, ◌||◌, List, [], ◌∷◌, Option, Some, None}
 use Rattle.ap_value.specs.declared.symbol.Symbol.{Symbol}
 use Rattle.ap_value.specs.Values.{bytes_eq}
 use Rattle.ap_reader.specs.declared.form.Form.{Form}

@@ -1,5 +1,5 @@
 -- Hints that speak of a world: the calls in their terms are of its functions, and the theorems that they use are its own.
-use Rattle.std.specs.Prelude.{ℕ, ◌<◌, ◌^◌, ◌+◌, false, List, [], length, IsTrue, IfSome, is_some}
+use Rattle.std.specs.Prelude.{◌<◌, ◌^◌, ◌+◌, false, List, [], length, IsTrue, IfSome, is_some}
 use Rattle.ap_list.specs.Lists.{Each}
 use Rattle.ap_value.specs.declared.symbol.Symbol.{Symbol}
 use Rattle.ap_term.specs.declared.term.Subst.{Subst}

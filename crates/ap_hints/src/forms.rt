@@ -1,6 +1,8 @@
 //! What the parts of an event's form are.
 ghost use Rattle.std.specs.Prelude.{◌≡◌, option_map, map};
+ghost use Rattle.ap_reader.specs.declared.form.Body.TheOpen.{Body-F};
 ghost use Rattle.ap_translate.specs.Parts.{layer_of, items_in, is_symbol};
+ghost use Rattle.ap_translate.specs.Written.{quoted_at, quoted_in};
 ghost use Rattle.ap_hints.specs.Forms.{symbol_at, is_keyword, is_nil, any_keyword};
 
 use ap_reader::{Body, Form};
@@ -73,5 +75,32 @@ pub fn is_nil(form: &Form) -> bool
     match items(form) {
         Some([]) => true,
         _ => false,
+    }
+}
+
+/// The `x` of a list `(quote x)`.
+fn quoted_list(items: &[Form]) -> Option<&Form>
+    ensures { option_map (λ f. f.now) result ≡ quoted_at (Body-F.List items.now) }
+{
+    match items {
+        [head, form] => {
+            if is_symbol(head, b"QUOTE") {
+                Some(form)
+            } else {
+                None
+            }
+        }
+        _ => None,
+    }
+}
+
+/// The `x` of `'x` or `(quote x)`.
+pub(crate) fn quoted(form: &Form) -> Option<&Form>
+    ensures { option_map (λ f. f.now) result ≡ quoted_in form.now }
+{
+    match &form.body {
+        Body::Quoted(inner) => Some(inner.get()),
+        Body::List(items) => quoted_list(items.as_slice()),
+        _ => None,
     }
 }

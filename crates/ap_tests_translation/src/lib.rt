@@ -4,6 +4,8 @@
 #[cfg(test)]
 mod constants;
 #[cfg(test)]
+mod hints;
+#[cfg(test)]
 mod table;
 #[cfg(test)]
 mod translation;

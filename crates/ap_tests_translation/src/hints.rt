@@ -1,0 +1,306 @@
+//! What the hints of an event are read as: a form a line, and behind it the hints, each in brackets, or the refusal.
+use crate::table::{expect, one_form, sides, word};
+use ap_ground::ground_world;
+use ap_hints::{Hint, HintError, Hints, hints_of, no_hints, same_hints};
+use ap_list::{Bytes, NoMemory};
+use ap_print::print_term;
+use ap_reader::Form;
+use ap_term::{Subst, Term};
+use ap_value::Symbol;
+use ap_walk::Process;
+use ap_world::{Rune, RuneKind, Theory, World};
+use std::alloc::Global;
+use std::process::Abort;
+
+/// Each key by itself, and hints of several goals.
+const READ: &str = r#"() => nothing
+nil => nothing
+(("Goal")) => [Goal]
+(("Goal" :expand (len x))) => [Goal expand (LEN X)]
+(("Goal" :expand ((len x) (len (cdr y))))) => [Goal expand (LEN X) (LEN (CDR Y))]
+(("Goal" :expand nil)) => [Goal]
+(("goal'" :expand ((+ 1 x)))) => [Goal' expand (BINARY-+ '1 X)]
+(("SUBGOAL 2.1''" :cases ((consp x) (natp y)))) => [Subgoal 2.1'' cases (CONSP X) (NATP Y)]
+(("Goal" :cases ())) => [Goal]
+(("Goal" :do-not '(generalize eliminate-destructors))) => [Goal skip generalize elim]
+(("Goal" :do-not (quote (fertilize eliminate-irrelevance)))) => [Goal skip fertilize irrelevance]
+(("Goal" :do-not 'nil)) => [Goal]
+(("*1.2" :induct (len x))) => [*1.2 induct (LEN X)]
+(("Goal" :do-not-induct t)) => [Goal] no induction
+(("Goal" :use car-cons)) => [Goal use CAR-CONS]
+(("Goal" :use nil)) => [Goal]
+(("Goal" :use (car-cons cdr-cons))) => [Goal use CAR-CONS use CDR-CONS]
+(("Goal" :use (:instance car-cons (y (car z)) (x y)))) => [Goal use CAR-CONS Y (CAR Z) X Y]
+(("Goal" :use ((:instance cdr-cons) car-cons))) => [Goal use CDR-CONS use CAR-CONS]
+(("Goal" :in-theory (disable len car-cons))) => [Goal theory definition LEN induction LEN rewrite CAR-CONS]
+(("Goal" :in-theory (disable (:definition len) (:elim car-cdr-elim)))) => [Goal theory definition LEN elim CAR-CDR-ELIM]
+(("Goal" :in-theory (enable len))) => [Goal theory]
+(("Goal" :in-theory (e/d (len) ((:executable-counterpart len))))) => [Goal theory executable LEN]
+(("Goal" :use car-cons :cases ((atom x)) :expand (len x) :do-not '(fertilize))) => [Goal expand (LEN X) skip fertilize use CAR-CONS cases (ATOM X)]
+(("Subgoal *1/2" :expand (len x)) ("Goal" :cases (x)) ("*1" :induct (len y))) => [Subgoal *1/2 expand (LEN X)][Goal cases X][*1 induct (LEN Y)]"#;
+
+/// Each refusal; of two the first in reading order.
+const REFUSED: &str = r#"(("Subgoal 0" :cases (x))) => BadGoalName
+("Goal") => BadGoalName
+((:cases (x))) => BadGoalName
+(()) => BadGoalName
+(("Goal''''" :cases (x))) => BadGoalName
+((goal :cases (x))) => BadGoalName
+(("Goal" :foo t)) => UnknownKeyword
+(("Goal" cases (x))) => UnknownKeyword
+(("Goal" :cases)) => UnknownKeyword
+(("Goal" :cases x)) => UnknownKeyword
+(("Goal" :do-not '(simplify))) => UnknownKeyword
+(("Goal" :do-not (generalize))) => UnknownKeyword
+(("Goal" :do-not 'generalize)) => UnknownKeyword
+(("Subgoal 1" :do-not-induct t)) => UnknownKeyword
+(("Goal" :do-not-induct nil)) => UnknownKeyword
+(("Goal" :induct x)) => UnknownKeyword
+(("Goal" :in-theory len)) => UnknownKeyword
+(("Goal" :use (:instance))) => UnknownKeyword
+(("Goal" :use (:instance car-cons x))) => UnknownKeyword
+(("Goal" :use (:instance car-cons (x)))) => UnknownKeyword
+(("Goal" :use ((car-cons)))) => UnknownKeyword
+("hints" . 1) => UnknownKeyword
+hints => UnknownKeyword
+(("Goal" :in-theory (enable foo))) => UnknownRune
+(("Goal" :in-theory (disable (:linear car-cons)))) => UnknownRune
+(("Goal" :in-theory (disable car))) => UnknownRune
+(("Goal" :use foo)) => BadInstance
+(("Goal" :use (:instance car-cons (z x)))) => BadInstance
+(("Goal" :use (:instance car-cons (x z) (x y)))) => BadInstance
+(("Goal" :use (:instance car-cons (x (foo))))) => BadInstance
+(("Goal" :use len)) => BadInstance
+(("Goal" :cases ((foo x)))) => BadInstance
+(("Goal" :expand (len))) => BadInstance
+(("Goal" :induct (foo x))) => BadInstance
+(("Goal" :cases (x)) ("GOAL" :expand (len x))) => Repeated
+(("subgoal 1" :cases (x)) ("Subgoal 1" :foo x)) => Repeated
+(("Goal" :cases (x) :cases (y))) => Repeated
+(("Goal" :cases () :cases ())) => Repeated
+(("Goal" :use foo :use foo)) => BadInstance
+(("Goal" :use car-cons :use foo)) => Repeated
+(("Goal" :do-not-induct t :do-not-induct t)) => Repeated
+(("Goal" :in-theory (enable foo) :cases ((foo)))) => UnknownRune
+(("Goal" :cases ((foo)) :in-theory (enable foo))) => BadInstance
+(("Goal" :foo t) ("Subgoal 0")) => UnknownKeyword
+(("Subgoal 0") ("Goal" :foo t)) => BadGoalName"#;
+
+fn put_terms(alloc: Global, text: &mut Bytes, terms: &[Term]) -> Result<(), NoMemory> {
+    for term in terms {
+        text.extend(b" ")?;
+        text.append(print_term(alloc, term)?)?;
+    }
+    Ok(())
+}
+
+/// A key and its terms, where there are any.
+fn put_key(alloc: Global, text: &mut Bytes, key: &[u8], terms: &[Term]) -> Result<(), NoMemory> {
+    if terms.is_empty() {
+        return Ok(());
+    }
+    text.extend(key)?;
+    put_terms(alloc, text, terms)
+}
+
+fn kind_word(kind: RuneKind) -> &'static [u8] {
+    match kind {
+        RuneKind::Definition => b" definition ",
+        RuneKind::Executable => b" executable ",
+        RuneKind::TypePrescription => b" type-prescription ",
+        RuneKind::Induction => b" induction ",
+        RuneKind::Rewrite => b" rewrite ",
+        RuneKind::Linear => b" linear ",
+        RuneKind::Elim => b" elim ",
+    }
+}
+
+fn put_symbol(text: &mut Bytes, symbol: &Symbol) -> Result<(), NoMemory> {
+    text.extend(symbol.name.as_slice())
+}
+
+fn put_rune(text: &mut Bytes, rune: &Rune) -> Result<(), NoMemory> {
+    text.extend(kind_word(rune.kind()))?;
+    put_symbol(text, rune.symbol())
+}
+
+/// What a theory disables.
+fn put_theory(text: &mut Bytes, theory: &Theory) -> Result<(), NoMemory> {
+    text.extend(b" theory")?;
+    for rune in theory.disabled() {
+        put_rune(text, rune)?;
+    }
+    Ok(())
+}
+
+fn process_word(process: Process) -> &'static [u8] {
+    match process {
+        Process::Generalize => b" generalize",
+        Process::Fertilize => b" fertilize",
+        Process::Elim => b" elim",
+        Process::Irrelevance => b" irrelevance",
+        _ => b" another",
+    }
+}
+
+fn put_skip(text: &mut Bytes, skip: &[Process]) -> Result<(), NoMemory> {
+    if skip.is_empty() {
+        return Ok(());
+    }
+    text.extend(b" skip")?;
+    for process in skip {
+        text.extend(process_word(*process))?;
+    }
+    Ok(())
+}
+
+fn put_pair(alloc: Global, text: &mut Bytes, pair: &(Symbol, Term)) -> Result<(), NoMemory> {
+    text.extend(b" ")?;
+    put_symbol(text, &pair.0)?;
+    text.extend(b" ")?;
+    text.append(print_term(alloc, &pair.1)?)
+}
+
+/// A theorem that is used, and each variable with what replaces it.
+fn put_use(alloc: Global, text: &mut Bytes, used: &(Symbol, Subst)) -> Result<(), NoMemory> {
+    text.extend(b" use ")?;
+    put_symbol(text, &used.0)?;
+    for pair in used.1.0.as_slice() {
+        put_pair(alloc, text, pair)?;
+    }
+    Ok(())
+}
+
+fn put_uses(alloc: Global, text: &mut Bytes, uses: &[(Symbol, Subst)]) -> Result<(), NoMemory> {
+    for used in uses {
+        put_use(alloc, text, used)?;
+    }
+    Ok(())
+}
+
+fn put_given_theory(text: &mut Bytes, theory: &Option<Theory>) -> Result<(), NoMemory> {
+    match theory {
+        Some(theory) => put_theory(text, theory),
+        None => Ok(()),
+    }
+}
+
+fn put_scheme(alloc: Global, text: &mut Bytes, scheme: &Option<Term>) -> Result<(), NoMemory> {
+    match scheme {
+        Some(scheme) => {
+            text.extend(b" induct ")?;
+            text.append(print_term(alloc, scheme)?)
+        }
+        None => Ok(()),
+    }
+}
+
+fn put_hint(alloc: Global, text: &mut Bytes, hint: &Hint) -> Result<(), NoMemory> {
+    text.extend(b"[")?;
+    text.append(hint.goal.print(alloc)?)?;
+    put_given_theory(text, &hint.theory)?;
+    put_key(alloc, text, b" expand", hint.expand.as_slice())?;
+    put_skip(text, hint.skip.as_slice())?;
+    put_uses(alloc, text, hint.uses.as_slice())?;
+    put_key(alloc, text, b" cases", hint.cases.as_slice())?;
+    put_scheme(alloc, text, &hint.scheme)?;
+    text.extend(b"]")
+}
+
+/// Hints as a line has them.
+fn written(alloc: Global, hints: &Hints) -> Result<Bytes, NoMemory> {
+    let mut text = Bytes::new(alloc);
+    for hint in hints.list.as_slice() {
+        put_hint(alloc, &mut text, hint)?;
+    }
+    if hints.do_not_induct {
+        text.extend(b" no induction")?;
+    }
+    if text.is_empty() {
+        text.extend(b"nothing")?;
+    }
+    Ok(text)
+}
+
+fn error_word(error: HintError) -> &'static str {
+    match error {
+        HintError::BadGoalName => "BadGoalName",
+        HintError::UnknownKeyword => "UnknownKeyword",
+        HintError::UnknownRune => "UnknownRune",
+        HintError::BadInstance => "BadInstance",
+        HintError::Repeated => "Repeated",
+        HintError::NoMemory => "NoMemory",
+    }
+}
+
+/// The hints of a form, or the refusal.
+fn answer(alloc: Global, world: &World, form: &Form) -> Result<Bytes, NoMemory> {
+    match hints_of(alloc, world, form) {
+        Ok(hints) => written(alloc, &hints),
+        Err(error) => word(alloc, error_word(error)),
+    }
+}
+
+/// The same of a text's one form.
+fn answered(alloc: Global, world: &World, text: &str) -> Result<Bytes, NoMemory> {
+    match one_form(alloc, text.as_bytes()) {
+        Some(form) => answer(alloc, world, &form),
+        None => word(alloc, "not one form"),
+    }
+}
+
+fn expect_all(rt: &impl Abort, alloc: Global, rows: &str) -> Result<(), NoMemory> {
+    let world = ground_world(alloc)?;
+    for line in rows.lines() {
+        let found = answered(alloc, &world, sides(line).0)?;
+        expect(rt, line, found.as_slice());
+    }
+    Ok(())
+}
+
+#[test]
+fn each_key_is_read(rt: HostRuntime) -> Result<(), NoMemory> {
+    assert_eq!(rt; READ.lines().count(), 25);
+    expect_all(&rt, rt.alloc(), READ)
+}
+
+#[test]
+fn the_first_that_is_wrong_is_refused(rt: HostRuntime) -> Result<(), NoMemory> {
+    assert_eq!(rt; REFUSED.lines().count(), 45);
+    expect_all(&rt, rt.alloc(), REFUSED)
+}
+
+/// The hints of a text's one form in the ground world, none where they are refused.
+fn hints(alloc: Global, world: &World, text: &str) -> Hints {
+    match one_form(alloc, text.as_bytes()) {
+        Some(form) => match hints_of(alloc, world, &form) {
+            Ok(hints) => hints,
+            Err(_) => no_hints(alloc),
+        },
+        None => no_hints(alloc),
+    }
+}
+
+#[test]
+fn hints_are_one_whatever_the_case_of_letters(rt: HostRuntime) -> Result<(), NoMemory> {
+    let world = ground_world(rt.alloc())?;
+    let a = hints(
+        rt.alloc(),
+        &world,
+        r#"(("Goal" :use (:instance car-cons (x z))))"#,
+    );
+    let b = hints(
+        rt.alloc(),
+        &world,
+        r#"(("GOAL" :use ((:instance car-cons (x z)))))"#,
+    );
+    let c = hints(
+        rt.alloc(),
+        &world,
+        r#"(("GOAL" :use ((:instance car-cons (x y)))))"#,
+    );
+    assert!(rt; same_hints(&a, &b));
+    assert!(rt; !same_hints(&a, &c));
+    assert!(rt; !same_hints(&a, &no_hints(rt.alloc())));
+    Ok(())
+}
