@@ -1,5 +1,5 @@
 -- A goal with its hint, and the induction of a goal, keep what goals keep.
-use Rattle.std.proofs.Common.{◌≡◌, ◌≤◌, ℕ, true, true≢false, List, [], ◌∷◌, ◌++◌, Option, Some, None, refl, sym, arith}
+use Rattle.std.proofs.Common.{◌≡◌, ℕ, true, true≢false, List, [], ◌∷◌, ◌++◌, Option, Some, None, refl, ap, sym, ◌∙◌, arith}
 use Rattle.ap_list.specs.Lists.{Each}
 use Rattle.ap_term.specs.declared.term.Term.{Term}
 use Rattle.ap_names.specs.Names.{Name, is_pushed, pushed_of}
@@ -61,6 +61,9 @@ pub inducted_kept : (g : Goal) (k : ℕ) (name : Name) (ts : List Term) (s : Set
     → o ≡ (inducted g k).scheme → IsGoal (record (inducted g k) { name = name; clause = record { 0 = ts }; settings = s; scheme = o })
 inducted_kept g k name ts s o goal a b d e = rw (a, b, d, e) (inducted_is_goal g k goal)
 
--- a goal without a hint is as it is
-pub unhinted : (g : Goal) → hint_for g.plan g.name ≡ None → hint_step (hinted g) (hint_for g.plan g.name) ≡ open_step g
+-- the step by the hint that a goal has, and of a goal that has none
+pub step_by : (g h : Goal) (x : Hint) → h ≡ hinted g → hint_for g.plan g.name ≡ Some x → hint_step h (Some x) ≡ hint_step (hinted g) (hint_for g.plan g.name)
+step_by g h x a q = ap (λ (z : Goal). hint_step z (Some x)) a ∙ ap (hint_step (hinted g)) (sym q)
+
+pub unhinted : (g : Goal) → hint_for g.plan g.name ≡ None → open_step g ≡ hint_step (hinted g) (hint_for g.plan g.name)
 unhinted g q = rw q refl

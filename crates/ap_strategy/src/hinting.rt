@@ -14,7 +14,7 @@ use crate::plan::{Plan, Settings, copy_settings};
 use ap_hints::Hint;
 use ap_kernel::{cases, use_fact};
 use ap_list::{NoMemory, Seq};
-use ap_names::{GoalName, same_name};
+use ap_names::{GoalName, is_name};
 use ap_term::{Clause, Subst, Term, copy_terms};
 use ap_value::Symbol;
 use ap_world::{Theory, World, copy_theory};
@@ -25,7 +25,7 @@ fn hint_among<'a>(hints: &'a [Hint], name: &GoalName) -> Option<&'a Hint>
     ensures { option_copied result ≡ hint_among hints.now name.now }
 {
     for hint in hints {
-        if same_name(&hint.goal, name) {
+        if is_name(&hint.goal, name) {
             return Some(hint);
         }
     }

@@ -8,7 +8,7 @@ ghost use Rattle.ap_walk.specs.declared.act.Out.{Out};
 ghost use Rattle.ap_walk.specs.declared.act.Reason.{Reason};
 ghost use Rattle.ap_kernel.specs.Reductions.{KnownClause};
 ghost use Rattle.ap_induct.specs.Choosing.{scheme_of};
-ghost use Rattle.ap_strategy.specs.Goals.{defs_of, IsGoal};
+ghost use Rattle.ap_strategy.specs.Goals.{defs_of, hint_for, hinted, IsGoal};
 ghost use Rattle.ap_strategy.specs.Steps.{child, seen_below, counted_down, children, cases_in, done, stop_step, later, missed_step, open_step, pushed_or_open, hint_step, clause_step, induct_step, step_of};
 
 use crate::clauses::{copy_clause, is_alone};
@@ -224,6 +224,21 @@ fn hint_step<'a>(alloc: Global, task: &Task<'a>, hint: &Hint) -> Result<Stepped<
     Ok(split(Process::Hint, children(alloc, task, task.under, clauses)?))
 }
 
+/// The step of a task by its own name's hint, if there is one.
+fn hinted_step<'a>(alloc: Global, task: &Task<'a>) -> Result<Stepped<Task<'a>>, NoMemory>
+    requires above { task.now.depth < 250 }
+    requires plain { task.now.induct ≡ false }
+    ensures { IfOk result (λ s. s ≡ hint_step (hinted task.now) (hint_for task.now.plan task.now.name)) }
+{
+    task.is_goal();
+    let Some(hint) = hint_for(task.plan, &task.name) else {
+        return open_step(alloc, task);
+    };
+    let with = hinted(alloc, task)?;
+    let stepped = hint_step(alloc, &with, hint)?;
+    Ok(stepped)
+}
+
 /// The step of a task that isn't an induction.
 fn clause_step<'a>(alloc: Global, task: &Task<'a>) -> Result<Stepped<Task<'a>>, NoMemory>
     requires plain { task.now.induct ≡ false }
@@ -235,11 +250,7 @@ fn clause_step<'a>(alloc: Global, task: &Task<'a>) -> Result<Stepped<Task<'a>>, 
     if task.depth >= 250 {
         return Ok(stopped(false, Reason::PathDepth));
     }
-    task.is_goal();
-    let Some(hint) = hint_for(task.plan, &task.name) else {
-        return open_step(alloc, task);
-    };
-    hint_step(alloc, &hinted(alloc, task)?, hint)
+    hinted_step(alloc, task)
 }
 
 /// The clauses of the induction of a task, if there is one.
