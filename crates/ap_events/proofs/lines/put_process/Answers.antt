@@ -1,5 +1,4 @@
 use Rattle.ap_events.specs.Lines.{process_text}
-use Rattle.ap_events.proofs.Attempted.{root_valid}
 use Rattle.ap_events.proofs.lines.put_process.Goals as goal
 
 pub returns-in-Generalize : goal.returns-in-Generalize
