@@ -27,7 +27,7 @@ use Rattle.ap_rewrite.proofs.InWorldStands.{sound_setting}
 use Rattle.ap_induct.specs.Choosing.{scheme_of}
 use Rattle.ap_induct.proofs.Followed.{scheme_follows}
 use Rattle.ap_strategy.specs.Goals.{Goal, defs_of, hint_for, hinted, inducted}
-use Rattle.ap_strategy.specs.Steps.{setting_of, simplified, is_alone, counted_down, named, child, children, cases, done, stop_step, later, seen_below, missed_step, simplify_step, open_step, hint_goals, makes_goals, pushed_or_open, hint_step, clause_step, scheme_step, induct_step, step_of, depth_of, KnownScheme, IsGood}
+use Rattle.ap_strategy.specs.Steps.{setting_of, simplified, is_alone, counted_down, named, child, children, cases, done, stop_step, later, seen_below, missed_step, simplify_step, open_step, hint_goals, makes_goals, pushed_or_open, hint_step, clause_step, scheme_step, induct_step, step_of, depth_of, IsGood}
 use Rattle.ap_strategy.specs.Hinted.{hint_known, scheme_known, hint_follows}
 use Rattle.ap_strategy.specs.Reduced.{simplified_reduces}
 use Rattle.ap_strategy.specs.Later.{of_later, later_makes}
