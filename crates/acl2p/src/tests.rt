@@ -327,7 +327,7 @@ x:y => Read error 12 BadPackage at 20
 (defthm a (equal 'b (car x))) => DEFTHM A / DEFTHM A refused 5.2 LhsConstant
 (defthm a (equal (car x) (cdr y))) => DEFTHM A / DEFTHM A refused 5.3 FreeInRhs
 (defthm a (consp x) :rule-classes :type-prescription) => DEFTHM A / DEFTHM A refused 5.5 NotTypeForm
-(defthm a (equal x x) :hints nil :rule-classes nil) => DEFTHM refused 1 NotSupported
+(defthm a (equal x x) :hints (("Subgoal 0")) :rule-classes nil) => DEFTHM A / DEFTHM A refused 6.1 BadGoalName
 (defun) => DEFUN refused 2 BadEvent
 (defun f (x)) => DEFUN refused 2 BadEvent
 (defun f x x) => DEFUN refused 2 BadEvent
@@ -343,7 +343,7 @@ x:y => Read error 12 BadPackage at 20
 (defun f (x) (declare (xargs :mode :logic)) x) => DEFUN refused 2 BadEvent
 (defun f (x) (declare (xargs :guard)) x) => DEFUN refused 2 BadEvent
 (defun f (x) (declare (xargs :verify-guards 3)) x) => DEFUN refused 2 BadEvent
-(defun f (x) (declare (xargs :hints nil)) x) => DEFUN refused 1 NotSupported
+(defun f (x) (declare (xargs :hints t)) x) => DEFUN F / DEFUN F refused 6.2 UnknownKeyword
 (defun f (x) (+ 1 (f x))) => DEFUN F / DEFUN F refused 7.1 NoMeasure
 (defun ack (m n) (if (zp m) (+ 1 n) (if (zp n) (ack (- m 1) 1) (ack (- m 1) (ack m (- n 1)))))) => DEFUN ACK / DEFUN ACK refused 7.2 NestedRecursion
 (defun f (x) (declare (xargs :measure (lex))) (+ 1 (f x))) => DEFUN F / DEFUN F refused 7.3 BadMeasure
@@ -388,6 +388,8 @@ const ADMITTED: &str = r##"(defun f (x) x) => DEFUN F / DEFUN F admitted
 (defun f (x) (declare (xargs :measure (lex (acl2-count x) 3))) (and x 1)) => DEFUN F / DEFUN F admitted
 (defun f (x) (declare (xargs :measure (if (consp x) 1 0))) (if (consp x) (f nil) x)) => DEFUN F / Measure (IF (CONSP X) '1 '0) / Obligation 1 / Goal simplify 0 / Obligation 2 / Goal simplify 0 / DEFUN F admitted
 (defun f (x) (* x x)) (defun g (x) (f (f x))) => DEFUN F / DEFUN F admitted / DEFUN G / DEFUN G admitted
+(defun f (x) (declare (xargs :hints nil)) x) => DEFUN F / DEFUN F admitted
+(defthm a (equal x x) :hints () :rule-classes nil) => DEFTHM A / Goal simplify 0 / DEFTHM A proved
 (defun f (x) x) (defthm a (equal (f y) (f y)) :rule-classes nil) => DEFUN F / DEFUN F admitted / DEFTHM A / Goal simplify 0 / DEFTHM A proved
 (defconst *c* 'x) => DEFCONST *C* admitted
 (defconst *c* (quote (a . b))) => DEFCONST *C* admitted
@@ -456,7 +458,7 @@ fn each_fault_and_refusal_is_printed(rt: HostRuntime) -> Result<(), Fail> {
 
 #[test]
 fn what_is_admitted_is_printed(rt: HostRuntime) -> Result<(), Fail> {
-    prints_each(&rt, rt.alloc(), ADMITTED, "Book b certified\n", 22)
+    prints_each(&rt, rt.alloc(), ADMITTED, "Book b certified\n", 24)
 }
 
 #[test]
