@@ -1,11 +1,13 @@
 //! The waterfall's step on a goal that has a hint.
-ghost use Rattle.std.specs.Prelude.{IsTrue, IfOk};
+ghost use Rattle.std.specs.Prelude.{IsTrue, IfOk, IfSome};
+ghost use Rattle.ap_list.specs.Lists.{Each};
+ghost use Rattle.ap_world.specs.Holding.{KnownPairs};
 ghost use Rattle.ap_world.specs.Sound.{HasFunctions};
-ghost use Rattle.ap_hints.specs.Known.{KnownHint, KnownHints};
+ghost use Rattle.ap_world.specs.World.{function_of};
+ghost use Rattle.ap_hints.specs.Known.{KnownTerm, KnownUse, KnownHint, KnownHints};
 ghost use Rattle.ap_strategy.specs.Goals.{defs_of};
 
 use crate::clauses::is_written;
-use crate::known::are_known;
 use crate::waterfall::{expect, written_task};
 use crate::written::term;
 use ap_eval::is_known;
@@ -43,7 +45,9 @@ fn blank(alloc: Global, primes: u32) -> Hint {
 }
 
 /// Whether the terms that stand for variables are terms of the world.
-fn are_pairs(w: &World, pairs: &[(Symbol, Term)]) -> bool {
+fn are_pairs(w: &World, pairs: &[(Symbol, Term)]) -> bool
+    ensures { IsTrue result → KnownPairs (function_of w.now.entries) pairs.now }
+{
     for (_, t) in pairs {
         if !is_known(w, t) {
             return false;
@@ -52,10 +56,22 @@ fn are_pairs(w: &World, pairs: &[(Symbol, Term)]) -> bool {
     true
 }
 
+/// Whether a theorem that is used is the world's, and what replaces its variables is too.
+fn is_use(w: &World, name: &Symbol, s: &Subst) -> bool
+    ensures { IsTrue result → KnownUse w.now.entries (name.now, s.now) }
+{
+    match w.lookup_thm(name) {
+        Some(_) => are_pairs(w, s.0.as_slice()),
+        None => false,
+    }
+}
+
 /// Whether theorems that are used are the world's, and what replaces their variables is too.
-fn are_uses(w: &World, uses: &[(Symbol, Subst)]) -> bool {
+fn are_uses(w: &World, uses: &[(Symbol, Subst)]) -> bool
+    ensures { IsTrue result → Each (KnownUse w.now.entries) uses.now }
+{
     for (name, s) in uses {
-        if w.lookup_thm(name).is_none() || !are_pairs(w, s.0.as_slice()) {
+        if !is_use(w, name, s) {
             return false;
         }
     }
@@ -63,22 +79,36 @@ fn are_uses(w: &World, uses: &[(Symbol, Subst)]) -> bool {
 }
 
 /// Whether a term is one of the world, where there is one.
-fn is_scheme(w: &World, scheme: Option<&Term>) -> bool {
+fn is_scheme(w: &World, scheme: &Option<Term>) -> bool
+    ensures { IsTrue result → IfSome scheme.now (KnownTerm w.now.entries) }
+{
     match scheme {
         Some(t) => is_known(w, t),
         None => true,
     }
 }
 
+/// Whether terms are terms of the world.
+fn are_terms(w: &World, ts: &[Term]) -> bool
+    ensures { IsTrue result → Each (KnownTerm w.now.entries) ts.now }
+{
+    for t in ts {
+        if !is_known(w, t) {
+            return false;
+        }
+    }
+    true
+}
+
 /// Whether a hint speaks of the world, with few cases.
 fn is_hint(w: &World, hint: &Hint) -> bool
     ensures { IsTrue result → KnownHint w.now.entries hint.now }
 {
-    are_known(w, hint.expand.as_slice())
+    are_terms(w, hint.expand.as_slice())
         && are_uses(w, hint.uses.as_slice())
-        && are_known(w, hint.cases.as_slice())
+        && are_terms(w, hint.cases.as_slice())
         && hint.cases.len() < 100
-        && is_scheme(w, hint.scheme.as_ref())
+        && is_scheme(w, &hint.scheme)
 }
 
 /// A plan of the ground world with one hint.
