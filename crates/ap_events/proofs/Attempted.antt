@@ -1,5 +1,5 @@
 -- What an attempt that didn't fail shows.
-use Rattle.std.proofs.Common.{◌≡◌, true, true≢false, IsTrue, IfOk, Result, Ok, Err, refl, sym, subst, arith, List, None, [], ◌∷◌}
+use Rattle.std.proofs.Common.{◌≡◌, ◌≤◌, true, true≢false, IsTrue, IfOk, Result, Ok, Err, refl, sym, subst, arith, List, None, [], ◌∷◌}
 use Rattle.ap_list.specs.Lists.{Each}
 use Rattle.ap_term.specs.declared.term.Term.{Term}
 use Rattle.ap_term.specs.declared.term.Clause.{Clause}
