@@ -8,6 +8,7 @@
 #![tactic(auto)]
 
 mod gathering;
+mod kept;
 mod laws;
 mod link;
 mod live;
@@ -15,6 +16,9 @@ mod making;
 mod marking;
 mod noting;
 mod settling;
+mod nodes;
+mod seating;
+mod seats;
 mod state;
 mod stored;
 mod table;
@@ -25,6 +29,7 @@ pub use laws::{
     pieces_make_the_walk, stopped_walks_end,
 };
 pub use link::{DropNote, License, Link};
+pub use seats::AncestorSeat;
 pub use state::{TableState, first};
 pub use stored::{Claim, Entry, Grown, Job, Stage, Stored, Sum, Taken, Told};
 pub use table::{GoalTable, begin};

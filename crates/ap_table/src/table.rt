@@ -3,7 +3,7 @@
 ghost use Rattle.std.specs.Prelude.{◌≡◌, ◌≤◌, length};
 ghost use Rattle.ap_walk.specs.Visits.{out_children};
 ghost use Rattle.ap_walk.specs.Walks.{full};
-ghost use Rattle.ap_table.specs.Calls.{Claims, Grows, Puts, Drops};
+ghost use Rattle.ap_table.specs.Steps.{Claims, Grows, Puts, Drops};
 ghost use Rattle.ap_table.specs.Locked.{OneStep};
 
 use crate::link::License;

@@ -5,7 +5,7 @@ use Rattle.ap_list.specs.Lists.{AnyOf}
 use Rattle.ap_table.specs.Core.{Node, claimed}
 use Rattle.ap_table.specs.Sound.{Names}
 use Rattle.ap_table.specs.Shown.{Run, nodes_of, stage_room, turns}
-use Rattle.ap_table.specs.Calls.{longer, IsJob, IsLicense}
+use Rattle.ap_table.specs.Calls.{longer, IsNodeJob, IsLicense}
 use Rattle.ap_table.specs.declared.stored.Entry.TheVariants as entry
 use Rattle.ap_table.specs.declared.stored.Stage.TheVariants as stage
 use Rattle.ap_table.proofs.After.{after_sound}
@@ -13,7 +13,7 @@ use Rattle.ap_table.proofs.Dropping.{licensed_word}
 use Rattle.ap_table.proofs.Licences.{by_known, by_word}
 use Rattle.ap_table.proofs.Moving.{dropped_table}
 use Rattle.ap_table.proofs.Showing.{some_same, below_length, room_alter, job_shown, job_kept, license_kept, license_shown}
-use Rattle.ap_table.proofs.state.TableState.drop_step.Goals as goal
+use Rattle.ap_table.proofs.nodes.Nodes.drop_step.Goals as goal
 
 pub returns-then-not-same_rule : goal.returns-then-not-same_rule
 returns-then-not-same_rule g c = (
@@ -31,7 +31,7 @@ returns-then-not-is_job g c =
       refl,
       refl,
       λ j l.
-          let own : IsJob g.S.Step.step_of g.S.Step.depth r c.args.job = subst (λ (x : Run g.row.S-Task.Denot). IsJob g.S.Step.step_of g.S.Step.depth x c.args.job) (sym c.self.view_is) j in
+          let own : IsNodeJob g.S.Step.step_of g.S.Step.depth r c.args.job = subst (λ (x : Run g.row.S-Task.Denot). IsNodeJob g.S.Step.step_of g.S.Step.depth x c.args.job) (sym c.self.view_is) j in
           let t = c.is_job.ensures.1 (job_kept g.S.Step.step_of g.S.Step.depth i.nodes.items (nodes_of g.S.Step.step_of g.S.Step.depth r) c.args.job.node c.args.job.task c.self.invariant.shows own.1) in
           let f = c.if-not-is_job.true in absurd (cc),
     )

@@ -7,7 +7,7 @@ use Rattle.ap_table.specs.Ended.{AreNotes, IsKeptNote, HasEnded, Ends}
 use Rattle.ap_table.proofs.After.{after_sound}
 use Rattle.ap_table.proofs.Gathered.{makes_up, trees, root_ended, walk_gathered}
 use Rattle.ap_table.proofs.Noted.{can_note_all, notes_shown}
-use Rattle.ap_table.proofs.state.TableState.finish.Goals as goal
+use Rattle.ap_table.proofs.nodes.Nodes.finish.Goals as goal
 
 pub notes-requires : goal.notes-requires
 notes-requires g c =

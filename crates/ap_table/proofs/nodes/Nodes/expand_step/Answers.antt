@@ -6,13 +6,13 @@ use Rattle.ap_walk.specs.declared.act.Out.{Out}
 use Rattle.ap_walk.specs.declared.act.Stepped.{Stepped}
 use Rattle.ap_table.specs.Core.{Node, claimed}
 use Rattle.ap_table.specs.Shown.{Run, nodes_of}
-use Rattle.ap_table.specs.Calls.{longer, IsJob, CanGrow}
+use Rattle.ap_table.specs.Calls.{longer, IsNodeJob, CanGrow}
 use Rattle.ap_table.specs.declared.stored.Entry.TheVariants as entry
 use Rattle.ap_table.specs.declared.stored.Stored.{Stored}
 use Rattle.ap_table.proofs.Showing.{get_at, some_same, below_length, length_fresh, show_length, job_shown, job_kept, room_kept, room_shown}
 use Rattle.ap_table.proofs.Moving.{expanded_table, larger_table}
 use Rattle.ap_table.proofs.Splitting.{own_is}
-use Rattle.ap_table.proofs.state.TableState.expand_step.Goals as goal
+use Rattle.ap_table.proofs.nodes.Nodes.expand_step.Goals as goal
 
 pub returns-then-not-same_rule : goal.returns-then-not-same_rule
 returns-then-not-same_rule g c = (
@@ -39,7 +39,7 @@ returns-then-not-is_job g c =
       refl,
       refl,
       λ j can.
-          let own : IsJob g.S.Step.step_of g.S.Step.depth r c.args.job = subst (λ (x : Run g.row.S-Task.Denot). IsJob g.S.Step.step_of g.S.Step.depth x c.args.job) (sym c.self.view_is) j in
+          let own : IsNodeJob g.S.Step.step_of g.S.Step.depth r c.args.job = subst (λ (x : Run g.row.S-Task.Denot). IsNodeJob g.S.Step.step_of g.S.Step.depth x c.args.job) (sym c.self.view_is) j in
           let t = c.is_job.ensures.1 (job_kept g.S.Step.step_of g.S.Step.depth i.nodes.items (nodes_of g.S.Step.step_of g.S.Step.depth r) c.args.job.node c.args.job.task c.self.invariant.shows own.1) in
           let f = c.if-not-is_job.true in absurd (cc),
     )

@@ -7,7 +7,7 @@ use Rattle.ap_walk.specs.Walks.{full}
 use Rattle.ap_table.specs.Core.{Node, claimed}
 use Rattle.ap_table.specs.Order.{replace}
 use Rattle.ap_table.specs.Shown.{Run, nodes_of, stage_room}
-use Rattle.ap_table.specs.Calls.{longer, IsJob, CanStill, stop_marks}
+use Rattle.ap_table.specs.Calls.{longer, IsNodeJob, CanStill, stop_marks}
 use Rattle.ap_table.specs.Settled.{mark_nodes, mark_list}
 use Rattle.ap_table.specs.declared.stored.Entry.{Entry}
 use Rattle.ap_table.specs.declared.stored.Entry.TheVariants as entry
@@ -17,7 +17,7 @@ use Rattle.ap_table.specs.declared.link.Link.{Link}
 use Rattle.ap_table.proofs.Showing.{below_length, room_alter, claimed_node, job_shown, job_kept, some_same}
 use Rattle.ap_table.proofs.Marked.{needs_ready, needs_words, needs_levels, put_all, three_levels, put_marking, marking_next, marking_there, marking_family, marking_small, marking_room, marked_all, three_marks, joined_history, still_shown, still_kept}
 use Rattle.ap_table.proofs.Splitting.{not_both}
-use Rattle.ap_table.proofs.state.TableState.put_step.Goals as goal
+use Rattle.ap_table.proofs.nodes.Nodes.put_step.Goals as goal
 
 pub returns-then-not-same_rule : goal.returns-then-not-same_rule
 returns-then-not-same_rule g c =
@@ -48,7 +48,7 @@ returns-then-not-is_job g c =
       refl,
       refl,
       λ j.
-          let own : IsJob step depth r c.args.job = subst (λ (x : Run g.row.S-Task.Denot). IsJob step depth x c.args.job) (sym c.self.view_is) j in
+          let own : IsNodeJob step depth r c.args.job = subst (λ (x : Run g.row.S-Task.Denot). IsNodeJob step depth x c.args.job) (sym c.self.view_is) j in
           let t = c.is_job.ensures.1 (job_kept step depth cs (nodes_of step depth r) k c.args.job.task c.self.invariant.shows own.1) in
           let f = c.if-not-is_job.true in absurd (cc),
     )

@@ -2,7 +2,7 @@ use Rattle.std.proofs.Common.{refl, sym, subst, ◌∙◌, IsTrue}
 use Rattle.ap_table.specs.Shown.{Run, nodes_of}
 use Rattle.ap_table.specs.Calls.{IsRootDone}
 use Rattle.ap_table.proofs.Moving.{done_shown, shown_done}
-use Rattle.ap_table.proofs.state.TableState.root_done.Goals as goal
+use Rattle.ap_table.proofs.nodes.Nodes.root_done.Goals as goal
 
 pub returns : goal.returns
 returns g c =

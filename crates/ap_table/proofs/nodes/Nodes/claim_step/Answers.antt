@@ -8,7 +8,7 @@ use Rattle.ap_table.specs.declared.stored.Entry.TheVariants as entry
 use Rattle.ap_table.specs.declared.stored.Stage.TheVariants as stage
 use Rattle.ap_table.proofs.Showing.{room_alter}
 use Rattle.ap_table.proofs.Moving.{free_there, claim_room, claimed_table, first_found, nothing_found, claimed_task}
-use Rattle.ap_table.proofs.state.TableState.claim_step.Goals as goal
+use Rattle.ap_table.proofs.nodes.Nodes.claim_step.Goals as goal
 
 pub returns-in_default : goal.returns-in_default
 returns-in_default g c =
