@@ -17,6 +17,7 @@ pub mod Finding
 pub mod Sitting
 pub mod Cutting
 pub mod Wording
+pub mod Carrying
 pub mod Totals
 pub mod Heard
 pub mod Closes

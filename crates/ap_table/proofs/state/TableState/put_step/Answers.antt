@@ -1,0 +1,26 @@
+use Rattle.std.proofs.Common.{◌+◌, length, refl, sym, ap, subst, arith}
+use Rattle.ap_table.specs.Shown.{Run}
+use Rattle.ap_table.specs.Steps.{AreSeats}
+use Rattle.ap_table.proofs.Carrying.{put_stranger, put_kept, marks_after, part_after}
+use Rattle.ap_table.proofs.state.TableState.put_step.Goals as goal
+
+pub returns-then-not-is_seated : goal.returns-then-not-is_seated
+returns-then-not-is_seated g c = (refl, refl, λ j. (let t = c.is_seated.ensures.1 (subst (λ (x : Run g.row.S-Task.Denot). AreSeats g.S.Step.step_of g.S.Step.depth x c.args.job) (sym c.self.view_is) j.1) in let f = c.if-not-is_seated.true in absurd (cc)))
+
+pub mark_words-requires-clause-marks : goal.mark_words-requires-clause-marks
+mark_words-requires-clause-marks g c =
+    let same = ap length c.history-from.ensures in
+    marks_after g.S.Step.step_of g.S.Step.depth c.self.inside.nodes c.put_step.new.self c.parts-job.result.0 (length c.history-from.result.now + 1) c.in-Kept.ensures (omega arith)
+
+pub mark_words-requires-clause-seated : goal.mark_words-requires-clause-seated
+mark_words-requires-clause-seated g c =
+    let same = ap length c.history-from.ensures in
+    part_after g.S.Step.step_of g.S.Step.depth c.self.inside.nodes c.put_step.new.self c.self.inside.seats.items c.parts-job.result.0 (length c.history-from.result.now + 1) c.in-Kept.ensures (omega arith) c.self.invariant
+
+pub returns-in-Stranger : goal.returns-in-Stranger
+returns-in-Stranger g c =
+    put_stranger g.S.Step.step_of g.S.Step.depth c.args.self.now c.put_step.new.self c.self.inside.nodes c.args.job c.with_seats.result c.parts-job.result.0 c.in-Stranger.job c.parts-job.result.1 c.self.view_is c.in-Stranger.ensures c.parts-job.ensures.0 c.parts-job.ensures.1 c.with_seats.ensures
+
+pub returns-in-Kept : goal.returns-in-Kept
+returns-in-Kept g c =
+    put_kept g.S.Step.step_of g.S.Step.depth c.args.self.now c.put_step.new.self c.self.inside.nodes c.args.job c.parts-job.result.0 c.self.view_is c.in-Kept.ensures c.parts-job.ensures.0 (c.is_seated.ensures.0 c.if-not-is_seated.false)
