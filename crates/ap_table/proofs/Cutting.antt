@@ -56,10 +56,10 @@ row_next bs path family own rows new place s job b long is none has cut rest all
     elim (cases_lt i (length rows)) [
       | inl h ↦ all i c (sym (at_left rows (b ∷ []) i h) ∙ at')
       | inr h ↦
-        let here : i ≡ length rows + 0 = omega arith in
-        let same : b ≡ c = some_is b c (sym (at_right rows (b ∷ []) 0 i here) ∙ at') in
-        let place_is : place ≡ i = omega arith in (
-          ap (λ (y : Beside). y.kept) (sym same) ∙ none,
-          (s, rest.0, ap (λ (y : Beside). y.job) (sym same) ∙ (has ∙ ap (λ (x : List AncestorSeat). Some x) rest.1), subst (λ (p : ℕ). IsCut own (record { family = family; place = p }) s) place_is cut, rest.2),
-        )
+          let here : i ≡ length rows + 0 = omega arith in
+          let same : b ≡ c = some_is b c (sym (at_right rows (b ∷ []) 0 i here) ∙ at') in
+          let place_is : place ≡ i = omega arith in (
+            ap (λ (y : Beside). y.kept) (sym same) ∙ none,
+            (s, rest.0, ap (λ (y : Beside). y.job) (sym same) ∙ (has ∙ ap (λ (x : List AncestorSeat). Some x) rest.1), subst (λ (p : ℕ). IsCut own (record { family = family; place = p }) s) place_is cut, rest.2),
+          )
     ]

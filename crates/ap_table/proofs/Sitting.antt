@@ -121,21 +121,23 @@ module _ {T : Type 0} (step : T → Stepped T) (depth : T → ℕ) (rule : Rule)
   seated_by ns ms bs cs keeps ml cl stay by a = record {
     long = cl ∙ (a.long ∙ sym ml);
     each = λ j x c atx atc.
-      let low = is_below ms j x atx in
-      let l = a.long in
-      let n = is_there ns j (omega arith) in
-      let b = is_there bs j (omega arith) in
-      let k = keeps j n.0 n.1 in
-      let same : k.0 ≡ x = some_is k.0 x (sym k.1 ∙ atx) in
-      let task : x.task ≡ n.0.task = ap (λ (y : Node T). y.task) (sym same) ∙ k.2 in
-      let path : x.path ≡ n.0.path = ap (λ (y : Node T). y.path) (sym same) ∙ k.3 in
-      let was = a.each j n.0 b.0 n.1 b.1 in
-      let is = by j n.0 x b.0 c n.1 atx b.1 atc task path was in
-      record {
-        kept = is.kept;
-        has = is.has;
-        above = subst (λ p. Each (HasSeat cs) p) (sym path) (each_stays bs cs n.0.path stay was.above);
-        job = λ f. (let s = is.job f in (s.0, s.1, seats_stay ns ms x.path s.0 keeps s.2)) } }
+        let low = is_below ms j x atx in
+        let l = a.long in
+        let n = is_there ns j (omega arith) in
+        let b = is_there bs j (omega arith) in
+        let k = keeps j n.0 n.1 in
+        let same : k.0 ≡ x = some_is k.0 x (sym k.1 ∙ atx) in
+        let task : x.task ≡ n.0.task = ap (λ (y : Node T). y.task) (sym same) ∙ k.2 in
+        let path : x.path ≡ n.0.path = ap (λ (y : Node T). y.path) (sym same) ∙ k.3 in
+        let was = a.each j n.0 b.0 n.1 b.1 in
+        let is = by j n.0 x b.0 c n.1 atx b.1 atc task path was in
+        record {
+          kept = is.kept;
+          has = is.has;
+          above = subst (λ p. Each (HasSeat cs) p) (sym path) (each_stays bs cs n.0.path stay was.above);
+          job = λ f. (let s = is.job f in (s.0, s.1, seats_stay ns ms x.path s.0 keeps s.2));
+        };
+  }
 
   -- each node keeps its task, its path and its word, and becomes neither free nor one with children
   abbrev pub Tame : List (Node T) → List (Node T) → Type 0
@@ -145,15 +147,16 @@ module _ {T : Type 0} (step : T → Stepped T) (depth : T → ℕ) (rule : Rule)
   seated_tame ns ms bs tame ml a =
       seated_by ns ms bs bs (λ j m e. (let x = tame j m e in (x.0, x.1, x.2, x.3))) ml refl (λ j v e. (v, e))
       (λ j n x b c atn atx atb atc task path was.
-          let t = tame j n atn in
-          let same : t.0 ≡ x = some_is t.0 x (sym t.1 ∙ atx) in
-          let own : b ≡ c = some_is b c (sym atb ∙ atc) in
-          let word : x.word ≡ n.word = ap (λ (y : Node T). y.word) (sym same) ∙ t.4 in
-          let kept : c.kept ≡ b.kept = ap (λ (y : Beside). y.kept) (sym own) in
-          record {
-            kept = λ v e. (let k = was.kept v (sym kept ∙ e) in (k.0 ∙ ap (true_family step depth rule) (sym task), k.1 ∙ sym word));
-            has = λ f. (let h = was.has (t.6 (subst (λ (y : Node T). HasFamily y.phase) (sym same) f)) in (h.0, kept ∙ h.1));
-            job = λ f. (let s = was.job (t.5 (ap (λ (y : Node T). y.phase) same ∙ f)) in (s.0, ap (λ (y : Beside). y.job) (sym own) ∙ s.1, subst (λ p. SeatsFor step depth rule ns p s.0) (sym path) s.2)) })
+      let t = tame j n atn in
+      let same : t.0 ≡ x = some_is t.0 x (sym t.1 ∙ atx) in
+      let own : b ≡ c = some_is b c (sym atb ∙ atc) in
+      let word : x.word ≡ n.word = ap (λ (y : Node T). y.word) (sym same) ∙ t.4 in
+      let kept : c.kept ≡ b.kept = ap (λ (y : Beside). y.kept) (sym own) in
+      record {
+        kept = λ v e. (let k = was.kept v (sym kept ∙ e) in (k.0 ∙ ap (true_family step depth rule) (sym task), k.1 ∙ sym word));
+        has = λ f. (let h = was.has (t.6 (subst (λ (y : Node T). HasFamily y.phase) (sym same) f)) in (h.0, kept ∙ h.1));
+        job = λ f. (let s = was.job (t.5 (ap (λ (y : Node T). y.phase) same ∙ f)) in (s.0, ap (λ (y : Beside). y.job) (sym own) ∙ s.1, subst (λ p. SeatsFor step depth rule ns p s.0) (sym path) s.2));
+      })
       a
 
   pub change_tame : (ns : List (Node T)) (k : ℕ) (f : Node T → Node T) → ((n : Node T) → (f n).task ≡ n.task) → ((n : Node T) → (f n).path ≡ n.path) → ((n : Node T) → (f n).word ≡ n.word)
@@ -215,27 +218,28 @@ module _ {T : Type 0} (step : T → Stepped T) (depth : T → ℕ) (rule : Rule)
       let g : Node T → Node T = λ x. record x { phase = claimed } in
       seated_by ns (change ns k g) bs (amend bs k without_job) (change_keeps ns k g (λ x. refl) (λ x. refl)) (change_length ns k g) (amend_length bs k without_job)
       (λ j v e.
-          let b = kept_there (slice_get bs j) v e in
-          elim (same_or_not j k) [
-            | inl s ↦ (v, ap kept_in (ap (slice_get (amend bs k without_job)) s ∙ amend_same bs k b.0 without_job (ap (slice_get bs) (sym s) ∙ b.1)) ∙ b.2)
-            | inr d ↦ (v, ap kept_in (amend_other bs k j without_job d) ∙ e)
-          ])
+      let b = kept_there (slice_get bs j) v e in
+      elim (same_or_not j k) [
+        | inl s ↦ (v, ap kept_in (ap (slice_get (amend bs k without_job)) s ∙ amend_same bs k b.0 without_job (ap (slice_get bs) (sym s) ∙ b.1)) ∙ b.2)
+        | inr d ↦ (v, ap kept_in (amend_other bs k j without_job d) ∙ e)
+      ])
       (λ j n x b c atn atx atb atc task path was.
-          elim (same_or_not j k) [
-            | inl s ↦
-              let isx : g n ≡ x = some_is (g n) x (sym (get_same ns k n g (ap (slice_get ns) (sym s) ∙ atn)) ∙ (ap (slice_get (change ns k g)) (sym s) ∙ atx)) in
-              let isc : without_job b ≡ c = some_is (without_job b) c (sym (amend_same bs k b without_job (ap (slice_get bs) (sym s) ∙ atb)) ∙ (ap (slice_get (amend bs k without_job)) (sym s) ∙ atc)) in
-              let kept : b.kept ≡ c.kept = ap (λ (y : Beside). y.kept) isc in
-              let phase : claimed ≡ x.phase = ap (λ (y : Node T). y.phase) isx in
-              record {
-                kept = λ v e. (let h = was.kept v (kept ∙ e) in (h.0 ∙ ap (true_family step depth rule) (sym task), h.1 ∙ ap (λ (y : Node T). y.word) isx));
-                has = λ f. absurd (subst HasFamily (sym phase) f);
-                job = λ f. (let z = phase ∙ f in absurd (cc)) }
-            | inr d ↦
-              let isx : n ≡ x = some_is n x (sym atn ∙ (sym (get_other ns k j g d) ∙ atx)) in
-              let isc : b ≡ c = some_is b c (sym atb ∙ (sym (amend_other bs k j without_job d) ∙ atc)) in
-              subst (λ (y : Beside). Alone ns x y) isc (subst (λ (y : Node T). Alone ns y b) isx (record { kept = was.kept; has = was.has; job = was.job }))
-          ])
+      elim (same_or_not j k) [
+        | inl s ↦
+            let isx : g n ≡ x = some_is (g n) x (sym (get_same ns k n g (ap (slice_get ns) (sym s) ∙ atn)) ∙ (ap (slice_get (change ns k g)) (sym s) ∙ atx)) in
+            let isc : without_job b ≡ c = some_is (without_job b) c (sym (amend_same bs k b without_job (ap (slice_get bs) (sym s) ∙ atb)) ∙ (ap (slice_get (amend bs k without_job)) (sym s) ∙ atc)) in
+            let kept : b.kept ≡ c.kept = ap (λ (y : Beside). y.kept) isc in
+            let phase : claimed ≡ x.phase = ap (λ (y : Node T). y.phase) isx in
+            record {
+              kept = λ v e. (let h = was.kept v (kept ∙ e) in (h.0 ∙ ap (true_family step depth rule) (sym task), h.1 ∙ ap (λ (y : Node T). y.word) isx));
+              has = λ f. absurd (subst HasFamily (sym phase) f);
+              job = λ f. (let z = phase ∙ f in absurd (cc));
+            }
+        | inr d ↦
+            let isx : n ≡ x = some_is n x (sym atn ∙ (sym (get_other ns k j g d) ∙ atx)) in
+            let isc : b ≡ c = some_is b c (sym atb ∙ (sym (amend_other bs k j without_job d) ∙ atc)) in
+            subst (λ (y : Beside). Alone ns x y) isc (subst (λ (y : Node T). Alone ns y b) isx (record { kept = was.kept; has = was.has; job = was.job }))
+      ])
       a
 
   marked_alone : (i : ℕ) (o : Option View) (t : T) (word : ℕ) → ((v : View) → o ≡ Some v → (v.family ≡ true_family step depth rule t) × (v.low ≡ word))
@@ -253,23 +257,24 @@ module _ {T : Type 0} (step : T → Stepped T) (depth : T → ℕ) (rule : Rule)
       let f : Beside → Beside = with_mark i in
       seated_by ns (change ns k g) bs (amend bs k f) (change_keeps ns k g (λ x. refl) (λ x. refl)) (change_length ns k g) (amend_length bs k f)
       (λ j v e.
-          let b = kept_there (slice_get bs j) v e in
-          elim (same_or_not j k) [
-            | inl s ↦ (_, ap kept_in (ap (slice_get (amend bs k f)) s ∙ amend_same bs k b.0 f (ap (slice_get bs) (sym s) ∙ b.1)) ∙ ap (marked_kept i) b.2)
-            | inr d ↦ (v, ap kept_in (amend_other bs k j f d) ∙ e)
-          ])
+      let b = kept_there (slice_get bs j) v e in
+      elim (same_or_not j k) [
+        | inl s ↦ (_, ap kept_in (ap (slice_get (amend bs k f)) s ∙ amend_same bs k b.0 f (ap (slice_get bs) (sym s) ∙ b.1)) ∙ ap (marked_kept i) b.2)
+        | inr d ↦ (v, ap kept_in (amend_other bs k j f d) ∙ e)
+      ])
       (λ j n x b c atn atx atb atc task path was.
-          elim (same_or_not j k) [
-            | inl s ↦
-              let isx : g n ≡ x = some_is (g n) x (sym (get_same ns k n g (ap (slice_get ns) (sym s) ∙ atn)) ∙ (ap (slice_get (change ns k g)) (sym s) ∙ atx)) in
-              let isc : f b ≡ c = some_is (f b) c (sym (amend_same bs k b f (ap (slice_get bs) (sym s) ∙ atb)) ∙ (ap (slice_get (amend bs k f)) (sym s) ∙ atc)) in
-              subst (λ (y : Beside). Alone ns x y) isc (subst (λ (y : Node T). Alone ns y (f b)) isx (record {
-                kept = λ v e. marked_alone i b.kept n.task n.word was.kept v e;
-                has = λ h. (let v = was.has h in (_, ap (marked_kept i) v.1));
-                job = was.job }))
-            | inr d ↦
-              let isx : n ≡ x = some_is n x (sym atn ∙ (sym (get_other ns k j g d) ∙ atx)) in
-              let isc : b ≡ c = some_is b c (sym atb ∙ (sym (amend_other bs k j f d) ∙ atc)) in
-              subst (λ (y : Beside). Alone ns x y) isc (subst (λ (y : Node T). Alone ns y b) isx (record { kept = was.kept; has = was.has; job = was.job }))
-          ])
+      elim (same_or_not j k) [
+        | inl s ↦
+            let isx : g n ≡ x = some_is (g n) x (sym (get_same ns k n g (ap (slice_get ns) (sym s) ∙ atn)) ∙ (ap (slice_get (change ns k g)) (sym s) ∙ atx)) in
+            let isc : f b ≡ c = some_is (f b) c (sym (amend_same bs k b f (ap (slice_get bs) (sym s) ∙ atb)) ∙ (ap (slice_get (amend bs k f)) (sym s) ∙ atc)) in
+            subst (λ (y : Beside). Alone ns x y) isc (subst (λ (y : Node T). Alone ns y (f b)) isx (record {
+              kept = λ v e. marked_alone i b.kept n.task n.word was.kept v e;
+              has = λ h. (let v = was.has h in (_, ap (marked_kept i) v.1));
+              job = was.job;
+            }))
+        | inr d ↦
+            let isx : n ≡ x = some_is n x (sym atn ∙ (sym (get_other ns k j g d) ∙ atx)) in
+            let isc : b ≡ c = some_is b c (sym atb ∙ (sym (amend_other bs k j f d) ∙ atc)) in
+            subst (λ (y : Beside). Alone ns x y) isc (subst (λ (y : Node T). Alone ns y b) isx (record { kept = was.kept; has = was.has; job = was.job }))
+      ])
       a

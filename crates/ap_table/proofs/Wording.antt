@@ -186,16 +186,18 @@ module _ {T : Type 0} (step : T → Stepped T) (depth : T → ℕ) where
       let same = a.long in record {
         long = omega (arith, length-append bs cs, length-append ns ms);
         each = λ k n b atn atb.
-          elim (cases_lt k (length ns)) [
-            | inl h ↦
-              let was = a.each k n b (sym (at_left ns ms k h) ∙ atn) (sym (at_left bs cs k (omega arith)) ∙ atb) in
-              record {
-                kept = was.kept;
-                has = was.has;
-                above = each_stays bs (bs ++ cs) n.path (λ j v e. (let c = kept_there (slice_get bs j) v e in (v, ap kept_in (at_left bs cs j (is_below bs j c.0 c.1)) ∙ e))) was.above;
-                job = λ f. (let s = was.job f in (s.0, s.1, seats_stay step depth rule ns (ns ++ ms) n.path s.0 (longer_keeps ns ms) s.2)) }
-            | inr h ↦ new (k - length ns) n b (sym (at_right ns ms (k - length ns) k (omega arith)) ∙ atn) (sym (at_right bs cs (k - length ns) k (omega arith)) ∙ atb)
-          ] }
+            elim (cases_lt k (length ns)) [
+              | inl h ↦
+                  let was = a.each k n b (sym (at_left ns ms k h) ∙ atn) (sym (at_left bs cs k (omega arith)) ∙ atb) in
+                  record {
+                    kept = was.kept;
+                    has = was.has;
+                    above = each_stays bs (bs ++ cs) n.path (λ j v e. (let c = kept_there (slice_get bs j) v e in (v, ap kept_in (at_left bs cs j (is_below bs j c.0 c.1)) ∙ e))) was.above;
+                    job = λ f. (let s = was.job f in (s.0, s.1, seats_stay step depth rule ns (ns ++ ms) n.path s.0 (longer_keeps ns ms) s.2));
+                  }
+              | inr h ↦ new (k - length ns) n b (sym (at_right ns ms (k - length ns) k (omega arith)) ∙ atn) (sym (at_right bs cs (k - length ns) k (omega arith)) ∙ atb)
+            ];
+      }
 
   -- the node that is expanded keeps its children's seat
   expanded_own : (rule : Rule) (ns : List (Node T)) (bs : List Beside) (k : ℕ) (n : Node T) (g : Node T → Node T) (own : View) → slice_get ns k ≡ Some n
@@ -205,31 +207,32 @@ module _ {T : Type 0} (step : T → Stepped T) (depth : T → ℕ) where
       let f : Beside → Beside = with_kept own in
       seated_by step depth rule ns (change ns k g) bs (amend bs k f) (change_keeps ns k g gt gp) (change_length ns k g) (amend_length bs k f)
       (λ j v e.
-          let b = kept_there (slice_get bs j) v e in
-          elim (same_or_not j k) [
-            | inl s ↦ (own, ap kept_in (ap (slice_get (amend bs k f)) s ∙ amend_same bs k b.0 f (ap (slice_get bs) (sym s) ∙ b.1)))
-            | inr d ↦ (v, ap kept_in (amend_other bs k j f d) ∙ e)
-          ])
+      let b = kept_there (slice_get bs j) v e in
+      elim (same_or_not j k) [
+        | inl s ↦ (own, ap kept_in (ap (slice_get (amend bs k f)) s ∙ amend_same bs k b.0 f (ap (slice_get bs) (sym s) ∙ b.1)))
+        | inr d ↦ (v, ap kept_in (amend_other bs k j f d) ∙ e)
+      ])
       (λ j m x b c atn atx atb atc task path was.
-          elim (same_or_not j k) [
-            | inl s ↦
-              let ism : n ≡ m = some_is n m (sym at ∙ (ap (slice_get ns) (sym s) ∙ atn)) in
-              let isx : g m ≡ x = some_is (g m) x (sym (get_same ns k m g (ap (slice_get ns) (sym s) ∙ atn)) ∙ (ap (slice_get (change ns k g)) (sym s) ∙ atx)) in
-              let isc : f b ≡ c = some_is (f b) c (sym (amend_same bs k b f (ap (slice_get bs) (sym s) ∙ atb)) ∙ (ap (slice_get (amend bs k f)) (sym s) ∙ atc)) in
-              let kept : c.kept ≡ Some own = ap (λ (y : Beside). y.kept) (sym isc) in
-              let phase : x.phase ≡ expanded = ap (λ (y : Node T). y.phase) (sym isx) ∙ gf m in
-              let word : x.word ≡ NONE = ap (λ (y : Node T). y.word) (sym isx) ∙ gw m in
-              record {
-                kept = λ v e.
+      elim (same_or_not j k) [
+        | inl s ↦
+            let ism : n ≡ m = some_is n m (sym at ∙ (ap (slice_get ns) (sym s) ∙ atn)) in
+            let isx : g m ≡ x = some_is (g m) x (sym (get_same ns k m g (ap (slice_get ns) (sym s) ∙ atn)) ∙ (ap (slice_get (change ns k g)) (sym s) ∙ atx)) in
+            let isc : f b ≡ c = some_is (f b) c (sym (amend_same bs k b f (ap (slice_get bs) (sym s) ∙ atb)) ∙ (ap (slice_get (amend bs k f)) (sym s) ∙ atc)) in
+            let kept : c.kept ≡ Some own = ap (λ (y : Beside). y.kept) (sym isc) in
+            let phase : x.phase ≡ expanded = ap (λ (y : Node T). y.phase) (sym isx) ∙ gf m in
+            let word : x.word ≡ NONE = ap (λ (y : Node T). y.word) (sym isx) ∙ gw m in
+            record {
+              kept = λ v e.
                   let same = some_is own v (sym kept ∙ e) in
                   (ap (λ (y : View). y.family) (sym same ∙ is) ∙ ap (true_family step depth rule) (ap (λ (y : Node T). y.task) ism ∙ sym task), ap (λ (y : View). y.low) (sym same ∙ is) ∙ sym word);
-                has = λ h. (own, kept);
-                job = λ h. (let z = sym phase ∙ h in absurd (cc)) }
-            | inr d ↦
-              let isx : m ≡ x = some_is m x (sym atn ∙ (sym (get_other ns k j g d) ∙ atx)) in
-              let isc : b ≡ c = some_is b c (sym atb ∙ (sym (amend_other bs k j f d) ∙ atc)) in
-              subst (λ (y : Beside). Alone step depth rule ns x y) isc (subst (λ (y : Node T). Alone step depth rule ns y b) isx (record { kept = was.kept; has = was.has; job = was.job }))
-          ])
+              has = λ h. (own, kept);
+              job = λ h. (let z = sym phase ∙ h in absurd (cc));
+            }
+        | inr d ↦
+            let isx : m ≡ x = some_is m x (sym atn ∙ (sym (get_other ns k j g d) ∙ atx)) in
+            let isc : b ≡ c = some_is b c (sym atb ∙ (sym (amend_other bs k j f d) ∙ atc)) in
+            subst (λ (y : Beside). Alone step depth rule ns x y) isc (subst (λ (y : Node T). Alone step depth rule ns y b) isx (record { kept = was.kept; has = was.has; job = was.job }))
+      ])
       a
 
   -- an expansion
@@ -251,28 +254,29 @@ module _ {T : Type 0} (step : T → Stepped T) (depth : T → ℕ) where
       let in_new : (j : ℕ) (v : View) → kept_at cs j ≡ Some v → kept_at (cs ++ rows) j ≡ Some v = λ j v e. (let c = kept_there (slice_get cs j) v e in ap kept_in (at_left cs rows j (is_below cs j c.0 c.1)) ∙ e) in
       let stays : (j : ℕ) (v : View) → kept_at bs j ≡ Some v → (w : View) × (kept_at (cs ++ rows) j ≡ Some w) =
       λ j v e.
-          let c = kept_there (slice_get bs j) v e in
-          elim (same_or_not j k) [
-            | inl y ↦ (own, in_new j own (ap (kept_at cs) y ∙ kept))
-            | inr d ↦ (v, in_new j v (ap kept_in (amend_other bs k j f d) ∙ e))
-          ] in
+      let c = kept_there (slice_get bs j) v e in
+      elim (same_or_not j k) [
+        | inl y ↦ (own, in_new j own (ap (kept_at cs) y ∙ kept))
+        | inr d ↦ (v, in_new j v (ap kept_in (amend_other bs k j f d) ∙ e))
+      ] in
       let keeps = keeps_then ns ms (ms ++ new) (change_keeps ns k g (λ x. refl) (λ x. refl)) (longer_keeps ms new) in
       let atk : slice_get (ms ++ new) k ≡ Some (g n) = at_left ms new k (is_below ms k (g n) (get_same ns k n g at)) ∙ get_same ns k n g at in
       let all = seated_more rule ms new cs rows (long ∙ sym (new_length k n.path 0 (children step depth rule n.task))) own_seats
       (λ i x c atx atc.
-          let fresh = new_at k n.path 0 (children step depth rule n.task) i x atx in
-          let row = are i c atc in
-          let path : x.path ≡ record { family = k; place = i } ∷ n.path = fresh.0 ∙ same_link k n.path (let z : 0 + i ≡ i = omega arith in z) in
-          record {
-            kept = λ v e. (let z = sym row.0 ∙ e in absurd (cc));
-            has = λ h. absurd (subst HasFamily fresh.1 h);
-            above = subst (λ p. Each (HasSeat (cs ++ rows)) p) (sym path) ((own, in_new k own kept), each_stays bs (cs ++ rows) n.path stays (s.each k n b.0 at b.1).above);
-            job = λ h. (
-              row.1.0 ∷ row.1.1,
-              row.1.2,
-              subst (λ p. SeatsFor step depth rule (ms ++ new) p (row.1.0 ∷ row.1.1)) (sym path) (
-                record { family = row.1.3.family; place = row.1.3.place; node = g n; at = atk; true = ap (λ (v : View). v.family) (row.1.3.view) ∙ ap (λ (v : View). v.family) is; unlooked = ap (λ (v : View). v.looks) row.1.3.view },
-                seats_stay step depth rule ns (ms ++ new) n.path row.1.1 keeps (cut_seats step depth rule ns bs n.path row.1.1 s row.1.4),
-              ),
-            ) }) in
+      let fresh = new_at k n.path 0 (children step depth rule n.task) i x atx in
+      let row = are i c atc in
+      let path : x.path ≡ record { family = k; place = i } ∷ n.path = fresh.0 ∙ same_link k n.path (let z : 0 + i ≡ i = omega arith in z) in
+      record {
+        kept = λ v e. (let z = sym row.0 ∙ e in absurd (cc));
+        has = λ h. absurd (subst HasFamily fresh.1 h);
+        above = subst (λ p. Each (HasSeat (cs ++ rows)) p) (sym path) ((own, in_new k own kept), each_stays bs (cs ++ rows) n.path stays (s.each k n b.0 at b.1).above);
+        job = λ h. (
+          row.1.0 ∷ row.1.1,
+          row.1.2,
+          subst (λ p. SeatsFor step depth rule (ms ++ new) p (row.1.0 ∷ row.1.1)) (sym path) (
+            record { family = row.1.3.family; place = row.1.3.place; node = g n; at = atk; true = ap (λ (v : View). v.family) (row.1.3.view) ∙ ap (λ (v : View). v.family) is; unlooked = ap (λ (v : View). v.looks) row.1.3.view },
+            seats_stay step depth rule ns (ms ++ new) n.path row.1.1 keeps (cut_seats step depth rule ns bs n.path row.1.1 s row.1.4),
+          ),
+        );
+      }) in
       subst (λ (xs : List (Node T)). AreSeated step depth rule xs (cs ++ rows)) (sym (nodes_more step depth r (entry.Expanded k) ∙ ap (λ o. expand_node step depth rule ns k o) at)) all

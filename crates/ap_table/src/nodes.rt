@@ -10,7 +10,7 @@ use crate::making::{
 use crate::marking::{can_expand, mark_one};
 use crate::noting::notes;
 use crate::settling::settle;
-use crate::stored::{NodeClaim, Entry, NodeGrown, NodeJob, Stage, Stored, NodeTaken};
+use crate::stored::{Entry, NodeClaim, NodeGrown, NodeJob, NodeTaken, Stage, Stored};
 use crate::telling::through_tally;
 use ap_list::{NoMemory, Seq};
 use ap_walk::{Mark, Out, Rule, Step, Stepped, Tally, Walked, cut_from};
@@ -223,7 +223,12 @@ impl<S: Step> Nodes<S> {
     }
 
     /// Drops a job's node. A stranger is a job that isn't the table's, or the licence isn't one for its node.
-    pub fn drop_step(&mut self, step: &S, job: NodeJob<S::Task>, license: License) -> NodeTaken<S::Task>
+    pub fn drop_step(
+        &mut self,
+        step: &S,
+        job: NodeJob<S::Task>,
+        license: License,
+    ) -> NodeTaken<S::Task>
         ensures { NodeDrops S.step_of S.depth self.old self.new job license result }
     {
         if !same_rule(self.rule, job.rule) {

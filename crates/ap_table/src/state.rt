@@ -11,9 +11,7 @@ use crate::link::{DropNote, License};
 use crate::nodes::{Nodes, first_nodes};
 use crate::seating::{adopt, give_all, mark_words, new_family, take_seats};
 use crate::seats::{AncestorSeat, Beside, KeptSeat};
-use crate::stored::{
-    Claim, Entry, Grown, Job, NodeClaim, NodeGrown, NodeJob, NodeTaken, Taken,
-};
+use crate::stored::{Claim, Entry, Grown, Job, NodeClaim, NodeGrown, NodeJob, NodeTaken, Taken};
 use ap_list::{NoMemory, Seq};
 use ap_walk::{Out, Rule, Step, Stepped, Walked};
 use std::alloc::Global;

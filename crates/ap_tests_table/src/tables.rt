@@ -1,9 +1,11 @@
 //! The rows of the goal table, on one thread.
+ghost use Rattle.std.specs.Prelude.{◌≡◌, IfOk};
 
 use crate::trees::{Tree, Trees};
 use ap_table::*;
 use ap_walk::{End, Mark, NoMemory, Out, Rule, Seq, Step, Walked, serial};
 use std::alloc::Global;
+use std::mem;
 use std::process::Abort;
 
 /// An initial walk without the switch.
@@ -49,13 +51,42 @@ fn expand(
     Ok(())
 }
 
-/// Puts the serial walk of a job's task.
+/// Looks so often at the word of the family above a job's node, if there is one. Answers what was seen last.
+fn look(job: Job<Tree>, times: usize) -> Result<(Job<Tree>, u64), NoMemory>
+    ensures { IfOk result (λ r. (r.0.task ≡ job.task) × (r.0.rule ≡ job.rule)) }
+{
+    let Job {
+        task,
+        rule,
+        node,
+        mut seats,
+    } = job;
+    let mut found = u64::MAX;
+    if let Some(mut seat) = seats.pop() {
+        for _ in 0..times {
+            found = seat.word.look(&mut seat.seat);
+        }
+        seats.push(seat)?;
+    }
+    Ok((
+        Job {
+            task,
+            rule,
+            node,
+            seats,
+        },
+        found,
+    ))
+}
+
+/// Puts the serial walk of a job's task, after one look for each of its marks.
 fn put(
     alloc: Global,
     table: &mut TableState<Trees>,
     job: Job<Tree>,
 ) -> Result<Taken<Tree>, NoMemory> {
     let walked = serial(alloc, &Trees, &job.task, job.rule)?;
+    let (job, _) = look(job, walked.marks.len())?;
     Ok(table.put_step(&Trees, job, walked))
 }
 
@@ -166,6 +197,8 @@ fn three_walks_out_of_order_make_the_serial_one(rt: HostRuntime) -> Result<(), N
     let c = claim(&rt, &mut table, 3);
     put_kept(&rt, alloc, &mut table, c)?;
     assert_eq!(rt; table.history().last().copied(), Some(Entry::Marked(0, 2)));
+    let (b, found) = look(b, 1)?;
+    assert_eq!(rt; found, 2);
     assert!(rt; !table.root_done(&Trees, &Tree::Three, RULE));
     put_kept(&rt, alloc, &mut table, b)?;
     if !table.root_done(&Trees, &Tree::Three, RULE) {
@@ -184,6 +217,8 @@ fn what_lies_behind_a_stop_is_dropped(rt: HostRuntime) -> Result<(), NoMemory> {
     let mut table = begun(&rt, alloc, Tree::Deep, ONE_STOPS)?;
     let b = claim(&rt, &mut table, 2);
     let c = claim(&rt, &mut table, 3);
+    let (b, found) = look(b, 1)?;
+    assert_eq!(rt; found, 0);
     drop_kept(&rt, &mut table, c, 1);
     drop_kept(&rt, &mut table, b, 0);
     if !table.root_done(&Trees, &Tree::Deep, RULE) {
@@ -239,5 +274,41 @@ fn a_job_of_another_table_is_a_stranger(rt: HostRuntime) -> Result<(), NoMemory>
     assert_eq!(rt; table.history().len(), 1);
     put_kept(&rt, alloc, &mut table, job)?;
     put_kept(&rt, alloc, &mut other, theirs)?;
+    Ok(())
+}
+
+#[test]
+fn a_job_has_a_seat_for_each_family_above_it(rt: HostRuntime) -> Result<(), NoMemory> {
+    let alloc = rt.alloc();
+    let mut table = begun(&rt, alloc, Tree::Three, ONE_PUT)?;
+    let mut job = claim(&rt, &mut table, 2);
+    assert_eq!(rt; job.seats.len(), 1);
+    let Some(seat) = job.seats.pop() else {
+        panic!(rt; "no seat");
+    };
+    assert_eq!(rt; (seat.family, seat.place), (0, 1));
+    let Taken::Stranger(mut job) = put(alloc, &mut table, job)? else {
+        panic!(rt; "it was put");
+    };
+    assert_eq!(rt; table.history().len(), 5);
+    job.seats.push(seat)?;
+    put_kept(&rt, alloc, &mut table, job)?;
+    Ok(())
+}
+
+#[test]
+fn a_seat_of_another_place_is_a_strangers(rt: HostRuntime) -> Result<(), NoMemory> {
+    let alloc = rt.alloc();
+    let mut table = begun(&rt, alloc, Tree::Three, ONE_PUT)?;
+    let mut b = claim(&rt, &mut table, 2);
+    let mut c = claim(&rt, &mut table, 3);
+    mem::swap(&mut b.seats, &mut c.seats);
+    let Taken::Stranger(b) = put(alloc, &mut table, b)? else {
+        panic!(rt; "it was put");
+    };
+    let Taken::Stranger(c) = put(alloc, &mut table, c)? else {
+        panic!(rt; "it was put");
+    };
+    assert_eq!(rt; (b.node, c.node, table.history().len()), (2, 3, 6));
     Ok(())
 }

@@ -20,7 +20,8 @@ loop-at-preserved c =
     subst (λ (bs : List Beside). (v : View) × (kept_at bs l.family ≡ Some v) × IsCut v l c.in_ok-seat.seat) same c.in_ok-seat.ensures.seat in
     record {
       same = c.in_ok-seat.ensures.same ∙ same;
-      cut = cut_next c.args.seats.now.items c.loop-at.at c.args.path.now l c.args.first c.loop-at.cut c.push-in-loop-at.new.self c.in_ok-seat.seat c.link_at.ensures cut c.loop-at.invariant.cut c.in_ok-push-2.ensures.ok }
+      cut = cut_next c.args.seats.now.items c.loop-at.at c.args.path.now l c.args.first c.loop-at.cut c.push-in-loop-at.new.self c.in_ok-seat.seat c.link_at.ensures cut c.loop-at.invariant.cut c.in_ok-push-2.ensures.ok;
+    }
 
 pub returns-clause-seats : goal.returns-clause-seats
 returns-clause-seats c = cut_every c.args.seats.now.items c.loop-at.at c.args.path.now c.args.first c.loop-at.cut (omega (arith, c.loop-at-test.false)) c.loop-at.invariant.cut

@@ -14,4 +14,5 @@ loop-at-preserved g c = record {
   seated = elim c.match-history-at.branch [
     | in-Marked w ↦ mark_step g.S.Step.step_of g.S.Step.depth c.args.nodes.now c.loop-at.seats.items c.match-history-at.seats.items c.history-history.result.now c.loop-at.at _ w.in-Marked.family w.in-Marked.place c.history-history.ensures c.loop-at-test.true w.in-Marked.is c.loop-at.invariant.seated (ap (λ s. s.items) w.seats-is ∙ w.mark_at.ensures)
     | in_default w ↦ absurd (no_other c.history-history.result.now c.args.nodes.now.history c.args.from c.loop-at.at _ c.history-history.ensures c.loop-at.invariant.past c.loop-at-test.true c.requires.marks w.in_default.not-Marked)
-  ] }
+  ];
+}

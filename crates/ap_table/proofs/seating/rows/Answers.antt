@@ -22,4 +22,5 @@ loop-place-preserved c =
       same = c.in_ok-job.ensures.same ∙ same;
       own = c.in_ok-first.ensures.same ∙ c.loop-place.invariant.own;
       long = omega (arith, ap length more, length-append c.loop-place.rows.items (b ∷ []), c.loop-place.invariant.long);
-      rows = row_next old c.args.path.now c.args.family c.args.own.now c.loop-place.rows.items c.push.new.self.items c.loop-place.place first c.in_ok-job.job b c.loop-place.invariant.long more refl refl cut job c.loop-place.invariant.rows }
+      rows = row_next old c.args.path.now c.args.family c.args.own.now c.loop-place.rows.items c.push.new.self.items c.loop-place.place first c.in_ok-job.job b c.loop-place.invariant.long more refl refl cut job c.loop-place.invariant.rows;
+    }

@@ -7,4 +7,5 @@ invariant-loop-place l = record {
   same : l.seats.items ≡ l.fn.seats.items;
   own : l.own ≡ l.fn.own;
   long : length l.rows.items ≡ l.place;
-  rows : AreRows l.fn.seats.items l.path l.family l.fn.own l.rows.items }
+  rows : AreRows l.fn.seats.items l.path l.family l.fn.own l.rows.items;
+}

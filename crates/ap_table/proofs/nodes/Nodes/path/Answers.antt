@@ -26,4 +26,4 @@ returns-clause-there g c =
     let at = get_at i.nodes.items c.args.node x (omega (arith, c.if-i-len.false, c.len.ensures)) c.index.ensures in
     let n = shown_at step i.nodes.items (nodes_of step depth r) c.args.node x c.self.invariant.shows at in
     subst (λ (y : Run g.row.S-Task.Denot). (n : Node g.row.S-Task.Denot) × (slice_get (nodes_of step depth y) c.args.node ≡ Some n) × (n.path ≡ c.as_slice.result.now)) c.self.view_is
-        (n.0, n.1, sym n.2.path ∙ sym c.as_slice.ensures)
+    (n.0, n.1, sym n.2.path ∙ sym c.as_slice.ensures)

@@ -19,9 +19,9 @@ pub returns : goal.returns
 returns g c =
     elim c.match-drop_step.branch [
       | in-Stranger w ↦
-        subst (Drops g.S.Step.step_of g.S.Step.depth c.args.self.now c.drop_step.new.self c.args.job c.args.license) (sym w.result-is)
-        (drop_stranger g.S.Step.step_of g.S.Step.depth c.args.self.now c.drop_step.new.self c.self.inside.nodes c.args.job w.with_seats.result c.parts-job.result.0 w.in-Stranger.job c.parts-job.result.1 c.args.license c.self.view_is w.in-Stranger.ensures c.parts-job.ensures.0 c.parts-job.ensures.1 w.with_seats.ensures)
+          subst (Drops g.S.Step.step_of g.S.Step.depth c.args.self.now c.drop_step.new.self c.args.job c.args.license) (sym w.result-is)
+          (drop_stranger g.S.Step.step_of g.S.Step.depth c.args.self.now c.drop_step.new.self c.self.inside.nodes c.args.job w.with_seats.result c.parts-job.result.0 w.in-Stranger.job c.parts-job.result.1 c.args.license c.self.view_is w.in-Stranger.ensures c.parts-job.ensures.0 c.parts-job.ensures.1 w.with_seats.ensures)
       | in-Kept w ↦
-        subst (Drops g.S.Step.step_of g.S.Step.depth c.args.self.now c.drop_step.new.self c.args.job c.args.license) (sym w.result-is)
-        (drop_kept g.S.Step.step_of g.S.Step.depth c.args.self.now c.drop_step.new.self c.self.inside.nodes c.args.job c.parts-job.result.0 c.args.license c.self.view_is w.in-Kept.ensures c.parts-job.ensures.0 (c.is_seated.ensures.0 c.if-not-is_seated.false))
+          subst (Drops g.S.Step.step_of g.S.Step.depth c.args.self.now c.drop_step.new.self c.args.job c.args.license) (sym w.result-is)
+          (drop_kept g.S.Step.step_of g.S.Step.depth c.args.self.now c.drop_step.new.self c.self.inside.nodes c.args.job c.parts-job.result.0 c.args.license c.self.view_is w.in-Kept.ensures c.parts-job.ensures.0 (c.is_seated.ensures.0 c.if-not-is_seated.false))
     ]
