@@ -1,5 +1,5 @@
 -- What the nodes' steps tell of a job that carries its seats.
-use Rattle.std.proofs.Common.{◌≡◌, ◌≤◌, ◌<◌, ℕ, ◌+◌, List, [], ◌∷◌, ◌++◌, Option, Some, None, length, take, drop, refl, sym, ap, subst, ◌∙◌, arith}
+use Rattle.std.proofs.Common.{◌≡◌, ◌<◌, ℕ, ◌+◌, List, ◌++◌, Some, length, take, drop, sym, ap, subst, ◌∙◌, arith}
 use Rattle.std.specs.List.{slice_get}
 use Rattle.ap_list.specs.Lists.{Each}
 use Rattle.ap_walk.specs.declared.act.Stepped.{Stepped}
@@ -8,13 +8,10 @@ use Rattle.ap_walk.specs.Visits.{out_children}
 use Rattle.ap_word.specs.declared.family.View.{View}
 use Rattle.ap_word.specs.Words.{made}
 use Rattle.ap_table.specs.Core.{Node, free, root, children, replay_from}
-use Rattle.ap_table.specs.Order.{IsFirst}
 use Rattle.ap_table.specs.Shown.{Run, turns, nodes_of}
-use Rattle.ap_table.specs.Calls.{longer, stop_marks, NodeClaims, NodeGrows, NodePuts, NodeDrops, IsNodeJob, CanGrow, CanStill, IsLicense}
+use Rattle.ap_table.specs.Calls.{longer, NodeClaims, NodeGrows, NodePuts, NodeDrops, IsNodeJob, CanGrow, CanStill, IsLicense}
 use Rattle.ap_table.specs.Steps.{node_job, AreSeats, IsJob, Claims, Grows, Puts, Drops}
-use Rattle.ap_table.specs.declared.link.Link.{Link}
 use Rattle.ap_table.specs.declared.link.License.{License}
-use Rattle.ap_table.specs.declared.stored.Entry.{Entry}
 use Rattle.ap_table.specs.declared.stored.Entry.TheVariants as entry
 use Rattle.ap_table.specs.declared.stored.Job.{Job}
 use Rattle.ap_table.specs.declared.stored.NodeJob.{NodeJob}

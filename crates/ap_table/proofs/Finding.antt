@@ -1,5 +1,5 @@
 -- Going through a list from its front.
-use Rattle.std.proofs.Common.{◌≡◌, ℕ, zero, suc, ◌+◌, ◌≤◌, ◌<◌, List, [], ◌∷◌, ◌++◌, Some, length, take, drop, get_or, refl, sym, subst, arith, inl, inr}
+use Rattle.std.proofs.Common.{◌≡◌, ℕ, zero, suc, ◌+◌, ◌≤◌, ◌<◌, List, [], ◌∷◌, Some, length, take, drop, get_or, refl, sym, subst, arith, inl, inr}
 use Rattle.std.specs.List.{slice_get}
 use Rattle.ap_list.specs.Lists.{AnyOf, Each}
 use Rattle.ap_table.proofs.Keeping.{some_is}

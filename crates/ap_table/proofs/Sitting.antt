@@ -1,26 +1,20 @@
 -- Each step keeps the seats.
-use Rattle.std.proofs.Common.{◌≡◌, ◌≢◌, ℕ, zero, suc, ◌+◌, ◌-◌, ◌≤◌, ◌<◌, min, List, [], ◌∷◌, ◌++◌, Option, Some, None, length, refl, sym, ap, subst, ◌∙◌, arith, inl, inr, set, length-append}
-use Rattle.std.proofs.lemmas.Bool.{cases_lt}
+use Rattle.std.proofs.Common.{◌≡◌, ◌≢◌, ℕ, zero, suc, ◌+◌, ◌<◌, min, List, [], ◌∷◌, ◌++◌, Option, Some, None, length, refl, sym, ap, subst, ◌∙◌, arith, inl, inr, set}
 use Rattle.std.specs.List.{slice_get}
 use Rattle.ap_list.specs.Lists.{Each}
 use Rattle.ap_walk.specs.declared.act.Stepped.{Stepped}
 use Rattle.ap_walk.specs.declared.rule.Rule.{Rule}
 use Rattle.ap_walk.specs.declared.mark.Walked.{Walked}
-use Rattle.ap_walk.specs.Walks.{full}
 use Rattle.ap_word.specs.declared.family.View.{View}
-use Rattle.ap_word.specs.Stops.{NONE}
-use Rattle.ap_word.specs.Words.{made, marked}
-use Rattle.ap_word.specs.Seats.{seat_view}
-use Rattle.ap_table.specs.Core.{Phase, Node, free, claimed, expanded, put, closed, dropped, change, set_phase, above, parent_of, on_closed, children, joined_walk, kept_of, close_with, close_phase, close_node, close_up, put_node, new_nodes, expand_node}
+use Rattle.ap_word.specs.Words.{marked}
+use Rattle.ap_table.specs.Core.{Phase, Node, free, claimed, expanded, put, closed, dropped, change, set_phase, parent_of, on_closed, joined_walk, kept_of, close_with, close_phase, close_node, close_up}
 use Rattle.ap_table.specs.Sound.{HasFamily}
 use Rattle.ap_table.specs.declared.link.Link.{Link}
-use Rattle.ap_table.specs.declared.link.License.{License}
 use Rattle.ap_table.specs.declared.seats.AncestorSeat.{AncestorSeat}
 use Rattle.ap_table.specs.declared.seats.Beside.{Beside}
-use Rattle.ap_table.specs.Seated.{IsCut, kept_in, kept_at, amend, without_job, with_kept, marked_kept, with_mark, HasSeat, AreCut, AreRows, true_family, IsSeatFor, SeatsFor, IsSeatedAt, AreSeated}
+use Rattle.ap_table.specs.Seated.{kept_in, kept_at, amend, without_job, marked_kept, with_mark, HasSeat, AreCut, true_family, SeatsFor, IsSeatedAt, AreSeated}
 use Rattle.ap_table.proofs.Keeping.{same_or_not, some_is, get_same, get_other, change_length}
-use Rattle.ap_table.proofs.Growing.{below, get_left, get_right, new_at}
-use Rattle.ap_table.proofs.Replay.{Keeps, keeps_all, change_keeps, longer_keeps}
+use Rattle.ap_table.proofs.Replay.{Keeps, change_keeps}
 
 module _ {A : Type 0} where
   pub amend_same : (xs : List A) (k : ℕ) (x : A) (f : A → A) → slice_get xs k ≡ Some x → slice_get (amend xs k f) k ≡ Some (f x)

@@ -1,5 +1,5 @@
 -- The seats after each step of the table.
-use Rattle.std.proofs.Common.{◌≡◌, ◌≢◌, ℕ, zero, suc, ◌+◌, ◌-◌, ◌≤◌, ◌<◌, min, List, [], ◌∷◌, ◌++◌, Option, Some, None, length, take, drop, get_or, refl, sym, ap, subst, ◌∙◌, arith, inl, inr, length-append}
+use Rattle.std.proofs.Common.{◌≡◌, ℕ, zero, suc, ◌+◌, ◌-◌, ◌≤◌, ◌<◌, List, [], ◌∷◌, ◌++◌, Option, Some, None, length, take, drop, get_or, refl, sym, ap, subst, ◌∙◌, arith, inl, inr, length-append}
 use Rattle.std.proofs.lemmas.Bool.{cases_lt}
 use Rattle.std.specs.List.{slice_get}
 use Rattle.ap_list.specs.Lists.{Each}
@@ -9,7 +9,7 @@ use Rattle.ap_walk.specs.Walks.{full}
 use Rattle.ap_word.specs.declared.family.View.{View}
 use Rattle.ap_word.specs.Stops.{NONE}
 use Rattle.ap_word.specs.Words.{IsStop, made}
-use Rattle.ap_table.specs.Core.{Node, Turn, free, claimed, expanded, put, dropped, mark, change, set_phase, above, root, children, close_up, put_node, new_nodes, expand_node, known_of, apply, replay_from}
+use Rattle.ap_table.specs.Core.{Node, free, expanded, put, dropped, mark, change, above, root, children, close_up, put_node, new_nodes, expand_node, apply, replay_from}
 use Rattle.ap_table.specs.Sound.{HasFamily, CanMark, IsAllowed, AreAllowed}
 use Rattle.ap_table.specs.Shown.{Run, turn_of, turns, nodes_of}
 use Rattle.ap_table.specs.Calls.{longer, one_mark, known_at, stop_marks}
@@ -17,11 +17,10 @@ use Rattle.ap_table.specs.declared.link.Link.{Link}
 use Rattle.ap_table.specs.declared.link.License.{License}
 use Rattle.ap_table.specs.declared.stored.Entry.{Entry}
 use Rattle.ap_table.specs.declared.stored.Entry.TheVariants as entry
-use Rattle.ap_table.specs.declared.seats.AncestorSeat.{AncestorSeat}
 use Rattle.ap_table.specs.declared.seats.Beside.{Beside}
-use Rattle.ap_table.specs.Seated.{IsCut, kept_in, kept_at, amend, without_job, with_kept, with_mark, HasSeat, AreCut, AreRows, IsMark, true_family, SeatsFor, IsSeatedAt, AreSeated}
+use Rattle.ap_table.specs.Seated.{kept_in, kept_at, amend, without_job, with_kept, with_mark, HasSeat, AreRows, IsMark, true_family, SeatsFor, IsSeatedAt, AreSeated}
 use Rattle.ap_table.proofs.Keeping.{same_or_not, some_is, get_same, get_other, change_length}
-use Rattle.ap_table.proofs.Growing.{below, new_at}
+use Rattle.ap_table.proofs.Growing.{new_at}
 use Rattle.ap_table.proofs.Replay.{change_keeps, longer_keeps, keeps_then, replay_more}
 use Rattle.ap_table.proofs.Showing.{turns_more}
 use Rattle.ap_table.proofs.Moving.{nodes_more}

@@ -1,5 +1,5 @@
 -- The seats of the families' words: what the table keeps beside its nodes, and what a job carries.
-use Rattle.std.specs.Prelude.{◌≡◌, ◌≢◌, ℕ, zero, suc, ◌+◌, ◌≤◌, ◌<◌, List, [], ◌∷◌, length, Option, Some, None}
+use Rattle.std.specs.Prelude.{◌≡◌, ℕ, zero, suc, ◌≤◌, List, [], ◌∷◌, length, Option, Some, None}
 use Rattle.std.specs.List.{slice_get}
 use Rattle.ap_list.specs.Lists.{Each, AnyOf}
 use Rattle.ap_walk.specs.declared.act.Stepped.{Stepped}
@@ -72,6 +72,11 @@ Gives ss l = AnyOf (λ (s : AncestorSeat). (s.family ≡ l.family) × (s.place �
 -- the seats give just the families of a path, each once and with the place there
 abbrev pub GiveAll : List Link → List AncestorSeat → Type 0
 GiveAll path ss = (length ss ≡ length path) × Each (Gives ss) path
+
+-- the seat made so many looks or more, and knows no number below its place
+pub record HasLooked (many : ℕ) (s : AncestorSeat) : Type 0 where
+  pub looks : many ≤ (seat_view s.seat).looks
+  pub low : s.place ≤ (seat_view s.seat).low
 
 abbrev pub IsMark : Entry → Type 0
 IsMark (entry.Marked f i) = Unit {0}

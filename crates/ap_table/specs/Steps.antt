@@ -1,5 +1,5 @@
 -- What each call does to the table, by the seats too.
-use Rattle.std.specs.Prelude.{◌≡◌, ℕ, List, Some, length}
+use Rattle.std.specs.Prelude.{◌≡◌, ℕ, Some, length}
 use Rattle.std.specs.List.{slice_get}
 use Rattle.ap_walk.specs.declared.act.Stepped.{Stepped}
 use Rattle.ap_walk.specs.Visits.{out_children}

@@ -119,6 +119,8 @@ impl<S: Step> TableState<S> {
     ghost use Rattle.ap_walk.specs.Walks.{full};
     ghost use Rattle.ap_table.specs.Calls.{IsRootDone};
     ghost use Rattle.ap_table.specs.Steps.{Claims, Grows, Puts, Drops};
+    ghost use Rattle.ap_list.specs.Lists.{Each};
+    ghost use Rattle.ap_table.specs.Seated.{HasLooked};
     ghost use Rattle.ap_table.specs.Ended.{HasEnded, Ends};
     ghost use Rattle.ap_table.specs.Locked.{WasAllowed};
 
@@ -206,8 +208,9 @@ impl<S: Step> TableState<S> {
         }
     }
 
-    /// Puts the walk of a job's task, closes the nodes above that this closes, and marks each family above the
-    /// node that is known to stop then. A stranger is a job that isn't the table's, or one whose node can still
+    /// Puts the walk of a job's task, once each of the job's seats has made a look for each of the walk's marks
+    /// and has seen no stop before its place. Closes the nodes above that this closes, and marks each family above
+    /// the node that is known to stop then. A stranger is a job that isn't the table's, or one whose node can still
     /// be expanded.
     pub fn put_step(
         &mut self,
@@ -215,7 +218,8 @@ impl<S: Step> TableState<S> {
         job: Job<S::Task>,
         walked: Walked<S::Task>,
     ) -> Taken<S::Task>
-        requires { walked ≡ full S.step_of S.depth job.rule job.task }
+        requires walked { walked ≡ full S.step_of S.depth job.rule job.task }
+        requires looked { Each (HasLooked (length walked.marks)) job.seats }
         ensures { Puts S.step_of S.depth self.old self.new job result }
     {
         if !is_seated(&self.nodes, &job) {

@@ -1,6 +1,5 @@
-use Rattle.std.proofs.Common.{◌≡◌, ◌∷◌, refl, sym, ap, subst, ◌∙◌, arith, List, Some}
+use Rattle.std.proofs.Common.{◌≡◌, sym, subst, ◌∙◌, arith, List, Some}
 use Rattle.ap_word.specs.declared.family.View.{View}
-use Rattle.ap_table.specs.declared.seats.AncestorSeat.{AncestorSeat}
 use Rattle.ap_table.specs.declared.seats.Beside.{Beside}
 use Rattle.ap_table.specs.Seated.{IsCut, kept_at, HasSeat}
 use Rattle.ap_table.proofs.Finding.{each_there}

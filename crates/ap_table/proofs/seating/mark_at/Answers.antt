@@ -1,6 +1,5 @@
-use Rattle.std.proofs.Common.{◌≡◌, ap, sym, ◌∙◌, slice_set, Some, None, Option}
+use Rattle.std.proofs.Common.{◌≡◌, ap, sym, ◌∙◌, slice_set, Some, Option}
 use Rattle.ap_word.specs.declared.family.View.{View}
-use Rattle.ap_table.specs.declared.seats.Beside.{Beside}
 use Rattle.ap_table.specs.Seated.{with_mark, marked_kept}
 use Rattle.ap_table.proofs.Showing.{get_at}
 use Rattle.ap_table.proofs.Sitting.{is_below, amend_is, kept_there}

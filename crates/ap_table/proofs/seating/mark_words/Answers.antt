@@ -1,6 +1,4 @@
-use Rattle.std.proofs.Common.{◌∙◌, ap, sym, subst, arith, Some}
-use Rattle.ap_table.specs.declared.stored.Entry.{Entry}
-use Rattle.ap_table.proofs.Finding.{get_there, each_beyond}
+use Rattle.std.proofs.Common.{◌∙◌, ap, arith}
 use Rattle.ap_table.proofs.Wording.{mark_can, mark_step, no_other}
 use Rattle.ap_table.proofs.seating.mark_words.Goals.{in-Marked, in_default}
 use Rattle.ap_table.proofs.seating.mark_words.Goals as goal

@@ -1,4 +1,4 @@
-use Rattle.std.proofs.Common.{◌≡◌, ◌≤◌, take}
+use Rattle.std.proofs.Common.{◌≤◌, take}
 use Rattle.ap_table.specs.Core.{root, replay_from}
 use Rattle.ap_table.specs.Shown.{turns}
 use Rattle.ap_table.specs.Seated.{AreSeated}

@@ -1,9 +1,8 @@
-use Rattle.std.proofs.Common.{◌≡◌, ◌∷◌, ◌++◌, [], refl, sym, ap, subst, ◌∙◌, arith, List, Some, None, length, length-append}
+use Rattle.std.proofs.Common.{◌≡◌, ◌∷◌, [], refl, ap, subst, ◌∙◌, arith, List, Some, None, length, length-append}
 use Rattle.ap_word.specs.declared.family.View.{View}
 use Rattle.ap_table.specs.declared.seats.AncestorSeat.{AncestorSeat}
 use Rattle.ap_table.specs.declared.seats.Beside.{Beside}
-use Rattle.ap_table.specs.Seated.{IsCut, AreCut, HasSeat}
-use Rattle.ap_list.specs.Lists.{Each}
+use Rattle.ap_table.specs.Seated.{IsCut, AreCut}
 use Rattle.ap_table.proofs.Cutting.{row_next}
 use Rattle.ap_table.proofs.seating.rows.Goals as goal
 

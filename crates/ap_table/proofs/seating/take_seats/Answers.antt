@@ -1,4 +1,4 @@
-use Rattle.std.proofs.Common.{ap, sym, ◌∙◌, slice_set, None, Option, List}
+use Rattle.std.proofs.Common.{ap, sym, ◌∙◌, slice_set, Option, List}
 use Rattle.ap_table.specs.declared.seats.AncestorSeat.{AncestorSeat}
 use Rattle.ap_table.specs.declared.seats.Beside.{Beside}
 use Rattle.ap_table.specs.Seated.{without_job}
