@@ -115,7 +115,7 @@ fn seen(rt: &impl Abort, job: &mut Job<Tree>) -> Result<u64, NoMemory> {
     let Some(mut seat) = job.seats.pop() else {
         panic!(rt; "no seat");
     };
-    let found = seat.word.look(&mut seat.seat);
+    let found = look(&mut seat, 0);
     job.seats.push(seat)?;
     Ok(found)
 }
