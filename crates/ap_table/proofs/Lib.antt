@@ -13,6 +13,11 @@ pub mod Showing
 pub mod Dropping
 pub mod Standing
 pub mod Moving
+pub mod Finding
+pub mod Sitting
+pub mod Cutting
+pub mod Wording
+pub mod Carrying
 pub mod Totals
 pub mod Heard
 pub mod Closes

@@ -9,13 +9,13 @@ use Rattle.ap_table.specs.declared.link.License.{License}
 use Rattle.ap_table.specs.declared.link.Link.{Link}
 use Rattle.ap_table.specs.declared.stored.Entry.{Entry}
 use Rattle.ap_table.specs.declared.stored.Entry.TheVariants as entry
-use Rattle.ap_table.specs.declared.stored.Job.{Job}
-use Rattle.ap_table.specs.declared.stored.Claim.{Claim}
-use Rattle.ap_table.specs.declared.stored.Claim.TheVariants as claim
-use Rattle.ap_table.specs.declared.stored.Grown.{Grown}
-use Rattle.ap_table.specs.declared.stored.Grown.TheVariants as grown
-use Rattle.ap_table.specs.declared.stored.Taken.{Taken}
-use Rattle.ap_table.specs.declared.stored.Taken.TheVariants as taken
+use Rattle.ap_table.specs.declared.stored.NodeJob.{NodeJob}
+use Rattle.ap_table.specs.declared.stored.NodeClaim.{NodeClaim}
+use Rattle.ap_table.specs.declared.stored.NodeClaim.TheVariants as claim
+use Rattle.ap_table.specs.declared.stored.NodeGrown.{NodeGrown}
+use Rattle.ap_table.specs.declared.stored.NodeGrown.TheVariants as grown
+use Rattle.ap_table.specs.declared.stored.NodeTaken.{NodeTaken}
+use Rattle.ap_table.specs.declared.stored.NodeTaken.TheVariants as taken
 use Rattle.ap_table.specs.Core.{Node, free, claimed, phase_walk, known_of}
 use Rattle.ap_walk.specs.declared.mark.Walked.{Walked}
 use Rattle.ap_table.specs.Order.{IsFirst}
@@ -46,29 +46,29 @@ module _ {T : Type 0} (step : T → Stepped T) (depth : T → ℕ) (rule : Rule)
 
 module _ {T : Type 0} (step : T → Stepped T) (depth : T → ℕ) where
   -- Found takes the first free node, and Nothing is where none is free
-  abbrev pub Claims : Run T → Run T → Claim T → Type 0
-  Claims old new (claim.Found job) =
+  abbrev pub NodeClaims : Run T → Run T → NodeClaim T → Type 0
+  NodeClaims old new (claim.Found job) =
       (new ≡ longer old (entry.Claimed job.node)) × (job.rule ≡ old.rule) × ((first : IsFirst (nodes_of step depth old) job.node) × (job.task ≡ first.node.task))
-  Claims old new claim.Nothing = (new ≡ old) × NoneFree (nodes_of step depth old)
+  NodeClaims old new claim.Nothing = (new ≡ old) × NoneFree (nodes_of step depth old)
 
   -- the root is done, and its task and the table's rule are these
   abbrev pub IsRootDone : Run T → T → Rule → Type 0
   IsRootDone r t rule = ((n : Node T) × (w : Walked T) × (slice_get (nodes_of step depth r) 0 ≡ Some n) × (phase_walk n.phase ≡ Some w)) × (r.root ≡ t) × (r.rule ≡ rule)
 
   -- the job is that of a claimed node
-  abbrev pub IsJob : Run T → Job T → Type 0
-  IsJob r job = (job.rule ≡ r.rule) × ((n : Node T) × (slice_get (nodes_of step depth r) job.node ≡ Some n) × (n.phase ≡ claimed) × (job.task ≡ n.task))
+  abbrev pub IsNodeJob : Run T → NodeJob T → Type 0
+  IsNodeJob r job = (job.rule ≡ r.rule) × ((n : Node T) × (slice_get (nodes_of step depth r) job.node ≡ Some n) × (n.phase ≡ claimed) × (job.task ≡ n.task))
 
   -- the node has fewer than three families above it, and the table has room for its children
   abbrev pub CanGrow : Run T → ℕ → ℕ → Type 0
   CanGrow r k count = (n : Node T) × (slice_get (nodes_of step depth r) k ≡ Some n) × (length n.path < 3) × (length (nodes_of step depth r) + count ≤ 1000000)
 
-  abbrev pub Grows : Run T → Run T → Job T → Stepped T → Grown T → Type 0
-  Grows old new job stepped (grown.Family family first count) =
-      (new ≡ longer old (entry.Expanded job.node)) × IsJob old job × CanGrow old job.node (length (out_children stepped.out)) × (family ≡ job.node) × (first ≡ length (nodes_of step depth old)) × (count ≡ length (out_children stepped.out))
-  Grows old new job stepped (grown.Stranger back again) =
-      (new ≡ old) × (back ≡ job) × (again ≡ stepped) × (IsJob old job → CanGrow old job.node (length (out_children stepped.out)) → ⊥)
-  Grows old new job stepped (grown.NoMemory back again) = (new ≡ old) × (back ≡ job) × (again ≡ stepped)
+  abbrev pub NodeGrows : Run T → Run T → NodeJob T → Stepped T → NodeGrown T → Type 0
+  NodeGrows old new job stepped (grown.Family family first count) =
+      (new ≡ longer old (entry.Expanded job.node)) × IsNodeJob old job × CanGrow old job.node (length (out_children stepped.out)) × (family ≡ job.node) × (first ≡ length (nodes_of step depth old)) × (count ≡ length (out_children stepped.out))
+  NodeGrows old new job stepped (grown.Stranger back again) =
+      (new ≡ old) × (back ≡ job) × (again ≡ stepped) × (IsNodeJob old job → CanGrow old job.node (length (out_children stepped.out)) → ⊥)
+  NodeGrows old new job stepped (grown.NoMemory back again) = (new ≡ old) × (back ≡ job) × (again ≡ stepped)
 
   -- the node has fewer than three families above it, its step is a split of two children or more, and there is room for these
   abbrev pub CanStill : Run T → ℕ → Type 0
@@ -78,9 +78,9 @@ module _ {T : Type 0} (step : T → Stepped T) (depth : T → ℕ) where
   abbrev pub PutMarks : Run T → ℕ → List Entry → Type 0
   PutMarks r k marks = (n : Node T) × (slice_get (nodes_of step depth r) k ≡ Some n) × (marks ≡ stop_marks step depth r.rule (nodes_of step depth (longer r (entry.Put k))) n.path)
 
-  abbrev pub Puts : Run T → Run T → Job T → Taken T → Type 0
-  Puts old new job taken.Kept = ((marks : List Entry) × (new ≡ record old { history = old.history ++ entry.Put job.node ∷ marks }) × PutMarks old job.node marks) × IsJob old job × (CanStill old job.node → ⊥)
-  Puts old new job (taken.Stranger back) = (new ≡ old) × (back ≡ job) × (IsJob old job → CanStill old job.node)
+  abbrev pub NodePuts : Run T → Run T → NodeJob T → NodeTaken T → Type 0
+  NodePuts old new job taken.Kept = ((marks : List Entry) × (new ≡ record old { history = old.history ++ entry.Put job.node ∷ marks }) × PutMarks old job.node marks) × IsNodeJob old job × (CanStill old job.node → ⊥)
+  NodePuts old new job (taken.Stranger back) = (new ≡ old) × (back ≡ job) × (IsNodeJob old job → CanStill old job.node)
 
   -- the licence's family is above the node, its index below the place there, and kept results stop the family at or before the index
   abbrev pub IsLicense : Run T → ℕ → License → Type 0
@@ -88,6 +88,6 @@ module _ {T : Type 0} (step : T → Stepped T) (depth : T → ℕ) where
       ((n : Node T) × (slice_get (nodes_of step depth r) k ≡ Some n) × AnyOf (Names l) n.path)
       × ((m : Node T) × (i : ℕ) × (slice_get (nodes_of step depth r) l.family ≡ Some m) × (known_of step depth r.rule (nodes_of step depth r) m ≡ Some i) × (i ≤ l.index))
 
-  abbrev pub Drops : Run T → Run T → Job T → License → Taken T → Type 0
-  Drops old new job l taken.Kept = (new ≡ longer old (entry.Dropped job.node l)) × IsJob old job × IsLicense old job.node l
-  Drops old new job l (taken.Stranger back) = (new ≡ old) × (back ≡ job) × (IsJob old job → IsLicense old job.node l → ⊥)
+  abbrev pub NodeDrops : Run T → Run T → NodeJob T → License → NodeTaken T → Type 0
+  NodeDrops old new job l taken.Kept = (new ≡ longer old (entry.Dropped job.node l)) × IsNodeJob old job × IsLicense old job.node l
+  NodeDrops old new job l (taken.Stranger back) = (new ≡ old) × (back ≡ job) × (IsNodeJob old job → IsLicense old job.node l → ⊥)

@@ -8,5 +8,7 @@ pub mod Live
 pub mod Sums
 pub mod Settled
 pub mod Calls
+pub mod Seated
+pub mod Steps
 pub mod Locked
 pub mod Ended

@@ -8,12 +8,16 @@
 #![tactic(auto)]
 
 mod gathering;
+mod kept;
 mod laws;
 mod link;
 mod live;
 mod making;
 mod marking;
+mod nodes;
 mod noting;
+mod seating;
+mod seats;
 mod settling;
 mod state;
 mod stored;
@@ -25,6 +29,7 @@ pub use laws::{
     pieces_make_the_walk, stopped_walks_end,
 };
 pub use link::{DropNote, License, Link};
+pub use seats::AncestorSeat;
 pub use state::{TableState, first};
 pub use stored::{Claim, Entry, Grown, Job, Stage, Stored, Sum, Taken, Told};
 pub use table::{GoalTable, begin};

@@ -11,7 +11,7 @@ ghost use Rattle.ap_table.specs.Live.{done_at, free_at};
 ghost use Rattle.ap_list.specs.Lists.{AnyOf};
 
 use crate::link::{License, Link};
-use crate::stored::{Entry, Job, Stage, Stored, Sum, Told};
+use crate::stored::{Entry, NodeJob, Stage, Stored, Sum, Told};
 use crate::telling::nothing_told;
 use ap_list::{NoMemory, Seq};
 use ap_walk::{Mark, Rule, Step};
@@ -26,7 +26,11 @@ pub(crate) fn same_rule(a: Rule, b: Rule) -> bool
 }
 
 /// Whether the job's node is claimed, with the same task.
-pub(crate) fn is_job<S: Step>(step: &S, nodes: &Vec<Stored<S::Task>>, job: &Job<S::Task>) -> bool
+pub(crate) fn is_job<S: Step>(
+    step: &S,
+    nodes: &Vec<Stored<S::Task>>,
+    job: &NodeJob<S::Task>,
+) -> bool
     ensures { IsTrue result ↔ ((c : Stored S.Task) × (slice_get nodes.now.items job.now.node ≡ Some c) × (c.stage ≡ stage.Claimed) × (job.now.task ≡ c.task)) }
 {
     let i = job.node as usize;

@@ -1,42 +1,40 @@
-ghost use Rattle.std.specs.Prelude.{◌≡◌, ℕ, ◌≤◌, List, [], ◌∷◌, ◌++◌, length, IfOk, IsTrue, ◌↔◌};
+//! A goal table: the nodes with the list of the steps that were taken, and the seats of the families' words.
+ghost use Rattle.std.specs.Prelude.{◌≡◌, ◌+◌, ◌≤◌, [], length, Some, IfOk, IsTrue, ◌↔◌, vec_capacity};
+ghost use Rattle.std.specs.List.{slice_get};
+ghost use Rattle.ap_word.specs.Words.{made};
+ghost use Rattle.ap_table.specs.Core.{Node};
+ghost use Rattle.ap_table.specs.Shown.{nodes_of};
+ghost use Rattle.ap_table.specs.Seated.{AreRows, AreSeated, true_family};
+ghost use Rattle.ap_table.specs.Steps.{AreSeats};
 
-use crate::gathering::pieces;
 use crate::link::{DropNote, License};
-use crate::live::{first_free, give_way, take_out};
-use crate::making::{
-    fresh_nodes, grow, has_room, is_done, is_job, is_licensed, root_node, same_rule, set_claimed,
-    set_expanded, set_stage,
-};
-use crate::marking::{can_expand, mark_one};
-use crate::noting::notes;
-use crate::settling::settle;
-use crate::stored::{Claim, Entry, Grown, Job, Stage, Stored, Taken};
-use crate::telling::through_tally;
+use crate::nodes::{Nodes, first_nodes};
+use crate::seating::{adopt, give_all, mark_words, new_family, take_seats};
+use crate::seats::{AncestorSeat, Beside, KeptSeat};
+use crate::stored::{Claim, Entry, Grown, Job, NodeClaim, NodeGrown, NodeJob, NodeTaken, Taken};
 use ap_list::{NoMemory, Seq};
-use ap_walk::{Mark, Out, Rule, Step, Stepped, Tally, Walked, cut_from};
+use ap_walk::{Out, Rule, Step, Stepped, Walked};
 use std::alloc::Global;
 use std::marker::Model;
 
 /// A goal table, with the list of the steps that were taken. Its nodes are what these steps leave, and each
-/// step was allowed.
+/// step was allowed. It keeps one seat of each family's word, which knows the family's true tallies and whose
+/// number is the core's word.
 #[derive(Drop)]
 pub struct TableState<S: Step> {
-    root: S::Task,
-    rule: Rule,
-    nodes: Vec<Stored<S::Task>>,
-    live: Vec<u32>,
-    history: Vec<Entry>,
+    nodes: Nodes<S>,
+    seats: Vec<Beside>,
 }
 
 impl<S: Step> Model for TableState<S> {
-    ghost use Rattle.std.specs.Prelude.{vec_capacity, reverse};
-    ghost use Rattle.ap_table.specs.Shown.{Run, IsTable};
+    ghost use Rattle.ap_table.specs.Shown.{Run, nodes_of};
+    ghost use Rattle.ap_table.specs.Seated.{AreSeated};
 
     ghost Value = { Run S.Task };
 
-    ghost view = { λ s. record { root = s.root; rule = s.rule; history = s.history.items } };
+    ghost view = { λ s. s.nodes };
 
-    ghost invariant = { λ s. IsTable S.step_of S.depth (record { root = s.root; rule = s.rule; history = s.history.items }) s.nodes.items (reverse s.live.items) (vec_capacity s.history) };
+    ghost invariant = { λ s. AreSeated S.step_of S.depth s.nodes.rule (nodes_of S.step_of S.depth s.nodes) s.seats.items };
 }
 
 /// A table of one free node, the root, under a rule. The only error is want of memory.
@@ -48,26 +46,81 @@ pub fn first<S: Step>(
 ) -> Result<TableState<S>, NoMemory>
     ensures { IfOk result (λ s. s ≡ record { root = task; rule = rule; history = [] }) }
 {
-    let node = root_node(alloc, step, &task)?;
-    let mut nodes = Vec::new(alloc);
-    nodes.push(node)?;
-    let mut live = Vec::new(alloc);
-    live.push(0)?;
-    let mut history = Vec::new(alloc);
-    history.reserve(5)?;
-    Ok(TableState {
-        root: task,
+    let nodes = first_nodes(alloc, step, task, rule)?;
+    let mut seats = Vec::new(alloc);
+    seats.push(Beside {
+        job: Some(Seq::new(alloc)),
+        kept: None,
+    })?;
+    Ok(TableState { nodes, seats })
+}
+
+/// A job of a node's job and the seats that belong to it.
+fn with_seats<T>(job: NodeJob<T>, seats: Seq<AncestorSeat>) -> Job<T>
+    ensures { result ≡ record { task = job.task; rule = job.rule; node = job.node; seats = seats } }
+{
+    let NodeJob { task, rule, node } = job;
+    Job {
+        task,
         rule,
-        nodes,
-        live,
-        history,
-    })
+        node,
+        seats,
+    }
+}
+
+/// A job's node job, and its seats.
+fn parts<T>(job: Job<T>) -> (NodeJob<T>, Seq<AncestorSeat>)
+    ensures { (result.0 ≡ record { task = job.task; rule = job.rule; node = job.node }) × (result.1 ≡ job.seats) }
+{
+    let Job {
+        task,
+        rule,
+        node,
+        seats,
+    } = job;
+    (NodeJob { task, rule, node }, seats)
+}
+
+/// Whether a job's seats give just the families above its node, each once and with the place there.
+fn is_seated<S: Step>(nodes: &Nodes<S>, job: &Job<S::Task>) -> bool
+    ensures { IsTrue result ↔ AreSeats S.step_of S.depth nodes.now job.now }
+{
+    let Some(path) = nodes.path(job.node) else {
+        return false;
+    };
+    give_all(job.seats.as_slice(), path)
+}
+
+/// The seat of the word of a job's children, and what is kept beside these, for a node that is there.
+fn family_of<S: Step>(
+    alloc: Global,
+    nodes: &Nodes<S>,
+    seats: &mut Vec<Beside>,
+    job: &Job<S::Task>,
+    count: usize,
+) -> Result<(KeptSeat, Vec<Beside>), NoMemory>
+    requires seated { AreSeated S.step_of S.depth nodes.now.rule (nodes_of S.step_of S.depth nodes.now) seats.old.items }
+    requires there { AreSeats S.step_of S.depth nodes.now job.now }
+    requires few { count ≤ 1000000 }
+    ensures same { seats.new.items ≡ seats.old.items }
+    ensures own { IfOk result (λ r. r.0 ≡ made (true_family S.step_of S.depth job.now.rule job.now.task)) }
+    ensures rows { IfOk result (λ r. (n : Node S.Task) → slice_get (nodes_of S.step_of S.depth nodes.now) job.now.node ≡ Some n → AreRows seats.old.items n.path job.now.node r.0 r.1.items) }
+    ensures long { IfOk result (λ r. length r.1.items ≡ count) }
+    ensures room { IfOk result (λ r. length seats.new.items + count ≤ vec_capacity seats.new) }
+{
+    let Some(path) = nodes.path(job.node) else {
+        unreachable!()
+    };
+    new_family::<S>(alloc, seats, &job.task, job.rule, job.node, path, count)
 }
 
 impl<S: Step> TableState<S> {
     ghost use Rattle.ap_walk.specs.Visits.{out_children};
     ghost use Rattle.ap_walk.specs.Walks.{full};
-    ghost use Rattle.ap_table.specs.Calls.{Claims, Grows, Puts, Drops, IsRootDone};
+    ghost use Rattle.ap_table.specs.Calls.{IsRootDone};
+    ghost use Rattle.ap_table.specs.Steps.{Claims, Grows, Puts, Drops};
+    ghost use Rattle.ap_list.specs.Lists.{Each};
+    ghost use Rattle.ap_table.specs.Seated.{HasLooked};
     ghost use Rattle.ap_table.specs.Ended.{HasEnded, Ends};
     ghost use Rattle.ap_table.specs.Locked.{WasAllowed};
 
@@ -75,48 +128,39 @@ impl<S: Step> TableState<S> {
     pub fn claim_step(&mut self) -> Claim<S::Task>
         ensures { Claims S.step_of S.depth self.old self.new result }
     {
-        let Some(node) = first_free(&self.nodes, self.live.as_slice()) else {
-            return Claim::Nothing;
-        };
-        let task = set_claimed(&mut self.nodes, node as usize);
-        self.history.push_reserved(Entry::Claimed(node));
-        Claim::Found(Job {
-            task,
-            rule: self.rule,
-            node,
-        })
+        match self.nodes.claim_step() {
+            NodeClaim::Nothing => Claim::Nothing,
+            NodeClaim::Found(job) => {
+                let seats = take_seats(&mut self.seats, job.node as usize);
+                Claim::Found(with_seats(job, seats))
+            }
+        }
     }
 
     /// Whether the root is done, and its task and the table's rule are these.
     pub fn root_done(&self, step: &S, task: &S::Task, rule: Rule) -> bool
         ensures { IsTrue result ↔ IsRootDone S.step_of S.depth self.now task.now rule }
     {
-        if !same_rule(self.rule, rule) {
-            return false;
-        }
-        if !step.same_task(&self.root, task) {
-            return false;
-        }
-        is_done(&self.nodes, 0)
+        self.nodes.root_done(step, task, rule)
     }
 
     /// The steps that were taken, in their order.
     pub fn history(&self) -> &[Entry]
         ensures { result.now ≡ self.now.history }
     {
-        self.history.as_slice()
+        self.nodes.history()
     }
 
     /// Each step that was taken was allowed, which the type keeps.
     pub fn were_allowed(&self)
         ensures { WasAllowed S.step_of S.depth self.now }
     {
-        let _rule = self.rule;
+        self.nodes.were_allowed();
     }
 
-    /// Puts the children of a job's task into the table. A stranger is a job that isn't the table's, or one
-    /// whose node has three families above it, or there would be more than 1,000,000 nodes. What is handed
-    /// in comes back where nothing is changed.
+    /// Puts the children of a job's task into the table, with a seat for each family above each child. A stranger
+    /// is a job that isn't the table's, or one whose node has three families above it, or there would be more than
+    /// 1,000,000 nodes. What is handed in comes back where nothing is changed.
     pub fn expand_step(
         &mut self,
         alloc: Global,
@@ -128,46 +172,45 @@ impl<S: Step> TableState<S> {
         requires many { 2 ≤ length (out_children stepped.out) }
         ensures { Grows S.step_of S.depth self.old self.new job stepped result }
     {
-        if !same_rule(self.rule, job.rule) {
-            return Grown::Stranger(job, stepped);
-        }
-        if !is_job(step, &self.nodes, &job) {
+        if !is_seated(&self.nodes, &job) {
             return Grown::Stranger(job, stepped);
         }
         let Out::Split(children) = &stepped.out else {
             return Grown::Stranger(job, stepped);
         };
         let count = children.len();
-        let i = job.node as usize;
-        if !has_room(&self.nodes, i, count) {
+        if !self.nodes.can_grow(job.node, count) {
             return Grown::Stranger(job, stepped);
         }
-        let path = self.nodes[i].path.as_slice();
-        let Ok(more) = fresh_nodes(alloc, step, children.as_slice(), job.node, path) else {
+        let Ok((own, rows)) = family_of(alloc, &self.nodes, &mut self.seats, &job, count) else {
             return Grown::NoMemory(job, stepped);
         };
-        let first = self.nodes.len() as u32;
-        let Ok(()) = grow(&mut self.nodes, &mut self.live, &mut self.history, more) else {
-            return Grown::NoMemory(job, stepped);
-        };
-        let family = job.node;
-        let own = Mark {
-            task: job.task,
-            act: stepped.act,
-            children: count as u32,
-        };
-        set_expanded(&mut self.nodes, i, own, first, count as u32);
-        give_way(&mut self.live, family, first, count as u32);
-        self.history.push_reserved(Entry::Expanded(family));
-        Grown::Family {
-            family,
-            first,
-            count: count as u32,
+        let (job, seats) = parts(job);
+        match self.nodes.expand_step(alloc, step, job, stepped) {
+            NodeGrown::Stranger(job, stepped) => {
+                Grown::Stranger(with_seats(job, seats), stepped)
+            }
+            NodeGrown::NoMemory(job, stepped) => {
+                Grown::NoMemory(with_seats(job, seats), stepped)
+            }
+            NodeGrown::Family {
+                family,
+                first,
+                count,
+            } => {
+                adopt(&mut self.seats, family as usize, own, rows);
+                Grown::Family {
+                    family,
+                    first,
+                    count,
+                }
+            }
         }
     }
 
-    /// Puts the walk of a job's task, closes the nodes above that this closes, and marks each family above the
-    /// node that is known to stop then. A stranger is a job that isn't the table's, or one whose node can still
+    /// Puts the walk of a job's task, once each of the job's seats has made a look for each of the walk's marks
+    /// and has seen no stop before its place. Closes the nodes above that this closes, and marks each family above
+    /// the node that is known to stop then. A stranger is a job that isn't the table's, or one whose node can still
     /// be expanded.
     pub fn put_step(
         &mut self,
@@ -175,49 +218,36 @@ impl<S: Step> TableState<S> {
         job: Job<S::Task>,
         walked: Walked<S::Task>,
     ) -> Taken<S::Task>
-        requires { walked ≡ full S.step_of S.depth job.rule job.task }
+        requires walked { walked ≡ full S.step_of S.depth job.rule job.task }
+        requires looked { Each (HasLooked (length walked.marks)) job.seats }
         ensures { Puts S.step_of S.depth self.old self.new job result }
     {
-        if !same_rule(self.rule, job.rule) {
+        if !is_seated(&self.nodes, &job) {
             return Taken::Stranger(job);
         }
-        if !is_job(step, &self.nodes, &job) {
-            return Taken::Stranger(job);
+        let (job, seats) = parts(job);
+        let from = self.nodes.history().len();
+        match self.nodes.put_step(step, job, walked) {
+            NodeTaken::Stranger(job) => Taken::Stranger(with_seats(job, seats)),
+            NodeTaken::Kept => {
+                mark_words(&self.nodes, &mut self.seats, from + 1);
+                Taken::Kept
+            }
         }
-        let i = job.node as usize;
-        if can_expand::<S>(self.rule, &self.nodes, i, &walked) {
-            return Taken::Stranger(job);
-        }
-        let sum = through_tally(walked.end, walked.tally);
-        set_stage(&mut self.nodes, i, Stage::Put(walked));
-        settle::<S>(self.rule, &mut self.nodes, i, sum);
-        take_out(&mut self.live, job.node);
-        self.history.push_reserved(Entry::Put(job.node));
-        mark_one(&mut self.nodes, &mut self.history, i, 0);
-        mark_one(&mut self.nodes, &mut self.history, i, 1);
-        mark_one(&mut self.nodes, &mut self.history, i, 2);
-        Taken::Kept
     }
 
     /// Drops a job's node. A stranger is a job that isn't the table's, or the licence isn't one for its node.
     pub fn drop_step(&mut self, step: &S, job: Job<S::Task>, license: License) -> Taken<S::Task>
         ensures { Drops S.step_of S.depth self.old self.new job license result }
     {
-        if !same_rule(self.rule, job.rule) {
+        if !is_seated(&self.nodes, &job) {
             return Taken::Stranger(job);
         }
-        if !is_job(step, &self.nodes, &job) {
-            return Taken::Stranger(job);
+        let (job, seats) = parts(job);
+        match self.nodes.drop_step(step, job, license) {
+            NodeTaken::Stranger(job) => Taken::Stranger(with_seats(job, seats)),
+            NodeTaken::Kept => Taken::Kept,
         }
-        let i = job.node as usize;
-        if !is_licensed(&self.nodes, i, license) {
-            return Taken::Stranger(job);
-        }
-        set_stage(&mut self.nodes, i, Stage::Dropped(license));
-        take_out(&mut self.live, job.node);
-        self.history
-            .push_reserved(Entry::Dropped(job.node, license));
-        Taken::Kept
     }
 
     /// Ends a table whose root is done: the serial walk of the root's task, and the notes of what was dropped,
@@ -231,12 +261,7 @@ impl<S: Step> TableState<S> {
         requires { HasEnded S.step_of S.depth self }
         ensures { IfOk result (λ end. Ends S.step_of S.depth S.name self end.0 end.1) }
     {
-        let notes = notes(alloc, step, &self.nodes, self.history.as_slice())?;
-        let marks = pieces(alloc, self.nodes)?;
-        let start = Tally {
-            pushes: 0,
-            goals: 0,
-        };
-        Ok((cut_from(start, marks, self.rule), notes))
+        let TableState { nodes, .. } = self;
+        nodes.finish(alloc, step)
     }
 }

@@ -1,4 +1,5 @@
 use crate::link::{License, Link};
+use crate::seats::AncestorSeat;
 use ap_list::Seq;
 use ap_walk::{Mark, Rule, Stepped, Tally, Walked};
 
@@ -57,12 +58,13 @@ pub struct Stored<T> {
     pub told: Told,
 }
 
-/// A node to be worked: its task, and the rule of its walk.
+/// A node to be worked: its task, the rule of its walk, and a seat for each family above it.
 #[derive(Drop)]
 pub struct Job<T> {
     pub task: T,
     pub rule: Rule,
     pub node: u32,
+    pub seats: Seq<AncestorSeat>,
 }
 
 /// The job of the first free node in serial order, or none is free.
@@ -86,4 +88,35 @@ pub enum Grown<T> {
 pub enum Taken<T> {
     Kept,
     Stranger(Job<T>),
+}
+
+/// A node to be worked, without its seats: its task, and the rule of its walk.
+#[derive(Drop)]
+pub(crate) struct NodeJob<T> {
+    pub task: T,
+    pub rule: Rule,
+    pub node: u32,
+}
+
+/// The job of the first free node in serial order, or none is free.
+#[derive(Drop)]
+pub(crate) enum NodeClaim<T> {
+    Found(NodeJob<T>),
+    Nothing,
+}
+
+/// What an expansion of the nodes answers: the family, the number of the first child and the number of children; or the
+/// job isn't the table's or there is no room for the children; or there is no memory.
+#[derive(Drop)]
+pub(crate) enum NodeGrown<T> {
+    Family { family: u32, first: u32, count: u32 },
+    Stranger(NodeJob<T>, Stepped<T>),
+    NoMemory(NodeJob<T>, Stepped<T>),
+}
+
+/// Whether the nodes took what they were handed; if not, the job comes back.
+#[derive(Drop)]
+pub(crate) enum NodeTaken<T> {
+    Kept,
+    Stranger(NodeJob<T>),
 }

@@ -3,7 +3,9 @@
 ghost use Rattle.std.specs.Prelude.{◌≡◌, ◌≤◌, length};
 ghost use Rattle.ap_walk.specs.Visits.{out_children};
 ghost use Rattle.ap_walk.specs.Walks.{full};
-ghost use Rattle.ap_table.specs.Calls.{Claims, Grows, Puts, Drops};
+ghost use Rattle.ap_table.specs.Steps.{Claims, Grows, Puts, Drops};
+ghost use Rattle.ap_list.specs.Lists.{Each};
+ghost use Rattle.ap_table.specs.Seated.{HasLooked};
 ghost use Rattle.ap_table.specs.Locked.{OneStep};
 
 use crate::link::License;
@@ -66,8 +68,9 @@ impl<S: Step> GoalTable<S> {
         grown
     }
 
-    /// Puts the walk of a job's task, and marks each family above it that is known to stop then. A stranger is a
-    /// job that isn't the table's, or one whose node can still be expanded.
+    /// Puts the walk of a job's task, once each of the job's seats has made a look for each of the walk's marks
+    /// and has seen no stop before its place; and marks each family above it that is known to stop then. A
+    /// stranger is a job that isn't the table's, or one whose node can still be expanded.
     pub fn put(
         &self,
         rt: &impl Wait,
@@ -75,7 +78,8 @@ impl<S: Step> GoalTable<S> {
         job: Job<S::Task>,
         walked: Walked<S::Task>,
     ) -> Taken<S::Task>
-        requires { walked ≡ full S.step_of S.depth job.rule job.task }
+        requires walked { walked ≡ full S.step_of S.depth job.rule job.task }
+        requires looked { Each (HasLooked (length walked.marks)) job.seats }
         ensures { OneStep S.step_of S.depth (λ old new. Puts S.step_of S.depth old new job result) }
     {
         let mut guard = self.state.lock(rt);

@@ -1,5 +1,6 @@
 //! The goal table under its lock, on one thread.
 
+use crate::tables::looked;
 use crate::trees::{Tree, Trees};
 use ap_table::*;
 use ap_walk::{End, NoMemory, Out, Rule, Step, serial};
@@ -49,14 +50,17 @@ fn expand_root(
     Ok(())
 }
 
-/// Puts the serial walk of a job's task. Answers whether it was kept.
+/// Puts the serial walk of a job's task, after a look for each of its marks. Answers whether it was kept.
 fn put(
-    rt: &impl Wait,
+    rt: &(impl Abort + Wait),
     alloc: Global,
     table: &GoalTable<Trees>,
     job: Job<Tree>,
 ) -> Result<bool, NoMemory> {
     let walked = serial(alloc, &Trees, &job.task, job.rule)?;
+    let Some(job) = looked(job, walked.marks.len())? else {
+        panic!(rt; "the family stops before the job");
+    };
     match table.put(rt, &Trees, job, walked) {
         Taken::Kept => Ok(true),
         Taken::Stranger(_) => Ok(false),

@@ -1,9 +1,14 @@
 //! The rows of the goal table, on one thread.
+ghost use Rattle.std.specs.Prelude.{◌≡◌, ◌≤◌, IfOk, IfSome};
+ghost use Rattle.ap_list.specs.Lists.{Each};
+ghost use Rattle.ap_word.specs.Seats.{seat_view};
+ghost use Rattle.ap_table.specs.Seated.{HasLooked};
 
 use crate::trees::{Tree, Trees};
 use ap_table::*;
 use ap_walk::{End, Mark, NoMemory, Out, Rule, Seq, Step, Walked, serial};
 use std::alloc::Global;
+use std::mem;
 use std::process::Abort;
 
 /// An initial walk without the switch.
@@ -49,14 +54,70 @@ fn expand(
     Ok(())
 }
 
-/// Puts the serial walk of a job's task.
+/// Looks at a family's word, so often and once more. Answers what was seen last.
+pub(crate) fn look(seat: &mut AncestorSeat, times: usize) -> u64
+    ensures looks { times ≤ (seat_view seat.new.seat).looks }
+    ensures low { (seat_view seat.new.seat).low ≡ result }
+    ensures same { seat.new.place ≡ seat.old.place }
+{
+    let mut found = seat.word.look(&mut seat.seat);
+    for i in 0..times {
+        found = seat.word.look(&mut seat.seat);
+    }
+    found
+}
+
+/// Looks so often at the word of the family above a job's node, if there is one. There is no answer where that
+/// stops before the job's place.
+pub(crate) fn looked(job: Job<Tree>, times: usize) -> Result<Option<Job<Tree>>, NoMemory>
+    ensures { IfOk result (λ o. IfSome o (λ j. (j.task ≡ job.task) × (j.rule ≡ job.rule) × Each (HasLooked times) j.seats)) }
+{
+    let Job {
+        task,
+        rule,
+        node,
+        mut seats,
+    } = job;
+    if let Some(mut seat) = seats.pop() {
+        let found = look(&mut seat, times);
+        if found < seat.place as u64 {
+            return Ok(None);
+        }
+        if !seats.is_empty() {
+            return Ok(None);
+        }
+        seats.push(seat)?;
+    }
+    Ok(Some(Job {
+        task,
+        rule,
+        node,
+        seats,
+    }))
+}
+
+/// Puts the serial walk of a job's task, after a look for each of its marks.
 fn put(
+    rt: &impl Abort,
     alloc: Global,
     table: &mut TableState<Trees>,
     job: Job<Tree>,
 ) -> Result<Taken<Tree>, NoMemory> {
     let walked = serial(alloc, &Trees, &job.task, job.rule)?;
+    let Some(job) = looked(job, walked.marks.len())? else {
+        panic!(rt; "the family stops before the job");
+    };
     Ok(table.put_step(&Trees, job, walked))
+}
+
+/// What one look by a job's seat answers.
+fn seen(rt: &impl Abort, job: &mut Job<Tree>) -> Result<u64, NoMemory> {
+    let Some(mut seat) = job.seats.pop() else {
+        panic!(rt; "no seat");
+    };
+    let found = look(&mut seat, 0);
+    job.seats.push(seat)?;
+    Ok(found)
 }
 
 /// Whether a table took what it was handed.
@@ -74,7 +135,7 @@ fn put_kept(
     table: &mut TableState<Trees>,
     job: Job<Tree>,
 ) -> Result<(), NoMemory> {
-    let taken = put(alloc, table, job)?;
+    let taken = put(rt, alloc, table, job)?;
     assert!(rt; is_kept(&taken));
     Ok(())
 }
@@ -162,10 +223,11 @@ const DEEP: &[(Tree, u32)] = &[
 fn three_walks_out_of_order_make_the_serial_one(rt: HostRuntime) -> Result<(), NoMemory> {
     let alloc = rt.alloc();
     let mut table = begun(&rt, alloc, Tree::Three, ONE_PUT)?;
-    let b = claim(&rt, &mut table, 2);
+    let mut b = claim(&rt, &mut table, 2);
     let c = claim(&rt, &mut table, 3);
     put_kept(&rt, alloc, &mut table, c)?;
     assert_eq!(rt; table.history().last().copied(), Some(Entry::Marked(0, 2)));
+    assert_eq!(rt; seen(&rt, &mut b)?, 2);
     assert!(rt; !table.root_done(&Trees, &Tree::Three, RULE));
     put_kept(&rt, alloc, &mut table, b)?;
     if !table.root_done(&Trees, &Tree::Three, RULE) {
@@ -182,8 +244,9 @@ fn three_walks_out_of_order_make_the_serial_one(rt: HostRuntime) -> Result<(), N
 fn what_lies_behind_a_stop_is_dropped(rt: HostRuntime) -> Result<(), NoMemory> {
     let alloc = rt.alloc();
     let mut table = begun(&rt, alloc, Tree::Deep, ONE_STOPS)?;
-    let b = claim(&rt, &mut table, 2);
+    let mut b = claim(&rt, &mut table, 2);
     let c = claim(&rt, &mut table, 3);
+    assert_eq!(rt; seen(&rt, &mut b)?, 0);
     drop_kept(&rt, &mut table, c, 1);
     drop_kept(&rt, &mut table, b, 0);
     if !table.root_done(&Trees, &Tree::Deep, RULE) {
@@ -218,7 +281,7 @@ fn a_root_that_can_be_expanded_is_not_put(rt: HostRuntime) -> Result<(), NoMemor
     let alloc = rt.alloc();
     let mut table = first(alloc, &Trees, Tree::Three, RULE)?;
     let job = claim(&rt, &mut table, 0);
-    let Taken::Stranger(job) = put(alloc, &mut table, job)? else {
+    let Taken::Stranger(job) = put(&rt, alloc, &mut table, job)? else {
         panic!(rt; "it was put");
     };
     assert_eq!(rt; table.history().len(), 1);
@@ -233,11 +296,47 @@ fn a_job_of_another_table_is_a_stranger(rt: HostRuntime) -> Result<(), NoMemory>
     let mut other = first(alloc, &Trees, Tree::Left, RULE)?;
     let job = claim(&rt, &mut table, 0);
     let theirs = claim(&rt, &mut other, 0);
-    let Taken::Stranger(theirs) = put(alloc, &mut table, theirs)? else {
+    let Taken::Stranger(theirs) = put(&rt, alloc, &mut table, theirs)? else {
         panic!(rt; "it was put");
     };
     assert_eq!(rt; table.history().len(), 1);
     put_kept(&rt, alloc, &mut table, job)?;
     put_kept(&rt, alloc, &mut other, theirs)?;
+    Ok(())
+}
+
+#[test]
+fn a_job_has_a_seat_for_each_family_above_it(rt: HostRuntime) -> Result<(), NoMemory> {
+    let alloc = rt.alloc();
+    let mut table = begun(&rt, alloc, Tree::Three, ONE_PUT)?;
+    let mut job = claim(&rt, &mut table, 2);
+    assert_eq!(rt; job.seats.len(), 1);
+    let Some(seat) = job.seats.pop() else {
+        panic!(rt; "no seat");
+    };
+    assert_eq!(rt; (seat.family, seat.place), (0, 1));
+    let Taken::Stranger(mut job) = put(&rt, alloc, &mut table, job)? else {
+        panic!(rt; "it was put");
+    };
+    assert_eq!(rt; table.history().len(), 5);
+    job.seats.push(seat)?;
+    put_kept(&rt, alloc, &mut table, job)?;
+    Ok(())
+}
+
+#[test]
+fn a_seat_of_another_place_is_a_strangers(rt: HostRuntime) -> Result<(), NoMemory> {
+    let alloc = rt.alloc();
+    let mut table = begun(&rt, alloc, Tree::Three, ONE_PUT)?;
+    let mut b = claim(&rt, &mut table, 2);
+    let mut c = claim(&rt, &mut table, 3);
+    mem::swap(&mut b.seats, &mut c.seats);
+    let Taken::Stranger(b) = put(&rt, alloc, &mut table, b)? else {
+        panic!(rt; "it was put");
+    };
+    let Taken::Stranger(c) = put(&rt, alloc, &mut table, c)? else {
+        panic!(rt; "it was put");
+    };
+    assert_eq!(rt; (b.node, c.node, table.history().len()), (2, 3, 6));
     Ok(())
 }

@@ -1,10 +1,11 @@
-use Rattle.std.proofs.Common.{◌≤◌, arith}
-use Rattle.std.specs.Vec.{vec_capacity}
-use Rattle.ap_table.proofs.Moving.{first_table}
+use Rattle.std.proofs.Common.{◌∷◌, [], ◌++◌, List, Some, None, ap, ◌∙◌}
+use Rattle.ap_table.specs.declared.seats.AncestorSeat.{AncestorSeat}
+use Rattle.ap_table.specs.declared.seats.Beside.{Beside}
+use Rattle.ap_table.proofs.Wording.{first_table}
 use Rattle.ap_table.proofs.state.first.Goals as goal
 
 pub invariant_of-result : goal.invariant_of-result
 invariant_of-result g c =
-    let big : 5 ≤ vec_capacity c.reserve.new.self = omega (arith, c.in_ok-reserve.ensures.ok) in
-    rw (c.in_ok-push.ensures.items, c.new-nodes.ensures.items, c.in_ok-node.ensures, c.in_ok-push-2.ensures.items, c.new-live.ensures.items, c.reserve.ensures.items, c.new-history.ensures.items)
-    (first_table g.S.Step.step_of g.S.Step.depth c.args.task c.args.rule (vec_capacity c.reserve.new.self) big)
+    let beside : List AncestorSeat → Beside = λ ss. record { job = Some ss; kept = None } in
+    first_table g.S.Step.step_of g.S.Step.depth c.in_ok-nodes.nodes c.args.task c.args.rule c.push.new.self.items c.in_ok-nodes.ensures
+    (c.in_ok-push.ensures.items ∙ (ap (λ (l : List Beside). l ++ beside c.new.result ∷ []) c.new-seats.ensures.items ∙ ap (λ (ss : List AncestorSeat). let l : List Beside = beside ss ∷ [] in l) c.new.ensures))
