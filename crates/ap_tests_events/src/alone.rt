@@ -65,7 +65,13 @@ DEFTHM E1 refused 8.1 NoScheme
 #[test]
 fn the_first_variable_that_is_taken_apart_is_eliminated(rt: HostRuntime) -> Result<(), Fail> {
     let alloc = rt.alloc();
-    assert!(rt; prints(alloc, "(defthm e1 (implies (p (car x)) (q (cdr x))))", ELIMINATED)?);
+    assert!(rt;
+        prints(
+            alloc,
+            "(defthm e1 (implies (p (car x)) (q (cdr x))))",
+            ELIMINATED
+        )?
+    );
     Ok(())
 }
 
@@ -81,7 +87,13 @@ DEFTHM E2 refused 8.1 NoScheme
 #[test]
 fn a_hypothesis_that_it_is_a_cons_leaves_one_child(rt: HostRuntime) -> Result<(), Fail> {
     let alloc = rt.alloc();
-    assert!(rt; prints(alloc, "(defthm e2 (implies (and (consp x) (p (car x))) (q x)))", ELIMINATED_CONS)?);
+    assert!(rt;
+        prints(
+            alloc,
+            "(defthm e2 (implies (and (consp x) (p (car x))) (q x)))",
+            ELIMINATED_CONS
+        )?
+    );
     Ok(())
 }
 
@@ -152,7 +164,8 @@ DEFTHM F3 refused 8.1 NoScheme
 #[test]
 fn an_equation_with_a_constant_is_not_used(rt: HostRuntime) -> Result<(), Fail> {
     let alloc = rt.alloc();
-    let theorem = "(defthm f3 (implies (equal (p x) 'a) (equal (r (p x)) (p y))) :rule-classes nil)";
+    let theorem =
+        "(defthm f3 (implies (equal (p x) 'a) (equal (r (p x)) (p y))) :rule-classes nil)";
     assert!(rt; prints(alloc, theorem, NOT_FERTILIZED)?);
     Ok(())
 }
@@ -211,7 +224,14 @@ DEFTHM G3 refused 8.3 GoalLimit
 #[test]
 fn what_a_call_answers_restricts_its_variable(rt: HostRuntime) -> Result<(), Fail> {
     let alloc = rt.alloc();
-    assert!(rt; prints_within(alloc, "(defthm g3 (implies (p (dup x)) (q (dup x))))", 3, RESTRICTED)?);
+    assert!(rt;
+        prints_within(
+            alloc,
+            "(defthm g3 (implies (p (dup x)) (q (dup x))))",
+            3,
+            RESTRICTED
+        )?
+    );
     Ok(())
 }
 
