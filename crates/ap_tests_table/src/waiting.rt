@@ -4,7 +4,6 @@ use crate::shared::{RULE, claim, expand_root, put};
 use crate::trees::{Tree, Trees};
 use ap_table::*;
 use ap_walk::NoMemory;
-use std::process::Abort;
 use std::sync::Wait;
 use std::thread;
 use std::thread::Threads;
@@ -55,37 +54,48 @@ fn nobody_waits_once_the_root_is_done(rt: HostRuntime) -> Result<(), NoMemory> {
     Ok(())
 }
 
-/// What a second thread is answered that waits for a first entry while the root is claimed.
-fn woken_by_a_claim<R: Threads + Wait + Clock + Abort + Sync>(
+/// What a second thread is answered that waits for more than it saw, and what a part of the first answers meanwhile.
+fn woken<T: Drop, F: FnOnce() -> T + Drop, R: Threads + Wait + Clock + Sync>(
     rt: &R,
     table: &GoalTable<Trees>,
-) -> Result<u64, NoMemory> {
-    thread::scope(thread::scope_env(), rt, |scope| -> Result<u64, NoMemory> {
-        let child = scope.spawn(move || table.wait_more(rt, 0))?;
-        thread::sleep(rt, Duration::from_millis(MOMENT));
-        let _root = claim(rt, table, 0);
-        Ok(child.join(rt))
-    })
-}
-
-/// What a second thread is answered that waits for a first entry while the table is halted.
-fn woken_by_a_halt<R: Threads + Wait + Clock + Sync>(
-    rt: &R,
-    table: &GoalTable<Trees>,
-) -> Result<u64, NoMemory> {
-    thread::scope(thread::scope_env(), rt, |scope| -> Result<u64, NoMemory> {
-        let child = scope.spawn(move || table.wait_more(rt, 0))?;
-        thread::sleep(rt, Duration::from_millis(MOMENT));
-        table.halt(rt);
-        Ok(child.join(rt))
-    })
+    seen: u64,
+    part: F,
+) -> Result<(u64, T), NoMemory>
+    requires { F.IsAlwaysCallable part }
+{
+    thread::scope(
+        thread::scope_env(),
+        rt,
+        |scope| -> Result<(u64, T), NoMemory>
+            requires { F.IsAlwaysCallable part }
+        {
+            let child = scope.spawn(move || table.wait_more(rt, seen))?;
+            thread::sleep(rt, Duration::from_millis(MOMENT));
+            let answer = part();
+            Ok((child.join(rt), answer))
+        },
+    )
 }
 
 #[test]
-fn a_claim_wakes_who_waits(rt: HostRuntime) -> Result<(), NoMemory> {
-    let table = begin(rt.alloc(), &Trees, Tree::Three, RULE)?;
-    assert_eq!(rt; woken_by_a_claim(&rt, &table)?, 1);
-    assert!(rt; !table.halted(&rt));
+fn steps_wake_who_waits(rt: HostRuntime) -> Result<(), NoMemory> {
+    let alloc = rt.alloc();
+    let table = begin(alloc, &Trees, Tree::Three, RULE)?;
+    let (found, root) = woken(&rt, &table, 0, || claim(&rt, &table, 0))?;
+    assert_eq!(rt; found, 1);
+    let (found, done) = woken(&rt, &table, 1, || expand_root(&rt, alloc, &table, root))?;
+    done?;
+    assert_eq!(rt; found, 2);
+    let a = claim(&rt, &table, 1);
+    let (found, kept) = woken(&rt, &table, 3, || put(&rt, alloc, &table, a))?;
+    assert!(rt; kept?);
+    assert_eq!(rt; found, 4);
+    let b = claim(&rt, &table, 2);
+    let c = claim(&rt, &table, 3);
+    assert!(rt; put(&rt, alloc, &table, c)?);
+    let (found, kept) = woken(&rt, &table, 99, || put(&rt, alloc, &table, b))?;
+    assert!(rt; kept?);
+    assert_eq!(rt; found, 10);
     Ok(())
 }
 
@@ -93,7 +103,8 @@ fn a_claim_wakes_who_waits(rt: HostRuntime) -> Result<(), NoMemory> {
 fn a_halt_wakes_who_waits(rt: HostRuntime) -> Result<(), NoMemory> {
     let table = begin(rt.alloc(), &Trees, Tree::Three, RULE)?;
     assert!(rt; !table.halted(&rt));
-    assert_eq!(rt; woken_by_a_halt(&rt, &table)?, 0);
+    let (found, ()) = woken(&rt, &table, 99, || table.halt(&rt))?;
+    assert_eq!(rt; found, 0);
     assert!(rt; table.halted(&rt));
     assert_eq!(rt; table.wait_more(&rt, 99), 0);
     Ok(())
