@@ -69,8 +69,8 @@ IsDigest digest = (length digest ≡ 32) × IsBytes digest
 abbrev pub IsIncluded : Included → Type 0
 IsIncluded book = IsTrue (is_book_name book.0.0) × IsDigest book.1
 
--- what a certificate keeps: its names are books' names; that its digests and its number fit, the program's type keeps,
--- and of any other one it is said here
+-- what a certificate keeps: its names are books' names. That its digests and its number fit is kept by the program's type
+-- already, and is said here of any other value
 pub record WellWritten (c : Cert) : Type 0 where
   pub book : IsTrue (is_book_name c.book.0)
   pub digest : IsDigest c.digest

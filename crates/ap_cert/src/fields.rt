@@ -9,6 +9,7 @@ use hex::FromHex;
 use itoa::Buffer;
 use std::str;
 
+/// Whether a byte may stand in a name: a letter, a digit, a hyphen or an underscore.
 fn is_name_byte(byte: u8) -> bool
     ensures { result ≡ is_name_byte byte }
 {
@@ -19,6 +20,7 @@ fn is_name_byte(byte: u8) -> bool
         || byte == 95
 }
 
+/// Whether a name has a first byte and that isn't a hyphen.
 fn begins_well(name: &[u8]) -> bool
     ensures { result ≡ begins_well name.now }
 {
@@ -28,6 +30,7 @@ fn begins_well(name: &[u8]) -> bool
     }
 }
 
+/// Whether each byte may stand in a name.
 fn are_name_bytes(name: &[u8]) -> bool
     ensures { result ≡ list_all is_name_byte name.now }
 {
@@ -47,10 +50,8 @@ fn is_written(digest: &[u8; 32], digits: &[u8]) -> bool
     ensures { IsTrue result ↔ (digits.now ≡ encode_lower digest.now) }
 {
     let mut written = [0u8; 64];
-    match hex::encode_to_slice(digest.as_slice(), &mut written) {
-        Ok(()) => is_same(digits, &written),
-        Err(_) => false,
-    }
+    hex::encode_to_slice(digest.as_slice(), &mut written).unwrap();
+    is_same(digits, &written)
 }
 
 /// The digest that 64 lower-case hexadecimal digits are.

@@ -10,8 +10,9 @@
 //! end
 //! ```
 //!
-//! There is a line `include` for each included book, in their order. A digest is written in 64 lower-case hexadecimal
-//! digits, the number in decimal without a leading zero.
+//! There is a line `include` for each included book, in their order. A name is 1 to 64 of the characters
+//! `a-z A-Z 0-9 - _`, a hyphen not first; a digest 64 lower-case hexadecimal digits; the number is below 2^32, in decimal
+//! without a leading zero.
 #![tactic(auto)]
 
 mod cert;

@@ -1,9 +1,9 @@
-ghost use Rattle.std.specs.Prelude.{◌≡◌, ◌∷◌, ◌++◌, ◌⊎◌, ℕ, List, Result, IfOk, IfErr, MatchOption};
+ghost use Rattle.std.specs.Prelude.{◌≡◌, ◌∷◌, ◌++◌, ◌⊎◌, ℕ, List, IfOk, IfErr, MatchOption};
 ghost use Rattle.sha2.specs.Sha256.{sha256};
 ghost use Rattle.ap_cert.specs.declared.cert.Cert.{Cert};
 ghost use Rattle.ap_cert.specs.declared.cert.CertError.{CertError};
-ghost use Rattle.ap_cert.specs.Cert.{IsCert, Refuses, WellWritten, IsDigest, head_line, title, include_line};
-ghost use Rattle.ap_cert.specs.Reads.{Without, Reads, ReadsNone, IsName, IsCount, IsFront, FrontNone, IsIncludes, Differs, Answers, included, tail_text, body_text};
+ghost use Rattle.ap_cert.specs.Cert.{IsCert, Refuses, WellWritten, head_line};
+ghost use Rattle.ap_cert.specs.Reads.{Reads, ReadsNone, IsCount, IsFront, FrontNone, IsIncludes, Differs, Answers, included, tail_text, body_text};
 
 use crate::cert::{Cert, CertError};
 use crate::digest::digest_of;

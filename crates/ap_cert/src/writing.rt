@@ -1,6 +1,6 @@
 ghost use Rattle.std.specs.Prelude.{◌≡◌, ◌++◌, ◌∷◌, [], decimal, map, IfOk, OnOk};
 ghost use Rattle.hex.specs.Hex.{encode_lower};
-ghost use Rattle.ap_cert.specs.Cert.{cert_text, book_line, digest_line, include_line, events_line, end_line, head_line, ended};
+ghost use Rattle.ap_cert.specs.Cert.{cert_text, book_line, digest_line, include_line, events_line, ended};
 ghost use Rattle.ap_cert.specs.Reads.{included};
 
 use crate::cert::Cert;
@@ -27,6 +27,7 @@ fn put_digest(text: &mut Bytes, digest: &[u8; 32]) -> Result<(), NoMemory>
     put_line(text, &digits)
 }
 
+/// Adds the line of the book's name.
 fn put_book(text: &mut Bytes, book: &BookName) -> Result<(), NoMemory>
     ensures { OnOk result (text.new ≡ text.old ++ ended (book_line book.now.0 ∷ [])) }
 {
@@ -34,6 +35,7 @@ fn put_book(text: &mut Bytes, book: &BookName) -> Result<(), NoMemory>
     put_line(text, book.0.as_slice())
 }
 
+/// Adds the line of the book's digest.
 fn put_sha256(text: &mut Bytes, digest: &[u8; 32]) -> Result<(), NoMemory>
     ensures { OnOk result (text.new ≡ text.old ++ ended (digest_line digest.now ∷ [])) }
 {
@@ -41,6 +43,7 @@ fn put_sha256(text: &mut Bytes, digest: &[u8; 32]) -> Result<(), NoMemory>
     put_digest(text, digest)
 }
 
+/// Adds the line of an included book.
 fn put_include(text: &mut Bytes, name: &BookName, digest: &[u8; 32]) -> Result<(), NoMemory>
     ensures { OnOk result (text.new ≡ text.old ++ ended (include_line (included name.now.0 digest.now) ∷ [])) }
 {
@@ -60,6 +63,7 @@ fn put_includes(text: &mut Bytes, includes: &[(BookName, [u8; 32])]) -> Result<(
     Ok(())
 }
 
+/// Adds the line of the number of events.
 fn put_events(text: &mut Bytes, events: u32) -> Result<(), NoMemory>
     ensures { OnOk result (text.new ≡ text.old ++ ended (events_line events ∷ [])) }
 {
@@ -68,7 +72,7 @@ fn put_events(text: &mut Bytes, events: u32) -> Result<(), NoMemory>
     put_line(text, buffer.format(events).as_bytes())
 }
 
-/// The text of a certificate, version 1. Takes no more memory than the text.
+/// The text of a certificate, version 1. Its memory and time are linear in the text.
 pub fn write_v1(alloc: Global, c: &Cert) -> Result<Bytes, NoMemory>
     ensures { IfOk result (λ t. t ≡ cert_text c.now) }
 {
