@@ -1,0 +1,2 @@
+pub mod Cert
+pub mod Reads
