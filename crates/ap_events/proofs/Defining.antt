@@ -1,5 +1,5 @@
 -- A definition keeps the world sound.
-use Rattle.std.proofs.Common.{◌≡◌, ℕ, true, false, true≢false, List, [], ◌∷◌, Option, Some, None, Result, Ok, IfOk, map, refl, ap, sym, ◌∙◌, subst}
+use Rattle.std.proofs.Common.{◌≡◌, ℕ, true, false, true≢false, List, [], Option, Some, None, Result, Ok, IfOk, map, refl, ap, sym, ◌∙◌, subst}
 use Rattle.ap_list.specs.Lists.{Each, is_distinct, is_within}
 use Rattle.ap_value.specs.declared.symbol.Symbol.{Symbol}
 use Rattle.ap_value.specs.declared.value.Value.TheVariants.{Sym}

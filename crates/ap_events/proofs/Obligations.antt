@@ -1,11 +1,9 @@
 -- The obligations of a definition, one after another.
-use Rattle.std.proofs.Common.{◌≡◌, ℕ, suc, ◌+◌, ◌<◌, ◌≤◌, length, drop, get_or, drop-cons, add-one, List, [], ◌∷◌, ◌++◌, Some, None, Option, true, map, refl, ap, sym, ◌∙◌, subst, append_assoc, append-nil}
+use Rattle.std.proofs.Common.{◌≡◌, ℕ, suc, ◌+◌, ◌<◌, ◌≤◌, length, drop, get_or, drop-cons, add-one, List, [], ◌∷◌, ◌++◌, Some, None, Option, true, map, ap, sym, ◌∙◌, subst, append_assoc, append-nil}
 use Rattle.std.proofs.lemmas.List.{drop_all}
 use Rattle.ap_list.specs.Lists.{Each, all_true}
 use Rattle.ap_term.specs.declared.term.Term.{Term}
 use Rattle.ap_term.specs.declared.term.Clause.{Clause}
-use Rattle.ap_world.specs.declared.entry.Measure.{Measure}
-use Rattle.ap_world.specs.declared.entry.Defun.{Defun}
 use Rattle.ap_world.specs.Meaning.{Defs}
 use Rattle.ap_world.specs.Sound.{known}
 use Rattle.ap_world.proofs.Knowing.{each_true}
@@ -17,7 +15,7 @@ use Rattle.ap_events.specs.declared.limits.Limits.{Limits}
 use Rattle.ap_events.specs.declared.attempting.Tried.{Tried}
 use Rattle.ap_events.specs.declared.owing.Owing.{Owing}
 use Rattle.ap_events.specs.Attempts.{tried_clause}
-use Rattle.ap_events.specs.Definitions.{obligation_text, with_lines, then_others, obligation_tried, obligations_tried}
+use Rattle.ap_events.specs.Definitions.{obligation_text, with_lines, then_others, obligations_tried}
 
 -- clauses whose literals are known
 pub known_clauses : (D : Defs) (cs : List (List Term)) → Each (λ c. all_true (map (known D) c) ≡ true) cs → Each (KnownClause D) (map clause_of cs)

@@ -1,7 +1,7 @@
 -- The world in which a body is translated, and what is known of the parts of a definition.
-use Rattle.std.proofs.Common.{◌≡◌, ℕ, length, take, List, [], ◌∷◌, ◌++◌, Option, true, map, ap, sym, subst, ◌∙◌, refl, Some, Result, Ok, Err, IfOk}
+use Rattle.std.proofs.Common.{◌≡◌, ℕ, length, take, List, [], ◌∷◌, ◌++◌, Option, true, ap, sym, subst, ◌∙◌, refl, Some, Result, Ok, Err, IfOk}
 use Rattle.std.proofs.Math.Seq.{take-append_seam}
-use Rattle.ap_list.specs.Lists.{Each, all_true, is_distinct}
+use Rattle.ap_list.specs.Lists.{Each, is_distinct}
 use Rattle.ap_value.specs.declared.symbol.Symbol.{Symbol}
 use Rattle.ap_value.specs.Values.{symbol_eq}
 use Rattle.ap_reader.specs.declared.form.Form.{Form}

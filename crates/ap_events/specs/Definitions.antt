@@ -1,6 +1,6 @@
 -- What the event of a function comes to. Each step tests one thing, in the order in which the refusals are
 -- looked for; the file is to be read from its end.
-use Rattle.std.specs.Prelude.{ℕ, ◌+◌, Bool, cond, List, [], ◌∷◌, ◌++◌, map, Option, Some, None, Ok, Err, codes}
+use Rattle.std.specs.Prelude.{ℕ, ◌+◌, cond, List, [], ◌∷◌, ◌++◌, map, Option, Some, None, Ok, Err, codes}
 use Rattle.ap_value.specs.declared.symbol.Symbol.{Symbol}
 use Rattle.ap_term.specs.declared.term.Term.{Term}
 use Rattle.ap_term.specs.declared.term.Clause.{Clause}

@@ -1,5 +1,5 @@
 ghost use Rattle.std.specs.Prelude.{◌≡◌, IfOk};
-ghost use Rattle.ap_events.specs.Ends.{refused, not_supported, bad_event, without_index, step_in, Follows};
+ghost use Rattle.ap_events.specs.Ends.{not_supported, bad_event, without_index, step_in, Follows};
 
 use crate::texts;
 use ap_list::{Bytes, NoMemory};

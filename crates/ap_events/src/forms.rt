@@ -1,6 +1,5 @@
 //! What a form is at its top.
 ghost use Rattle.std.specs.Prelude.{◌≡◌, option_map, is_some};
-ghost use Rattle.std.specs.List.{list_all};
 ghost use Rattle.ap_reader.specs.declared.form.Body.TheOpen.{Body-F};
 ghost use Rattle.ap_translate.specs.Parts.{symbol_in, symbol_at as named_at};
 ghost use Rattle.ap_events.specs.Shapes.{first_symbol, head_of, is_string, are_symbols};

@@ -8,7 +8,7 @@ use ap_induct::chosen;
 use ap_list::{Bytes, NoMemory};
 use ap_names::GoalName;
 use ap_print::{print_clause, print_term};
-use ap_strategy::Task;
+use ap_strategy::{Planned, Task};
 use ap_term::Term;
 use ap_walk::{End, Mark, Process, Walked};
 use itoa::Buffer;
@@ -64,7 +64,12 @@ fn put_call(alloc: Global, text: &mut Bytes, call: &Option<Term>) -> Result<(), 
 }
 
 /// Adds `induct`, the number of cases of a goal's induction, and the call that it goes by.
-fn put_induct(alloc: Global, text: &mut Bytes, task: &Task<'_>, cases: u32) -> Result<(), NoMemory>
+fn put_induct<J: Planned>(
+    alloc: Global,
+    text: &mut Bytes,
+    task: &Task<'_, J>,
+    cases: u32,
+) -> Result<(), NoMemory>
     ensures { OnOk result (text.new ≡ text.old ++ induct_text task.now cases) }
 {
     put_counted(text, b"induct ", cases)?;
@@ -78,10 +83,10 @@ fn put_induct(alloc: Global, text: &mut Bytes, task: &Task<'_>, cases: u32) -> R
 /// Adds what a process did to a goal: its number of children, the name that the push gets which is the walk's
 /// `k`-th, or why the walk stopped.
 #[tactic(auto, unfolding(crate::specs::Lines::process_text))]
-fn put_process(
+fn put_process<J: Planned>(
     alloc: Global,
     text: &mut Bytes,
-    task: &Task<'_>,
+    task: &Task<'_, J>,
     k: u32,
     process: Process,
     children: u32,
@@ -120,7 +125,12 @@ fn put_limited(
 }
 
 /// Adds the lines of a mark. Where it is a push, it is the walk's `k`-th.
-fn put_mark(alloc: Global, text: &mut Bytes, k: u32, mark: &Mark<Task<'_>>) -> Result<(), NoMemory>
+fn put_mark<J: Planned>(
+    alloc: Global,
+    text: &mut Bytes,
+    k: u32,
+    mark: &Mark<Task<'_, J>>,
+) -> Result<(), NoMemory>
     requires { 1 ≤ k }
     ensures { OnOk result (text.new ≡ text.old ++ mark_text k mark.now) }
 {
@@ -133,7 +143,11 @@ fn put_mark(alloc: Global, text: &mut Bytes, k: u32, mark: &Mark<Task<'_>>) -> R
 }
 
 /// Adds the lines of a walk's marks.
-fn put_marks(alloc: Global, text: &mut Bytes, marks: &[Mark<Task<'_>>]) -> Result<(), NoMemory>
+fn put_marks<J: Planned>(
+    alloc: Global,
+    text: &mut Bytes,
+    marks: &[Mark<Task<'_, J>>],
+) -> Result<(), NoMemory>
     requires { length marks.now + 1 < 2 ^ 32 }
     ensures { OnOk result (text.new ≡ text.old ++ marks_text 1 marks.now) }
 {
@@ -161,7 +175,11 @@ fn put_end(text: &mut Bytes, end: End) -> Result<(), NoMemory>
 }
 
 /// Adds the lines of a walk.
-fn put_walk(alloc: Global, text: &mut Bytes, walked: &Walked<Task<'_>>) -> Result<(), NoMemory>
+fn put_walk<J: Planned>(
+    alloc: Global,
+    text: &mut Bytes,
+    walked: &Walked<Task<'_, J>>,
+) -> Result<(), NoMemory>
     requires { length walked.now.marks + 1 < 2 ^ 32 }
     ensures { OnOk result (text.new ≡ text.old ++ walk_text walked.now) }
 {
@@ -170,7 +188,10 @@ fn put_walk(alloc: Global, text: &mut Bytes, walked: &Walked<Task<'_>>) -> Resul
 }
 
 /// The lines of an attempt's walks.
-pub(crate) fn walk_lines(alloc: Global, walks: &[Walked<Task<'_>>]) -> Result<Bytes, NoMemory>
+pub(crate) fn walk_lines<J: Planned>(
+    alloc: Global,
+    walks: &[Walked<Task<'_, J>>],
+) -> Result<Bytes, NoMemory>
     requires { mark_count walks.now + 1 < 2 ^ 32 }
     ensures { IfOk result (λ text. text ≡ walks_text walks.now) }
 {
@@ -184,14 +205,18 @@ pub(crate) fn walk_lines(alloc: Global, walks: &[Walked<Task<'_>>]) -> Result<By
 }
 
 /// Whether a mark is a checkpoint: simplification left the goal as it was, and no goal above it on its path.
-fn is_checkpoint(mark: &Mark<Task<'_>>) -> bool
+fn is_checkpoint<J: Planned>(mark: &Mark<Task<'_, J>>) -> bool
     ensures { result ≡ is_checkpoint mark.now }
 {
     mark.act.missed && !mark.task.under
 }
 
 /// Adds the line of a checkpoint, where a mark is one.
-fn put_checkpoint(alloc: Global, text: &mut Bytes, mark: &Mark<Task<'_>>) -> Result<(), NoMemory>
+fn put_checkpoint<J: Planned>(
+    alloc: Global,
+    text: &mut Bytes,
+    mark: &Mark<Task<'_, J>>,
+) -> Result<(), NoMemory>
     ensures { OnOk result (text.new ≡ text.old ++ checkpoint_text mark.now) }
 {
     if !is_checkpoint(mark) {
@@ -204,10 +229,10 @@ fn put_checkpoint(alloc: Global, text: &mut Bytes, mark: &Mark<Task<'_>>) -> Res
 }
 
 /// Adds the checkpoints among marks.
-fn put_checkpoints(
+fn put_checkpoints<J: Planned>(
     alloc: Global,
     text: &mut Bytes,
-    marks: &[Mark<Task<'_>>],
+    marks: &[Mark<Task<'_, J>>],
 ) -> Result<(), NoMemory>
     ensures { OnOk result (text.new ≡ text.old ++ checkpoints_of marks.now) }
 {
@@ -218,7 +243,10 @@ fn put_checkpoints(
 }
 
 /// The checkpoints of walks, in order.
-fn checkpoints_in(alloc: Global, walks: &[Walked<Task<'_>>]) -> Result<Bytes, NoMemory>
+fn checkpoints_in<J: Planned>(
+    alloc: Global,
+    walks: &[Walked<Task<'_, J>>],
+) -> Result<Bytes, NoMemory>
     ensures { IfOk result (λ text. text ≡ checkpoints_in walks.now) }
 {
     let mut text = Bytes::new(alloc);
@@ -246,7 +274,10 @@ fn put_headed(text: &mut Bytes, heading: &[u8], lines: &[u8]) -> Result<(), NoMe
 
 /// The checkpoints of an attempt: those of its first walk, and those of the inductions.
 #[tactic(auto, unfolding(crate::specs::Lines::checkpoints_text))]
-pub(crate) fn checkpoint_lines(alloc: Global, walks: &[Walked<Task<'_>>]) -> Result<Bytes, NoMemory>
+pub(crate) fn checkpoint_lines<J: Planned>(
+    alloc: Global,
+    walks: &[Walked<Task<'_, J>>],
+) -> Result<Bytes, NoMemory>
     ensures { IfOk result (λ text. text ≡ checkpoints_text walks.now) }
 {
     let mut text = Bytes::new(alloc);

@@ -7,7 +7,7 @@ ghost use Rattle.ap_walk.specs.Visits.{out_children};
 use ap_attempt::Prover;
 use ap_list::NoMemory;
 use ap_names::GoalName;
-use ap_strategy::{Acl2Step, Task, induct_task};
+use ap_strategy::{Acl2Step, Planned, Task, induct_task};
 use ap_walk::{Step, Stepped};
 use std::alloc::Global;
 
@@ -44,7 +44,7 @@ pub trait Inducts: Step {
     ghost shows: { (task : Self.Task) (k : ℕ) → 1 ≤ k → Self.good (inducted task k) → Self.good task };
 }
 
-impl<'a> Inducts for Acl2Step<'a> {
+impl<'a, J: Planned> Inducts for Acl2Step<'a, J> {
     ghost use Rattle.std.proofs.Common.{refl};
     ghost use Rattle.ap_strategy.specs.Goals.{inducted};
     ghost use Rattle.ap_strategy.specs.Laws.{by_induction};
@@ -64,7 +64,7 @@ impl<'a> Inducts for Acl2Step<'a> {
 
     ghost shows = { λ task k some good. by_induction task k good };
 
-    fn induct(&self, alloc: Global, task: &Task<'a>, k: u32) -> Result<Task<'a>, NoMemory> {
+    fn induct(&self, alloc: Global, task: &Task<'a, J>, k: u32) -> Result<Task<'a, J>, NoMemory> {
         induct_task(alloc, task, k)
     }
 

@@ -1,5 +1,5 @@
 //! The parts of a definition as terms.
-ghost use Rattle.std.specs.Prelude.{◌≡◌, [], ◌∷◌, ◌++◌, IfOk, IfSome, IsTrue, OnOk, OnErr, Ok, Some, false, option_map};
+ghost use Rattle.std.specs.Prelude.{◌≡◌, [], IfOk, IfSome, IsTrue, OnOk, OnErr, Ok, Some, false, option_map};
 ghost use Rattle.ap_list.specs.Lists.{Each, is_distinct};
 ghost use Rattle.ap_value.specs.Values.{symbol_eq};
 ghost use Rattle.ap_world.specs.declared.entry.Entry.TheVariants as entry;
@@ -8,7 +8,6 @@ ghost use Rattle.ap_world.specs.World.{added, function_of, has_name};
 ghost use Rattle.ap_translate.specs.Answers.{Gives};
 ghost use Rattle.ap_translate.specs.Laws.{HasMacroFunctions};
 ghost use Rattle.ap_translate.specs.Names.{can_be_bound};
-ghost use Rattle.ap_translate.specs.Parts.{items_in};
 ghost use Rattle.ap_translate.specs.Table.{translated};
 ghost use Rattle.ap_admit.specs.Admission.{with_function};
 ghost use Rattle.ap_events.specs.Shapes.{as_defined};

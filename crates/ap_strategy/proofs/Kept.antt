@@ -1,8 +1,11 @@
 -- A goal with its hint, and the induction of a goal, keep what goals keep.
-use Rattle.std.proofs.Common.{◌≡◌, ℕ, true, true≢false, List, [], ◌∷◌, ◌++◌, Option, Some, None, refl, ap, sym, ◌∙◌, arith}
+use Rattle.std.proofs.Common.{◌≡◌, ℕ, true, false, true≢false, List, [], ◌∷◌, ◌++◌, Option, Some, None, refl, ap, sym, ◌∙◌, arith}
 use Rattle.ap_list.specs.Lists.{Each}
 use Rattle.ap_term.specs.declared.term.Term.{Term}
+use Rattle.ap_term.specs.declared.term.Clause.{Clause}
 use Rattle.ap_names.specs.Names.{Name, is_pushed, pushed_of}
+use Rattle.ap_walk.specs.declared.act.Process.{Process}
+use Rattle.ap_walk.specs.declared.act.Out.{Out}
 use Rattle.ap_hints.specs.declared.hint.Hint.{Hint}
 use Rattle.ap_hints.specs.Known.{KnownTerm, KnownHints}
 use Rattle.ap_kernel.proofs.Reduced.{each_append}
@@ -10,7 +13,7 @@ use Rattle.ap_strategy.specs.declared.plan.Plan.{Plan}
 use Rattle.ap_strategy.specs.declared.plan.Settings.{Settings}
 use Rattle.ap_strategy.specs.Goals.{Goal, IsGoal, hint_for, with_hint, hinted, inducted}
 use Rattle.ap_strategy.specs.Hinted.{hint_known, scheme_known}
-use Rattle.ap_strategy.specs.Steps.{open_step, hint_step}
+use Rattle.ap_strategy.specs.Steps.{setting_of, simplified, is_alone, seen_below, done, children, open_step, hint_step}
 
 expand_known : (plan : Plan) (name : Name) (s : Settings) → KnownHints plan.world.entries plan.hints → Each (KnownTerm plan.world.entries) s.expand → Each (KnownTerm plan.world.entries) (with_hint (hint_for plan name) s).expand
 expand_known plan name s said ks = go (hint_for plan name) refl
@@ -67,3 +70,17 @@ step_by g h x a q = ap (λ (z : Goal). hint_step z (Some x)) a ∙ ap (hint_step
 
 pub unhinted : (g : Goal) → hint_for g.plan g.name ≡ None → open_step g ≡ hint_step (hinted g) (hint_for g.plan g.name)
 unhinted g q = rw q refl
+
+-- the step of a goal that simplification makes other clauses of, by what is seen of its parts
+pub opened_step : (g h : Goal) (c : Clause) (o : Option (List Clause)) (ds es : List Clause) → h ≡ g → c ≡ h.clause → o ≡ simplified (setting_of h) h.plan.step_limit c → o ≡ Some ds → es ≡ ds → is_alone h.clause es ≡ false
+    → done Process.Simplify false false (Out.Split (children (seen_below h.under g) ds)) ≡ open_step g
+opened_step g h c o ds es same copied made some lent others = rw (sym same) (go (made_of h c o ds copied made some) (alone_of h ds es lent others))
+  where
+    made_of : (h : Goal) (c : Clause) (o : Option (List Clause)) (ds : List Clause) → c ≡ h.clause → o ≡ simplified (setting_of h) h.plan.step_limit c → o ≡ Some ds → simplified (setting_of h) h.plan.step_limit h.clause ≡ Some ds
+    made_of h c o ds copied made some = ap (simplified (setting_of h) h.plan.step_limit) (sym copied) ∙ sym made ∙ some
+
+    alone_of : (h : Goal) (ds es : List Clause) → es ≡ ds → is_alone h.clause es ≡ false → is_alone h.clause ds ≡ false
+    alone_of h ds es lent others = ap (is_alone h.clause) (sym lent) ∙ others
+
+    go : simplified (setting_of h) h.plan.step_limit h.clause ≡ Some ds → is_alone h.clause ds ≡ false → done Process.Simplify false false (Out.Split (children h ds)) ≡ open_step h
+    go made others = rw (made, others) refl

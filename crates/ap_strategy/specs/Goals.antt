@@ -9,7 +9,7 @@ use Rattle.ap_world.specs.Sound.{known, HasFunctions}
 use Rattle.ap_world.specs.World.{function_of}
 use Rattle.ap_names.specs.Names.{Name, name_eq, root, is_pushed, pushed_of}
 use Rattle.ap_hints.specs.declared.hint.Hint.{Hint}
-use Rattle.ap_hints.specs.Known.{KnownHints}
+use Rattle.ap_hints.specs.Known.{KnownHints, no_hints}
 use Rattle.ap_kernel.specs.Reductions.{KnownClause}
 use Rattle.ap_strategy.specs.declared.plan.Plan.{Plan}
 use Rattle.ap_strategy.specs.declared.plan.Settings.{Settings}
@@ -26,6 +26,10 @@ pub record Goal : Type 0 where
   pub settings : Settings
   pub induct : Bool
   pub scheme : Option Term
+
+-- the plan of a brand that no call has picked: of no world, and without hints
+abbrev pub no_plan : Plan
+no_plan = record { world = record { entries = []; theory = record { disabled = [] } }; hints = no_hints; step_limit = 0 }
 
 -- the functions of a plan's world
 abbrev pub defs_of : Plan → Defs

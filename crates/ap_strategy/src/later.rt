@@ -9,6 +9,7 @@ ghost use Rattle.ap_strategy.specs.Goals.{defs_of};
 ghost use Rattle.ap_strategy.specs.Steps.{process_number, is_process, is_skipped, made_by, by_elim, by_fertilize, by_generalize, by_irrelevance, later};
 
 use crate::oracles::Oracles;
+use crate::plan::Planned;
 use crate::task::Task;
 use ap_elim::elim;
 use ap_kernel::Reduction;
@@ -58,7 +59,7 @@ fn is_among(process: Process, others: &[Process]) -> bool
 }
 
 /// Whether a hint says that a process is skipped. Takes no memory.
-fn is_skipped(task: &Task<'_>, process: Process) -> bool
+fn is_skipped<J: Planned>(task: &Task<'_, J>, process: Process) -> bool
     ensures { result ≡ is_skipped task.now process }
 {
     is_among(process, task.settings.skip.as_slice())
@@ -73,7 +74,7 @@ fn made_by(process: Process, reduction: Option<Reduction>) -> Option<Made>
 }
 
 /// Elimination, unless it is skipped.
-fn by_elim(alloc: Global, task: &Task<'_>) -> Result<Option<Made>, NoMemory>
+fn by_elim<J: Planned>(alloc: Global, task: &Task<'_, J>) -> Result<Option<Made>, NoMemory>
     ensures { IfOk result (λ o. o ≡ by_elim task.now) }
 {
     if is_skipped(task, Process::Elim) {
@@ -86,7 +87,7 @@ fn by_elim(alloc: Global, task: &Task<'_>) -> Result<Option<Made>, NoMemory>
 }
 
 /// Cross-fertilization, unless it is skipped.
-fn by_fertilize(alloc: Global, task: &Task<'_>) -> Result<Option<Made>, NoMemory>
+fn by_fertilize<J: Planned>(alloc: Global, task: &Task<'_, J>) -> Result<Option<Made>, NoMemory>
     ensures { IfOk result (λ o. o ≡ by_fertilize task.now) }
 {
     if is_skipped(task, Process::Fertilize) {
@@ -98,7 +99,7 @@ fn by_fertilize(alloc: Global, task: &Task<'_>) -> Result<Option<Made>, NoMemory
 }
 
 /// Generalization, unless it is skipped.
-fn by_generalize(alloc: Global, task: &Task<'_>) -> Result<Option<Made>, NoMemory>
+fn by_generalize<J: Planned>(alloc: Global, task: &Task<'_, J>) -> Result<Option<Made>, NoMemory>
     ensures { IfOk result (λ o. o ≡ by_generalize task.now) }
 {
     if is_skipped(task, Process::Generalize) {
@@ -110,7 +111,7 @@ fn by_generalize(alloc: Global, task: &Task<'_>) -> Result<Option<Made>, NoMemor
 }
 
 /// The dropping of what is irrelevant, unless it is skipped.
-fn by_irrelevance(alloc: Global, task: &Task<'_>) -> Result<Option<Made>, NoMemory>
+fn by_irrelevance<J: Planned>(alloc: Global, task: &Task<'_, J>) -> Result<Option<Made>, NoMemory>
     ensures { IfOk result (λ o. o ≡ by_irrelevance task.now) }
 {
     if is_skipped(task, Process::Irrelevance) {
@@ -122,7 +123,10 @@ fn by_irrelevance(alloc: Global, task: &Task<'_>) -> Result<Option<Made>, NoMemo
 }
 
 /// The first of these that applies.
-fn first_that_applies(alloc: Global, task: &Task<'_>) -> Result<Option<Made>, NoMemory>
+fn first_that_applies<J: Planned>(
+    alloc: Global,
+    task: &Task<'_, J>,
+) -> Result<Option<Made>, NoMemory>
     ensures { IfOk result (λ o. o ≡ later task.now) }
 {
     if let Some(made) = by_elim(alloc, task)? {
@@ -139,7 +143,7 @@ fn first_that_applies(alloc: Global, task: &Task<'_>) -> Result<Option<Made>, No
 
 /// The first process behind simplification that applies to a task, and the clauses that it makes, by the
 /// kernel's rows. `None` where none applies.
-pub(crate) fn later(alloc: Global, task: &Task<'_>) -> Result<Option<Made>, NoMemory>
+pub(crate) fn later<J: Planned>(alloc: Global, task: &Task<'_, J>) -> Result<Option<Made>, NoMemory>
     ensures made { IfOk result (λ o. o ≡ later task.now) }
     ensures known { IfOk result (λ o. IfSome o (λ p. Each (KnownClause (defs_of task.now.plan)) p.1)) }
     ensures few { IfOk result (λ o. IfSome o (λ p. length p.1 < 2 ^ 32)) }

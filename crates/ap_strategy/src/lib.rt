@@ -3,6 +3,9 @@
 //! or the attempt stops at it. Each
 //! clause that a goal is simplified to comes from the kernel's rows: a clause is tidied; a literal that solves a
 //! variable replaces it; or else each literal is rewritten, with linear arithmetic, and what is left is split and tidied.
+//!
+//! Which plan a task is worked by, and so its world and hints, is said by a brand in the task's type. So tasks of one
+//! type are told apart by their goals alone, and a worker that gets a task back needn't compare worlds.
 #![tactic(auto)]
 
 mod clauses;
@@ -24,6 +27,6 @@ pub use ap_term::{Clause, Term};
 pub use ap_walk::{Process, Step, Stepped};
 pub use ap_world::{Theory, World};
 pub use oracles::Oracles;
-pub use plan::{Plan, Settings, copy_settings, first_settings};
+pub use plan::{Plan, Planned, Settings, copy_settings, first_settings};
 pub use step::Acl2Step;
 pub use task::{Task, copy_task, induct_task, root_task, same_task};

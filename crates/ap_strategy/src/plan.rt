@@ -8,6 +8,7 @@ use ap_term::{Term, copy_terms};
 use ap_walk::Process;
 use ap_world::{Theory, copy_theory};
 use std::alloc::Global;
+use std::marker::Brand;
 
 /// What the goals of an attempt are worked by: the world with the index of its rules, the hints for goals by their
 /// names, and the number of steps that one clause may spend.
@@ -16,6 +17,20 @@ pub struct Plan {
     pub world: Ruled,
     pub hints: Hints,
     pub step_limit: u32,
+}
+
+/// Which plan the tasks of a type are worked by. A brand has no function, and costs nothing: a call that passes
+/// `Brand` (of `std::marker`) picks the plan in its proof.
+pub trait Planned {
+    ghost use Rattle.ap_strategy.specs.declared.plan.Plan.{Plan};
+
+    ghost plan: { Plan };
+}
+
+impl Planned for Brand {
+    ghost use Rattle.ap_strategy.specs.Goals.{no_plan};
+
+    ghost plan = { no_plan };
 }
 
 /// What holds for a goal and all below it: the theory, the calls that are to be opened, and the processes

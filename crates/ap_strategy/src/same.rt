@@ -1,19 +1,9 @@
 ghost use Rattle.std.specs.Prelude.{◌≡◌, ◌↔◌, IsTrue};
 
 use crate::clauses::same_terms;
-use crate::plan::{Plan, Settings};
-use ap_hints::same_hints;
+use crate::plan::Settings;
 use ap_walk::Process;
-use ap_world::{same_theory, same_world};
-
-/// Whether two plans are one. Takes no memory.
-pub(crate) fn same_plan(a: &Plan, b: &Plan) -> bool
-    ensures { IsTrue result ↔ (a.now ≡ b.now) }
-{
-    a.step_limit == b.step_limit
-        && same_hints(&a.hints, &b.hints)
-        && same_world(a.world.world(), b.world.world())
-}
+use ap_world::same_theory;
 
 /// Whether two lists of processes are one. Takes no memory.
 fn same_processes(a: &[Process], b: &[Process]) -> bool

@@ -3,7 +3,7 @@ ghost use Rattle.ap_world.specs.Sound.{known, HasFunctions};
 ghost use Rattle.ap_hints.specs.Known.{KnownHints};
 ghost use Rattle.ap_strategy.specs.Goals.{defs_of, root_goal};
 
-use crate::plan::Plan;
+use crate::plan::{Plan, Planned};
 use crate::stepping::step_of;
 use crate::task::{Task, copy_task, root_task, same_task};
 use ap_list::NoMemory;
@@ -11,19 +11,25 @@ use ap_names::GoalName;
 use ap_term::Term;
 use ap_walk::{Step, Stepped};
 use std::alloc::Global;
+use std::marker::PhantomData;
 
-/// The waterfall of one plan.
+/// The waterfall of one plan, over the tasks of its brand.
 #[derive(Drop)]
-pub struct Acl2Step<'a> {
+pub struct Acl2Step<'a, J: Planned> {
     plan: &'a Plan,
+    of: PhantomData<J>,
 }
 
-impl<'a> Acl2Step<'a> {
-    /// The waterfall of a plan. Takes no memory.
-    pub fn new(plan: &'a Plan) -> Acl2Step<'a>
+impl<'a, J: Planned> Acl2Step<'a, J> {
+    /// The waterfall of a plan, which is the brand's. Takes no memory.
+    pub fn new(plan: &'a Plan) -> Acl2Step<'a, J>
+        requires brand { plan.now ≡ J.plan }
         ensures { result.plan.now ≡ plan.now }
     {
-        Acl2Step { plan }
+        Acl2Step {
+            plan,
+            of: PhantomData,
+        }
     }
 
     /// The plan. Takes no memory.
@@ -41,7 +47,8 @@ impl<'a> Acl2Step<'a> {
     }
 
     /// The task that the attempt on a term starts from. The only error is want of memory.
-    pub fn root(&self, alloc: Global, term: &Term) -> Result<Task<'a>, NoMemory>
+    pub fn root(&self, alloc: Global, term: &Term) -> Result<Task<'a, J>, NoMemory>
+        requires brand { self.now.plan.now ≡ J.plan }
         requires functions { HasFunctions (defs_of self.now.plan.now) }
         requires term { IsTrue (known (defs_of self.now.plan.now) term.now) }
         requires hints { KnownHints self.now.plan.now.world.entries self.now.plan.now.hints }
@@ -51,11 +58,11 @@ impl<'a> Acl2Step<'a> {
     }
 }
 
-impl<'a> Step for Acl2Step<'a> {
+impl<'a, J: Planned> Step for Acl2Step<'a, J> {
     ghost use Rattle.ap_strategy.specs.Steps.{step_of, depth_of, IsGood};
     ghost use Rattle.ap_strategy.specs.Laws as laws;
 
-    type Task = Task<'a>;
+    type Task = Task<'a, J>;
 
     ghost step_of = { step_of };
 
@@ -71,19 +78,19 @@ impl<'a> Step for Acl2Step<'a> {
 
     ghost whole = { laws.whole };
 
-    fn step(&self, alloc: Global, task: &Task<'a>) -> Result<Stepped<Task<'a>>, NoMemory> {
+    fn step(&self, alloc: Global, task: &Task<'a, J>) -> Result<Stepped<Task<'a, J>>, NoMemory> {
         step_of(alloc, task)
     }
 
-    fn copy_task(&self, alloc: Global, task: &Task<'a>) -> Result<Task<'a>, NoMemory> {
+    fn copy_task(&self, alloc: Global, task: &Task<'a, J>) -> Result<Task<'a, J>, NoMemory> {
         copy_task(alloc, task)
     }
 
-    fn same_task(&self, a: &Task<'a>, b: &Task<'a>) -> bool {
+    fn same_task(&self, a: &Task<'a, J>, b: &Task<'a, J>) -> bool {
         same_task(a, b)
     }
 
-    fn name_of(&self, alloc: Global, task: &Task<'a>) -> Result<GoalName, NoMemory> {
+    fn name_of(&self, alloc: Global, task: &Task<'a, J>) -> Result<GoalName, NoMemory> {
         task.name.copy(alloc)
     }
 }

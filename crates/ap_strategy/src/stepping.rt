@@ -8,13 +8,13 @@ ghost use Rattle.ap_walk.specs.declared.act.Out.{Out};
 ghost use Rattle.ap_walk.specs.declared.act.Reason.{Reason};
 ghost use Rattle.ap_kernel.specs.Reductions.{KnownClause};
 ghost use Rattle.ap_induct.specs.Choosing.{scheme_of};
-ghost use Rattle.ap_strategy.specs.Goals.{defs_of, hint_for, hinted, IsGoal};
+ghost use Rattle.ap_strategy.specs.Goals.{defs_of, hint_for, hinted};
 ghost use Rattle.ap_strategy.specs.Steps.{child, seen_below, counted_down, children, cases_in, done, stop_step, later, missed_step, open_step, pushed_or_open, hint_step, clause_step, induct_step, step_of};
 
 use crate::clauses::{copy_clause, is_alone};
 use crate::hinting::{hint_for, hint_goals, makes_goals};
 use crate::later::later;
-use crate::plan::copy_settings;
+use crate::plan::{Planned, copy_settings};
 use crate::simplifying::simplify;
 use crate::task::{Task, hinted};
 use ap_hints::Hint;
@@ -24,16 +24,17 @@ use ap_names::GoalName;
 use ap_term::{Clause, Term};
 use ap_walk::{Act, Out, Process, Reason, Stepped};
 use std::alloc::Global;
+use std::marker::PhantomData;
 
 /// A task below another one, with a name and a clause of its own, told whether it is below a checkpoint. It is no
 /// induction, and no call is given for one.
-fn child<'a>(
+fn child<'a, J: Planned>(
     alloc: Global,
-    task: &Task<'a>,
+    task: &Task<'a, J>,
     under: bool,
     name: GoalName,
     clause: Clause,
-) -> Result<Task<'a>, NoMemory>
+) -> Result<Task<'a, J>, NoMemory>
     requires above { task.now.depth < 250 }
     requires unpushed { is_pushed name ≡ false }
     requires primes { name.primes ≤ task.now.depth + 1 }
@@ -50,16 +51,17 @@ fn child<'a>(
         settings,
         induct: false,
         scheme: None,
+        of: PhantomData,
     })
 }
 
 /// Several tasks below another one, numbered from their count down to 1.
-fn counted_down<'a>(
+fn counted_down<'a, J: Planned>(
     alloc: Global,
-    task: &Task<'a>,
+    task: &Task<'a, J>,
     under: bool,
     clauses: Seq<Clause>,
-) -> Result<Seq<Task<'a>>, NoMemory>
+) -> Result<Seq<Task<'a, J>>, NoMemory>
     requires above { task.now.depth < 250 }
     requires few { length clauses < 2 ^ 32 }
     requires clauses { Each (KnownClause (defs_of task.now.plan)) clauses }
@@ -76,12 +78,12 @@ fn counted_down<'a>(
 }
 
 /// The tasks that a task splits into: an only one adds a prime to the name.
-fn children<'a>(
+fn children<'a, J: Planned>(
     alloc: Global,
-    task: &Task<'a>,
+    task: &Task<'a, J>,
     under: bool,
     clauses: Seq<Clause>,
-) -> Result<Seq<Task<'a>>, NoMemory>
+) -> Result<Seq<Task<'a, J>>, NoMemory>
     requires above { task.now.depth < 250 }
     requires plain { task.now.induct ≡ false }
     requires few { length clauses < 2 ^ 32 }
@@ -101,7 +103,7 @@ fn children<'a>(
 }
 
 /// The step at which an attempt stops.
-fn stopped<'a>(missed: bool, reason: Reason) -> Stepped<Task<'a>>
+fn stopped<'a, J: Planned>(missed: bool, reason: Reason) -> Stepped<Task<'a, J>>
     ensures { result ≡ stop_step missed reason }
 {
     Stepped {
@@ -115,7 +117,7 @@ fn stopped<'a>(missed: bool, reason: Reason) -> Stepped<Task<'a>>
 }
 
 /// The step of a task that is set aside for an induction.
-fn pushed<'a>(missed: bool, limited: bool) -> Stepped<Task<'a>>
+fn pushed<'a, J: Planned>(missed: bool, limited: bool) -> Stepped<Task<'a, J>>
     ensures { result ≡ done Process.Push missed limited Out.Push }
 {
     Stepped {
@@ -129,7 +131,7 @@ fn pushed<'a>(missed: bool, limited: bool) -> Stepped<Task<'a>>
 }
 
 /// The step of a task that a process splits, where nothing missed.
-fn split<'a>(process: Process, children: Seq<Task<'a>>) -> Stepped<Task<'a>>
+fn split<'a, J: Planned>(process: Process, children: Seq<Task<'a, J>>) -> Stepped<Task<'a, J>>
     ensures { result ≡ done process false false (Out.Split children.entry) }
 {
     Stepped {
@@ -143,7 +145,11 @@ fn split<'a>(process: Process, children: Seq<Task<'a>>) -> Stepped<Task<'a>>
 }
 
 /// The step of a task whose children a later process made.
-fn made<'a>(process: Process, limited: bool, children: Seq<Task<'a>>) -> Stepped<Task<'a>>
+fn made<'a, J: Planned>(
+    process: Process,
+    limited: bool,
+    children: Seq<Task<'a, J>>,
+) -> Stepped<Task<'a, J>>
     ensures { result ≡ done process true limited (Out.Split children.entry) }
 {
     Stepped {
@@ -158,11 +164,11 @@ fn made<'a>(process: Process, limited: bool, children: Seq<Task<'a>>) -> Stepped
 
 /// The step of a task that simplification left as it was, or whose steps ran out: by a later process, or else it
 /// is pushed.
-fn missed_step<'a>(
+fn missed_step<'a, J: Planned>(
     alloc: Global,
-    task: &Task<'a>,
+    task: &Task<'a, J>,
     limited: bool,
-) -> Result<Stepped<Task<'a>>, NoMemory>
+) -> Result<Stepped<Task<'a, J>>, NoMemory>
     requires above { task.now.depth < 250 }
     requires plain { task.now.induct ≡ false }
     ensures { IfOk result (λ s. s ≡ missed_step task.now limited (later task.now)) }
@@ -174,7 +180,10 @@ fn missed_step<'a>(
 }
 
 /// Simplifies a task; where its clause stays the same, or the steps run out, that is a miss.
-fn open_step<'a>(alloc: Global, task: &Task<'a>) -> Result<Stepped<Task<'a>>, NoMemory>
+fn open_step<'a, J: Planned>(
+    alloc: Global,
+    task: &Task<'a, J>,
+) -> Result<Stepped<Task<'a, J>>, NoMemory>
     requires above { task.now.depth < 250 }
     requires plain { task.now.induct ≡ false }
     ensures { IfOk result (λ s. s ≡ open_step task.now) }
@@ -193,11 +202,11 @@ fn open_step<'a>(alloc: Global, task: &Task<'a>) -> Result<Stepped<Task<'a>>, No
 }
 
 /// Pushes a task whose hint has a call to induct by; else simplifies it.
-fn pushed_or_open<'a>(
+fn pushed_or_open<'a, J: Planned>(
     alloc: Global,
-    task: &Task<'a>,
+    task: &Task<'a, J>,
     scheme: &Option<Term>,
-) -> Result<Stepped<Task<'a>>, NoMemory>
+) -> Result<Stepped<Task<'a, J>>, NoMemory>
     requires above { task.now.depth < 250 }
     requires plain { task.now.induct ≡ false }
     ensures { IfOk result (λ s. s ≡ pushed_or_open task.now scheme.now) }
@@ -209,7 +218,11 @@ fn pushed_or_open<'a>(
 }
 
 /// The step of a task whose settings hold its hint.
-fn hint_step<'a>(alloc: Global, task: &Task<'a>, hint: &Hint) -> Result<Stepped<Task<'a>>, NoMemory>
+fn hint_step<'a, J: Planned>(
+    alloc: Global,
+    task: &Task<'a, J>,
+    hint: &Hint,
+) -> Result<Stepped<Task<'a, J>>, NoMemory>
     requires above { task.now.depth < 250 }
     requires plain { task.now.induct ≡ false }
     requires hint { KnownHint task.now.plan.world.entries hint.now }
@@ -225,7 +238,10 @@ fn hint_step<'a>(alloc: Global, task: &Task<'a>, hint: &Hint) -> Result<Stepped<
 }
 
 /// The step of a task by its own name's hint, if there is one.
-fn hinted_step<'a>(alloc: Global, task: &Task<'a>) -> Result<Stepped<Task<'a>>, NoMemory>
+fn hinted_step<'a, J: Planned>(
+    alloc: Global,
+    task: &Task<'a, J>,
+) -> Result<Stepped<Task<'a, J>>, NoMemory>
     requires above { task.now.depth < 250 }
     requires plain { task.now.induct ≡ false }
     ensures { IfOk result (λ s. s ≡ hint_step (hinted task.now) (hint_for task.now.plan task.now.name)) }
@@ -240,7 +256,10 @@ fn hinted_step<'a>(alloc: Global, task: &Task<'a>) -> Result<Stepped<Task<'a>>, 
 }
 
 /// The step of a task that isn't an induction.
-fn clause_step<'a>(alloc: Global, task: &Task<'a>) -> Result<Stepped<Task<'a>>, NoMemory>
+fn clause_step<'a, J: Planned>(
+    alloc: Global,
+    task: &Task<'a, J>,
+) -> Result<Stepped<Task<'a, J>>, NoMemory>
     requires plain { task.now.induct ≡ false }
     ensures { IfOk result (λ s. s ≡ clause_step task.now task.now.clause.0) }
 {
@@ -254,7 +273,7 @@ fn clause_step<'a>(alloc: Global, task: &Task<'a>) -> Result<Stepped<Task<'a>>, 
 }
 
 /// The clauses of the induction of a task, if there is one.
-fn cases(alloc: Global, task: &Task<'_>) -> Result<Option<Seq<Clause>>, NoMemory>
+fn cases<J: Planned>(alloc: Global, task: &Task<'_, J>) -> Result<Option<Seq<Clause>>, NoMemory>
     ensures made { IfOk result (λ o. o ≡ option_map cases_in (scheme_of (defs_of task.now.plan) task.now.settings.theory task.now.clause task.now.scheme)) }
     ensures known { IfOk result (λ o. IfSome o (Each (KnownClause (defs_of task.now.plan)))) }
     ensures few { IfOk result (λ o. IfSome o (λ cs. length cs < 2 ^ 32)) }
@@ -270,7 +289,10 @@ fn cases(alloc: Global, task: &Task<'_>) -> Result<Option<Seq<Clause>>, NoMemory
 }
 
 /// The step of a task that is an induction: its cases, unless it is under too many inductions or has no scheme.
-fn induct_step<'a>(alloc: Global, task: &Task<'a>) -> Result<Stepped<Task<'a>>, NoMemory>
+fn induct_step<'a, J: Planned>(
+    alloc: Global,
+    task: &Task<'a, J>,
+) -> Result<Stepped<Task<'a, J>>, NoMemory>
     requires induction { task.now.induct ≡ true }
     ensures { IfOk result (λ s. s ≡ induct_step task.now) }
 {
@@ -288,7 +310,10 @@ fn induct_step<'a>(alloc: Global, task: &Task<'a>) -> Result<Stepped<Task<'a>>, 
 
 /// The step of a task.
 #[tactic(auto, unfolding(crate::specs::Steps::step_of))]
-pub(crate) fn step_of<'a>(alloc: Global, task: &Task<'a>) -> Result<Stepped<Task<'a>>, NoMemory>
+pub(crate) fn step_of<'a, J: Planned>(
+    alloc: Global,
+    task: &Task<'a, J>,
+) -> Result<Stepped<Task<'a, J>>, NoMemory>
     ensures { IfOk result (λ s. s ≡ step_of task.now) }
 {
     if task.induct {

@@ -6,14 +6,14 @@ ghost use Rattle.ap_strategy.specs.Goals.{IsGoal, defs_of, root_goal, hinted, in
 
 use crate::clauses::{copy_scheme, same_terms};
 use crate::hinting::{scheme_of_hint, settings_with_hint};
-use crate::plan::{Plan, Settings, copy_settings, first_settings};
-use crate::same::{same_plan, same_settings};
+use crate::plan::{Plan, Planned, Settings, copy_settings, first_settings};
+use crate::same::same_settings;
 use ap_clausify::flat;
 use ap_list::{NoMemory, Seq};
 use ap_names::{GoalName, same_name};
 use ap_term::{Clause, Term, copy_terms, same_term};
 use std::alloc::Global;
-use std::marker::Model;
+use std::marker::{Model, PhantomData};
 
 /// A goal of the waterfall, with all that its step depends on: the plan that it is worked by; its name and
 /// its clause; how many clauses stand above it; whether a checkpoint does; what holds for it and all below;
@@ -24,8 +24,11 @@ use std::marker::Model;
 /// arguments. Each theorem that the hints use is one of that world.
 /// `depth` is at most 250, and the name has no more primes than that. Where `induct` is true the name is a
 /// pushed goal's, and `depth` is 0; where it is false the name is none.
+///
+/// `J` is a brand, which says which plan it is: all tasks of one type are worked by the one plan `J.plan`. So two of
+/// them are told apart by their goals alone, and no test compares worlds or hints.
 #[derive(Drop)]
-pub struct Task<'a> {
+pub struct Task<'a, J: Planned> {
     pub plan: &'a Plan,
     pub name: GoalName,
     pub clause: Clause,
@@ -34,9 +37,11 @@ pub struct Task<'a> {
     pub settings: Settings,
     pub induct: bool,
     pub scheme: Option<Term>,
+    pub of: PhantomData<J>,
 }
 
-impl<'a> Model for Task<'a> {
+impl<'a, J: Planned> Model for Task<'a, J> {
+    ghost use Rattle.std.specs.Prelude.{◌≡◌};
     ghost use Rattle.std.specs.Coded.{codes};
     ghost use Rattle.ap_term.specs.contracts.term.Term as term;
     ghost use Rattle.ap_value.specs.contracts.value.Value as value;
@@ -48,10 +53,10 @@ impl<'a> Model for Task<'a> {
 
     ghost view = { λ t. record { plan = t.plan.now; name = t.name; clause = t.clause; depth = t.depth; under = t.under; settings = t.settings; induct = t.induct; scheme = t.scheme } };
 
-    ghost invariant = { λ t. IsGoal (record { plan = t.plan.now; name = t.name; clause = t.clause; depth = t.depth; under = t.under; settings = t.settings; induct = t.induct; scheme = t.scheme }) };
+    ghost invariant = { λ t. IsGoal (record { plan = t.plan.now; name = t.name; clause = t.clause; depth = t.depth; under = t.under; settings = t.settings; induct = t.induct; scheme = t.scheme }) × (t.plan.now ≡ J.plan) };
 }
 
-impl<'a> Task<'a> {
+impl<'a, J: Planned> Task<'a, J> {
     /// What every task keeps, for a proof that sees a task as a whole. Costs nothing.
     pub fn is_goal(&self)
         ensures { IsGoal self.now }
@@ -72,9 +77,14 @@ fn root_name(alloc: Global) -> GoalName
     }
 }
 
-/// The task that the attempt on a term starts from: its name is `Goal`, and its clause the term's. The only
-/// error is want of memory.
-pub fn root_task<'a>(alloc: Global, plan: &'a Plan, term: &Term) -> Result<Task<'a>, NoMemory>
+/// The task that the attempt on a term starts from: its name is `Goal`, and its clause the term's. The plan is the
+/// brand's. The only error is want of memory.
+pub fn root_task<'a, J: Planned>(
+    alloc: Global,
+    plan: &'a Plan,
+    term: &Term,
+) -> Result<Task<'a, J>, NoMemory>
+    requires brand { plan.now ≡ J.plan }
     requires functions { HasFunctions (defs_of plan.now) }
     requires term { IsTrue (known (defs_of plan.now) term.now) }
     requires hints { KnownHints plan.now.world.entries plan.now.hints }
@@ -93,11 +103,12 @@ pub fn root_task<'a>(alloc: Global, plan: &'a Plan, term: &Term) -> Result<Task<
         settings,
         induct: false,
         scheme: None,
+        of: PhantomData,
     })
 }
 
 /// A copy of a task. The plan isn't copied. The only error is want of memory.
-pub fn copy_task<'a>(alloc: Global, task: &Task<'a>) -> Result<Task<'a>, NoMemory>
+pub fn copy_task<'a, J: Planned>(alloc: Global, task: &Task<'a, J>) -> Result<Task<'a, J>, NoMemory>
     ensures { IfOk result (λ t. t ≡ task.now) }
 {
     let name = task.name.copy(alloc)?;
@@ -113,11 +124,15 @@ pub fn copy_task<'a>(alloc: Global, task: &Task<'a>) -> Result<Task<'a>, NoMemor
         settings,
         induct: task.induct,
         scheme,
+        of: PhantomData,
     })
 }
 
 /// A copy of a task with what its own name's hint says in its settings.
-pub(crate) fn hinted<'a>(alloc: Global, task: &Task<'a>) -> Result<Task<'a>, NoMemory>
+pub(crate) fn hinted<'a, J: Planned>(
+    alloc: Global,
+    task: &Task<'a, J>,
+) -> Result<Task<'a, J>, NoMemory>
     ensures { IfOk result (λ t. t ≡ hinted task.now) }
 {
     let name = task.name.copy(alloc)?;
@@ -133,12 +148,17 @@ pub(crate) fn hinted<'a>(alloc: Global, task: &Task<'a>) -> Result<Task<'a>, NoM
         settings,
         induct: task.induct,
         scheme,
+        of: PhantomData,
     })
 }
 
 /// The induction of a task that its walk pushed as number `k`, from 1: the goal has the pushed goal's name, new
 /// paths begin at it, and the hint of the goal that was pushed holds for it. The only error is want of memory.
-pub fn induct_task<'a>(alloc: Global, task: &Task<'a>, k: u32) -> Result<Task<'a>, NoMemory>
+pub fn induct_task<'a, J: Planned>(
+    alloc: Global,
+    task: &Task<'a, J>,
+    k: u32,
+) -> Result<Task<'a, J>, NoMemory>
     requires { 1 ≤ k }
     ensures { IfOk result (λ t. t ≡ inducted task.now k) }
 {
@@ -155,6 +175,7 @@ pub fn induct_task<'a>(alloc: Global, task: &Task<'a>, k: u32) -> Result<Task<'a
         settings,
         induct: true,
         scheme,
+        of: PhantomData,
     })
 }
 
@@ -169,9 +190,9 @@ fn same_scheme(a: &Option<Term>, b: &Option<Term>) -> bool
     }
 }
 
-/// Whether two tasks are one, in all that they hold, their plans' worlds and hints too. The plans are compared last.
-/// Takes no memory.
-pub fn same_task(a: &Task<'_>, b: &Task<'_>) -> bool
+/// Whether two tasks are one, in all that they hold. The plans aren't looked at: both are the one that the brand of
+/// their type is, so the world and the hints cost nothing here. Takes no memory.
+pub fn same_task<J: Planned>(a: &Task<'_, J>, b: &Task<'_, J>) -> bool
     ensures { IsTrue result ↔ (a.now ≡ b.now) }
 {
     a.depth == b.depth
@@ -181,5 +202,4 @@ pub fn same_task(a: &Task<'_>, b: &Task<'_>) -> bool
         && same_terms(a.clause.0.as_slice(), b.clause.0.as_slice())
         && same_scheme(&a.scheme, &b.scheme)
         && same_settings(&a.settings, &b.settings)
-        && same_plan(a.plan, b.plan)
 }

@@ -1,5 +1,5 @@
 //! The waterfall's step on a goal that has a hint.
-ghost use Rattle.std.specs.Prelude.{IsTrue, IfOk, IfSome};
+ghost use Rattle.std.specs.Prelude.{◌≡◌, IsTrue, IfOk, IfSome};
 ghost use Rattle.ap_list.specs.Lists.{Each};
 ghost use Rattle.ap_world.specs.Holding.{KnownPairs};
 ghost use Rattle.ap_world.specs.Sound.{HasFunctions};
@@ -8,7 +8,7 @@ ghost use Rattle.ap_hints.specs.Known.{KnownTerm, KnownUse, KnownHint, KnownHint
 ghost use Rattle.ap_strategy.specs.Goals.{defs_of};
 
 use crate::clauses::is_written;
-use crate::waterfall::{expect, written_task};
+use crate::waterfall::{expect, root, written_task};
 use crate::written::term;
 use ap_eval::is_known;
 use ap_ground::ground_world;
@@ -17,12 +17,13 @@ use ap_hints::{Hint, Hints};
 use ap_list::{Boxed, Bytes, NoMemory, Seq};
 use ap_names::GoalName;
 use ap_rules::Ruled;
-use ap_strategy::{Acl2Step, Plan, Task, induct_task};
-use ap_term::{Subst, Term};
+use ap_strategy::{Acl2Step, Plan, Planned, Task, induct_task};
+use ap_term::{Clause, Subst, Term, copy_terms};
 use ap_value::{Symbol, acl2};
 use ap_walk::{Act, Out, Process, Step, Stepped};
 use ap_world::{Rune, RuneKind, Theory, World};
 use std::alloc::{AllocError, Global};
+use std::marker::Brand;
 use std::process::Abort;
 
 /// A hint that says nothing, for `Goal` with so many primes.
@@ -146,7 +147,7 @@ fn kind(act: Act) -> &'static [u8] {
 }
 
 /// What a step did, and the names of the goals that it made.
-fn told(alloc: Global, stepped: &Stepped<Task<'_>>) -> Result<Bytes, NoMemory> {
+fn told<J: Planned>(alloc: Global, stepped: &Stepped<Task<'_, J>>) -> Result<Bytes, NoMemory> {
     let mut text = Seq::new(alloc);
     text.extend(kind(stepped.act))?;
     if let Out::Split(tasks) = &stepped.out {
@@ -158,24 +159,48 @@ fn told(alloc: Global, stepped: &Stepped<Task<'_>>) -> Result<Bytes, NoMemory> {
     Ok(text)
 }
 
-/// Whether the goals that a step made have these clauses.
-fn has_clauses(
+/// The clauses of the goals that a step made.
+fn clauses_of<J: Planned>(
     alloc: Global,
-    stepped: &Stepped<Task<'_>>,
-    clauses: &[&str],
-) -> Result<bool, NoMemory> {
-    let Out::Split(tasks) = &stepped.out else {
-        return Ok(clauses.is_empty());
-    };
-    for (task, text) in tasks.as_slice().iter().zip(clauses) {
-        if !is_written(&task.clause, &term(alloc, text)?) {
+    stepped: &Stepped<Task<'_, J>>,
+) -> Result<Seq<Clause>, NoMemory> {
+    let mut clauses = Seq::new(alloc);
+    if let Out::Split(tasks) = &stepped.out {
+        for task in tasks.as_slice() {
+            clauses.push(Clause(copy_terms(alloc, task.clause.0.as_slice())?))?;
+        }
+    }
+    Ok(clauses)
+}
+
+/// Whether clauses are these.
+fn are_clauses(alloc: Global, clauses: &[Clause], wanted: &[&str]) -> Result<bool, NoMemory> {
+    for (clause, text) in clauses.iter().zip(wanted) {
+        if !is_written(clause, &term(alloc, text)?) {
             return Ok(false);
         }
     }
-    Ok(tasks.len() == clauses.len())
+    Ok(clauses.len() == wanted.len())
 }
 
-/// What the step of `Goal` does under a plan, and the clauses that it makes.
+/// What the step of `Goal` does under a plan, with the names and the clauses of the goals that it makes.
+fn step_told<J: Planned>(
+    alloc: Global,
+    plan: &Plan,
+    conjecture: &Term,
+) -> Result<(Bytes, Seq<Clause>), NoMemory>
+    requires brand { plan.now ≡ J.plan }
+    requires functions { HasFunctions (defs_of plan.now) }
+    requires hints { KnownHints plan.now.world.entries plan.now.hints }
+{
+    let task: Boxed<Task<'_, J>> = Boxed::new(alloc, root(alloc, plan, conjecture)?)?;
+    let stepped = Acl2Step::new(plan).step(alloc, task.get())?;
+    let found = told(alloc, &stepped)?;
+    let clauses = clauses_of(alloc, &stepped)?;
+    Ok((found, clauses))
+}
+
+/// Compares what the step of `Goal` does under a plan, and the clauses that it makes, with what is wanted.
 fn expect_step(
     rt: &impl Abort,
     alloc: Global,
@@ -187,11 +212,13 @@ fn expect_step(
     requires functions { HasFunctions (defs_of plan.now) }
     requires hints { KnownHints plan.now.world.entries plan.now.hints }
 {
-    let task = Boxed::new(alloc, written_task(alloc, plan, conjecture)?)?;
-    let stepped = Acl2Step::new(plan).step(alloc, task.get())?;
-    let found = told(alloc, &stepped)?;
+    let goal = term(alloc, conjecture)?;
+    let (found, made) = step_told::<Brand>(alloc, plan, &goal)?;
     expect(rt, conjecture, found.as_slice(), wanted);
-    assert!(rt; has_clauses(alloc, &stepped, clauses)?, "{conjecture}");
+    assert!(rt;
+        are_clauses(alloc, made.as_slice(), clauses)?,
+        "{conjecture}"
+    );
     Ok(())
 }
 
@@ -253,7 +280,23 @@ fn a_hint_for_another_goal_says_nothing(rt: HostRuntime) -> Result<(), NoMemory>
     expect_step(&rt, alloc, &plan, "(EQUAL X Y)", "missed", &[])
 }
 
-/// The step of the induction of `Goal`.
+/// What the step of the induction of `Goal` does, with the names of the goals that it makes.
+fn induction_told<J: Planned>(
+    alloc: Global,
+    plan: &Plan,
+    conjecture: &Term,
+) -> Result<Bytes, NoMemory>
+    requires brand { plan.now ≡ J.plan }
+    requires functions { HasFunctions (defs_of plan.now) }
+    requires hints { KnownHints plan.now.world.entries plan.now.hints }
+{
+    let task: Boxed<Task<'_, J>> = Boxed::new(alloc, root(alloc, plan, conjecture)?)?;
+    let induction = Boxed::new(alloc, induct_task(alloc, task.get(), 1)?)?;
+    let stepped = Acl2Step::new(plan).step(alloc, induction.get())?;
+    told(alloc, &stepped)
+}
+
+/// Compares what the step of the induction of `Goal` does with what is wanted.
 fn expect_induction(
     rt: &impl Abort,
     alloc: Global,
@@ -264,10 +307,8 @@ fn expect_induction(
     requires functions { HasFunctions (defs_of plan.now) }
     requires hints { KnownHints plan.now.world.entries plan.now.hints }
 {
-    let task = Boxed::new(alloc, written_task(alloc, plan, conjecture)?)?;
-    let induction = Boxed::new(alloc, induct_task(alloc, task.get(), 1)?)?;
-    let stepped = Acl2Step::new(plan).step(alloc, induction.get())?;
-    let found = told(alloc, &stepped)?;
+    let goal = term(alloc, conjecture)?;
+    let found = induction_told::<Brand>(alloc, plan, &goal)?;
     expect(rt, conjecture, found.as_slice(), wanted);
     Ok(())
 }
@@ -298,13 +339,16 @@ fn by_cases_without(alloc: Global) -> Result<Hint, NoMemory> {
 }
 
 /// Whether a task is in the theory of that hint.
-fn is_without(alloc: Global, task: &Task<'_>) -> Result<bool, NoMemory> {
+fn is_without<J: Planned>(alloc: Global, task: &Task<'_, J>) -> Result<bool, NoMemory> {
     let name = acl2(alloc, b"LEN")?;
     Ok(!task.settings.theory.is_enabled(RuneKind::Definition, &name))
 }
 
 /// Whether all the goals that a step made are.
-fn are_without(alloc: Global, stepped: &Stepped<Task<'_>>) -> Result<bool, NoMemory> {
+fn are_without<J: Planned>(
+    alloc: Global,
+    stepped: &Stepped<Task<'_, J>>,
+) -> Result<bool, NoMemory> {
     let Out::Split(tasks) = &stepped.out else {
         return Ok(false);
     };
@@ -316,11 +360,12 @@ fn are_without(alloc: Global, stepped: &Stepped<Task<'_>>) -> Result<bool, NoMem
     Ok(true)
 }
 
-fn expect_theory(rt: &impl Abort, alloc: Global, plan: &Plan) -> Result<(), NoMemory>
+fn expect_theory<J: Planned, R: Abort>(rt: &R, alloc: Global, plan: &Plan) -> Result<(), NoMemory>
+    requires brand { plan.now ≡ J.plan }
     requires functions { HasFunctions (defs_of plan.now) }
     requires hints { KnownHints plan.now.world.entries plan.now.hints }
 {
-    let task = Boxed::new(alloc, written_task(alloc, plan, "(EQUAL X Y)")?)?;
+    let task: Boxed<Task<'_, J>> = Boxed::new(alloc, written_task(alloc, plan, "(EQUAL X Y)")?)?;
     assert!(rt; !is_without(alloc, task.get())?, "above");
     let stepped = Acl2Step::new(plan).step(alloc, task.get())?;
     assert!(rt; are_without(alloc, &stepped)?, "below");
@@ -332,5 +377,5 @@ fn expect_theory(rt: &impl Abort, alloc: Global, plan: &Plan) -> Result<(), NoMe
 #[test]
 fn a_theory_holds_below_and_in_the_induction(rt: HostRuntime) -> Result<(), NoMemory> {
     let plan = plan(rt.alloc(), by_cases_without(rt.alloc())?)?;
-    expect_theory(&rt, rt.alloc(), &plan)
+    expect_theory::<Brand, _>(&rt, rt.alloc(), &plan)
 }

@@ -1,5 +1,5 @@
 //! Walks by the waterfall's step, by a table.
-ghost use Rattle.std.specs.Prelude.{◌≤◌, IfOk};
+ghost use Rattle.std.specs.Prelude.{◌≡◌, ◌≤◌, IfOk};
 ghost use Rattle.ap_world.specs.Sound.{HasFunctions};
 ghost use Rattle.ap_hints.specs.Known.{KnownHints};
 ghost use Rattle.ap_strategy.specs.Goals.{defs_of};
@@ -13,11 +13,12 @@ use ap_ground::laws::ground_has_its_functions;
 use ap_hints::no_hints;
 use ap_list::{Boxed, Bytes, NoMemory, Seq};
 use ap_rules::Ruled;
-use ap_strategy::{Acl2Step, Plan, Task, induct_task};
+use ap_strategy::{Acl2Step, Plan, Planned, Task, induct_task};
 use ap_term::Term;
 use ap_value::is_named;
 use ap_walk::{Act, Mark, Out, Process, Reason, Rule, Step, Stepped, Walked, serial};
 use std::alloc::{AllocError, Global};
+use std::marker::Brand;
 use std::process::Abort;
 
 /// Each row: the steps that a clause may spend; a conjecture, and what is visited in its walk, a kind of step
@@ -48,7 +49,12 @@ fn first_plan(alloc: Global, step_limit: u32) -> Result<Plan, NoMemory>
 }
 
 /// The task of a term, which is one of the plan's world.
-fn root<'a>(alloc: Global, plan: &'a Plan, t: &Term) -> Result<Task<'a>, NoMemory>
+pub(crate) fn root<'a, J: Planned>(
+    alloc: Global,
+    plan: &'a Plan,
+    t: &Term,
+) -> Result<Task<'a, J>, NoMemory>
+    requires brand { plan.now ≡ J.plan }
     requires functions { HasFunctions (defs_of plan.now) }
     requires hints { KnownHints plan.now.world.entries plan.now.hints }
 {
@@ -72,7 +78,7 @@ fn kind(act: Act) -> &'static [u8] {
 }
 
 /// Whether a mark is the one that is written.
-fn is_mark(mark: &Mark<Task<'_>>, visit: &Term) -> bool {
+fn is_mark<J: Planned>(mark: &Mark<Task<'_, J>>, visit: &Term) -> bool {
     let Term::Call(name, parts) = visit else {
         return false;
     };
@@ -86,7 +92,7 @@ fn is_mark(mark: &Mark<Task<'_>>, visit: &Term) -> bool {
 }
 
 /// Whether marks are those that are written.
-fn are_marks(marks: &[Mark<Task<'_>>], visits: &[Term]) -> bool {
+fn are_marks<J: Planned>(marks: &[Mark<Task<'_, J>>], visits: &[Term]) -> bool {
     for (mark, visit) in marks.iter().zip(visits) {
         if !is_mark(mark, visit) {
             return false;
@@ -96,7 +102,7 @@ fn are_marks(marks: &[Mark<Task<'_>>], visits: &[Term]) -> bool {
 }
 
 /// The names of the tasks of marks, with a comma between two.
-fn names(alloc: Global, marks: &[Mark<Task<'_>>]) -> Result<Bytes, NoMemory> {
+fn names<J: Planned>(alloc: Global, marks: &[Mark<Task<'_, J>>]) -> Result<Bytes, NoMemory> {
     let mut text = Seq::new(alloc);
     for mark in marks {
         if !text.is_empty() {
@@ -109,11 +115,16 @@ fn names(alloc: Global, marks: &[Mark<Task<'_>>]) -> Result<Bytes, NoMemory> {
 }
 
 /// The walk of a conjecture.
-fn walk<'a>(alloc: Global, plan: &'a Plan, conjecture: &Term) -> Result<Walked<Task<'a>>, NoMemory>
+fn walk<'a, J: Planned>(
+    alloc: Global,
+    plan: &'a Plan,
+    conjecture: &Term,
+) -> Result<Walked<Task<'a, J>>, NoMemory>
+    requires brand { plan.now ≡ J.plan }
     requires functions { HasFunctions (defs_of plan.now) }
     requires hints { KnownHints plan.now.world.entries plan.now.hints }
 {
-    let task = Boxed::new(alloc, root(alloc, plan, conjecture)?)?;
+    let task: Boxed<Task<'a, J>> = Boxed::new(alloc, root(alloc, plan, conjecture)?)?;
     let rule = Rule {
         initial: true,
         otf: true,
@@ -123,9 +134,9 @@ fn walk<'a>(alloc: Global, plan: &'a Plan, conjecture: &Term) -> Result<Walked<T
 }
 
 /// The names of the tasks of marks, or none where the marks aren't those that are written.
-fn visited_names(
+fn visited_names<J: Planned>(
     alloc: Global,
-    marks: &[Mark<Task<'_>>],
+    marks: &[Mark<Task<'_, J>>],
     visits: &[Term],
 ) -> Result<Bytes, NoMemory> {
     if are_marks(marks, visits) {
@@ -136,16 +147,17 @@ fn visited_names(
 }
 
 /// The same of a conjecture's walk.
-fn walked_names(
+fn walked_names<J: Planned>(
     alloc: Global,
     plan: &Plan,
     conjecture: &Term,
     visits: &[Term],
 ) -> Result<Bytes, NoMemory>
+    requires brand { plan.now ≡ J.plan }
     requires functions { HasFunctions (defs_of plan.now) }
     requires hints { KnownHints plan.now.world.entries plan.now.hints }
 {
-    let walked = walk(alloc, plan, conjecture)?;
+    let walked: Walked<Task<'_, J>> = walk(alloc, plan, conjecture)?;
     visited_names(alloc, walked.marks.as_slice(), visits)
 }
 
@@ -157,7 +169,7 @@ fn planned_names(
     visits: &[Term],
 ) -> Result<Bytes, NoMemory> {
     let plan = first_plan(alloc, steps)?;
-    walked_names(alloc, &plan, conjecture, visits)
+    walked_names::<Brand>(alloc, &plan, conjecture, visits)
 }
 
 /// The same of a row.
@@ -202,11 +214,12 @@ fn goals_are_walked_as_the_rows_say(rt: HostRuntime) -> Result<(), NoMemory> {
 }
 
 /// The task of the term that is written.
-pub(crate) fn written_task<'a>(
+pub(crate) fn written_task<'a, J: Planned>(
     alloc: Global,
     plan: &'a Plan,
     text: &str,
-) -> Result<Task<'a>, NoMemory>
+) -> Result<Task<'a, J>, NoMemory>
+    requires brand { plan.now ≡ J.plan }
     requires functions { HasFunctions (defs_of plan.now) }
     requires hints { KnownHints plan.now.world.entries plan.now.hints }
 {
@@ -215,7 +228,11 @@ pub(crate) fn written_task<'a>(
 }
 
 /// The induction of the last of some tasks.
-fn last_induction<'a>(alloc: Global, tasks: &[Task<'a>], count: u32) -> Result<Task<'a>, NoMemory>
+fn last_induction<'a, J: Planned>(
+    alloc: Global,
+    tasks: &[Task<'a, J>],
+    count: u32,
+) -> Result<Task<'a, J>, NoMemory>
     requires { 1 ≤ count }
 {
     match tasks.last() {
@@ -225,7 +242,8 @@ fn last_induction<'a>(alloc: Global, tasks: &[Task<'a>], count: u32) -> Result<T
 }
 
 /// The task of `(EQUAL X Y)`, and eleven inductions, each of the task before it.
-fn inductions<'a>(alloc: Global, plan: &'a Plan) -> Result<Seq<Task<'a>>, NoMemory>
+fn inductions<'a, J: Planned>(alloc: Global, plan: &'a Plan) -> Result<Seq<Task<'a, J>>, NoMemory>
+    requires brand { plan.now ≡ J.plan }
     requires functions { HasFunctions (defs_of plan.now) }
     requires hints { KnownHints plan.now.world.entries plan.now.hints }
 {
@@ -239,7 +257,7 @@ fn inductions<'a>(alloc: Global, plan: &'a Plan) -> Result<Seq<Task<'a>>, NoMemo
 }
 
 /// What a step stops with.
-fn stop(stepped: &Stepped<Task<'_>>) -> Option<Reason> {
+fn stop<J: Planned>(stepped: &Stepped<Task<'_, J>>) -> Option<Reason> {
     match &stepped.out {
         Out::Stop(reason) if !stepped.act.missed && !stepped.act.limited => Some(*reason),
         _ => None,
@@ -247,16 +265,15 @@ fn stop(stepped: &Stepped<Task<'_>>) -> Option<Reason> {
 }
 
 /// What the step of a task stops with.
-fn reason(alloc: Global, plan: &Plan, task: &Task<'_>) -> Result<Option<Reason>, NoMemory> {
-    let stepped = Acl2Step::new(plan).step(alloc, task)?;
+fn reason<J: Planned>(alloc: Global, task: &Task<'_, J>) -> Result<Option<Reason>, NoMemory> {
+    let stepped = Acl2Step::new(task.plan).step(alloc, task)?;
     Ok(stop(&stepped))
 }
 
-fn expect_reasons(
+fn expect_reasons<J: Planned>(
     rt: &impl Abort,
     alloc: Global,
-    plan: &Plan,
-    tasks: &[Task<'_>],
+    tasks: &[Task<'_, J>],
 ) -> Result<(), NoMemory> {
     for (count, task) in tasks.iter().enumerate().skip(1) {
         let wanted = if count < 10 {
@@ -264,19 +281,24 @@ fn expect_reasons(
         } else {
             Reason::InductionDepth
         };
-        let found = reason(alloc, plan, task)?;
+        let found = reason(alloc, task)?;
         assert!(rt; found == Some(wanted), "{count}");
     }
     Ok(())
 }
 
-fn expect_inductions(rt: &impl Abort, alloc: Global, plan: &Plan) -> Result<(), NoMemory>
+fn expect_inductions<J: Planned, R: Abort>(
+    rt: &R,
+    alloc: Global,
+    plan: &Plan,
+) -> Result<(), NoMemory>
+    requires brand { plan.now ≡ J.plan }
     requires functions { HasFunctions (defs_of plan.now) }
     requires hints { KnownHints plan.now.world.entries plan.now.hints }
 {
-    let tasks = inductions(alloc, plan)?;
+    let tasks: Seq<Task<'_, J>> = inductions(alloc, plan)?;
     assert!(rt; tasks.len() == 12);
-    expect_reasons(rt, alloc, plan, tasks.as_slice())
+    expect_reasons(rt, alloc, tasks.as_slice())
 }
 
 #[test]
@@ -284,7 +306,7 @@ fn an_induction_without_a_scheme_or_under_nine_others_stops(
     rt: HostRuntime,
 ) -> Result<(), NoMemory> {
     let plan = first_plan(rt.alloc(), 9)?;
-    expect_inductions(&rt, rt.alloc(), &plan)
+    expect_inductions::<Brand, _>(&rt, rt.alloc(), &plan)
 }
 
 /// A conjecture that is proved by induction: appending is associative.
@@ -292,7 +314,7 @@ const ASSOCIATIVE: &str =
     "(EQUAL (BINARY-APPEND (BINARY-APPEND X Y) Z) (BINARY-APPEND X (BINARY-APPEND Y Z)))";
 
 /// The names of tasks, with a comma between two.
-fn task_names(alloc: Global, tasks: &[Task<'_>]) -> Result<Bytes, NoMemory> {
+fn task_names<J: Planned>(alloc: Global, tasks: &[Task<'_, J>]) -> Result<Bytes, NoMemory> {
     let mut text = Seq::new(alloc);
     for task in tasks {
         if !text.is_empty() {
@@ -304,21 +326,23 @@ fn task_names(alloc: Global, tasks: &[Task<'_>]) -> Result<Bytes, NoMemory> {
 }
 
 /// The names of the cases that a step made, where it is an induction's.
-fn case_names(alloc: Global, stepped: &Stepped<Task<'_>>) -> Result<Bytes, NoMemory> {
+fn case_names<J: Planned>(
+    alloc: Global,
+    stepped: &Stepped<Task<'_, J>>,
+) -> Result<Bytes, NoMemory> {
     match (stepped.act.process, &stepped.out) {
         (Process::Induct, Out::Split(cases)) => task_names(alloc, cases.as_slice()),
         _ => Ok(Bytes::new(alloc)),
     }
 }
 
-fn expect_cases(
+fn expect_cases<J: Planned>(
     rt: &impl Abort,
     alloc: Global,
-    plan: &Plan,
-    task: &Task<'_>,
+    task: &Task<'_, J>,
 ) -> Result<(), NoMemory> {
     let induction = Boxed::new(alloc, induct_task(alloc, task, 1)?)?;
-    let stepped = Acl2Step::new(plan).step(alloc, induction.get())?;
+    let stepped = Acl2Step::new(task.plan).step(alloc, induction.get())?;
     let names = case_names(alloc, &stepped)?;
     expect(
         rt,
@@ -329,68 +353,72 @@ fn expect_cases(
     Ok(())
 }
 
-fn expect_split(rt: &impl Abort, alloc: Global, plan: &Plan) -> Result<(), NoMemory>
+fn expect_split<J: Planned, R: Abort>(rt: &R, alloc: Global, plan: &Plan) -> Result<(), NoMemory>
+    requires brand { plan.now ≡ J.plan }
     requires functions { HasFunctions (defs_of plan.now) }
     requires hints { KnownHints plan.now.world.entries plan.now.hints }
 {
-    let task = Boxed::new(alloc, written_task(alloc, plan, ASSOCIATIVE)?)?;
-    expect_cases(rt, alloc, plan, task.get())
+    let task: Boxed<Task<'_, J>> = Boxed::new(alloc, written_task(alloc, plan, ASSOCIATIVE)?)?;
+    expect_cases(rt, alloc, task.get())
 }
 
 #[test]
 fn an_induction_splits_into_its_cases(rt: HostRuntime) -> Result<(), NoMemory> {
     let plan = first_plan(rt.alloc(), 9)?;
-    expect_split(&rt, rt.alloc(), &plan)
+    expect_split::<Brand, _>(&rt, rt.alloc(), &plan)
 }
 
 /// Whether a copy is the same task.
-fn is_copied(alloc: Global, plan: &Plan, task: &Task<'_>) -> Result<bool, NoMemory> {
-    let step = Acl2Step::new(plan);
+fn is_copied<J: Planned>(alloc: Global, task: &Task<'_, J>) -> Result<bool, NoMemory> {
+    let step = Acl2Step::new(task.plan);
     let copy = Boxed::new(alloc, step.copy_task(alloc, task)?)?;
     Ok(step.same_task(task, copy.get()))
 }
 
 /// Whether the induction of a task is another task.
-fn is_other(alloc: Global, plan: &Plan, task: &Task<'_>) -> Result<bool, NoMemory> {
+fn is_other<J: Planned>(alloc: Global, task: &Task<'_, J>) -> Result<bool, NoMemory> {
     let induction = Boxed::new(alloc, induct_task(alloc, task, 1)?)?;
-    Ok(!Acl2Step::new(plan).same_task(task, induction.get()))
+    Ok(!Acl2Step::new(task.plan).same_task(task, induction.get()))
 }
 
 /// The name of a task, as the step gives it.
-fn task_name(alloc: Global, plan: &Plan, task: &Task<'_>) -> Result<Bytes, NoMemory> {
-    let name = Acl2Step::new(plan).name_of(alloc, task)?;
+fn task_name<J: Planned>(alloc: Global, task: &Task<'_, J>) -> Result<Bytes, NoMemory> {
+    let name = Acl2Step::new(task.plan).name_of(alloc, task)?;
     name.print(alloc)
 }
 
 /// The name of the induction of a task.
-fn induction_name(alloc: Global, plan: &Plan, task: &Task<'_>) -> Result<Bytes, NoMemory> {
+fn induction_name<J: Planned>(alloc: Global, task: &Task<'_, J>) -> Result<Bytes, NoMemory> {
     let induction = Boxed::new(alloc, induct_task(alloc, task, 1)?)?;
-    task_name(alloc, plan, induction.get())
+    task_name(alloc, induction.get())
 }
 
-fn expect_tasks(
+fn expect_tasks<J: Planned>(
     rt: &impl Abort,
     alloc: Global,
-    plan: &Plan,
-    task: &Task<'_>,
+    task: &Task<'_, J>,
 ) -> Result<(), NoMemory> {
-    assert!(rt; is_copied(alloc, plan, task)?, "a copy");
-    assert!(rt; is_other(alloc, plan, task)?, "an induction");
-    let name = induction_name(alloc, plan, task)?;
+    assert!(rt; is_copied(alloc, task)?, "a copy");
+    assert!(rt; is_other(alloc, task)?, "an induction");
+    let name = induction_name(alloc, task)?;
     expect(rt, "its name", name.as_slice(), "*1");
     Ok(())
 }
 
-fn expect_copy(rt: &impl Abort, alloc: Global, plan: &Plan) -> Result<(), NoMemory>
+fn expect_copy<J: Planned, R: Abort>(rt: &R, alloc: Global, plan: &Plan) -> Result<(), NoMemory>
+    requires brand { plan.now ≡ J.plan }
     requires functions { HasFunctions (defs_of plan.now) }
     requires hints { KnownHints plan.now.world.entries plan.now.hints }
 {
-    let task = Boxed::new(alloc, written_task(alloc, plan, "(EQUAL X (CONS Y '1))")?)?;
-    expect_tasks(rt, alloc, plan, task.get())
+    let task: Boxed<Task<'_, J>> = Boxed::new(
+        alloc,
+        written_task(alloc, plan, "(EQUAL X (CONS Y '1))")?,
+    )?;
+    expect_tasks(rt, alloc, task.get())
 }
 
 #[test]
 fn a_copy_is_the_same_and_an_induction_is_not(rt: HostRuntime) -> Result<(), NoMemory> {
     let plan = first_plan(rt.alloc(), 9)?;
-    expect_copy(&rt, rt.alloc(), &plan)
+    expect_copy::<Brand, _>(&rt, rt.alloc(), &plan)
 }

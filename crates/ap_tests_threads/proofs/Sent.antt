@@ -240,10 +240,11 @@ settings_send t = let p : IsSend process.the_row = search (sendable, crosses) de
 pub clause_send : IsSend term.the_row → IsSend clause.the_row
 clause_send t = declared_send clause.the_type (seq_send _ t, tt)
 
-inside_send : (κ : _) → IsSend term.the_row → IsSync term.the_row → IsSync value.the_row → IsSend (inside.the_row κ)
-inside_send κ t ts vs =
+inside_send : (κ : _) (J : RattleType) (g : _) → IsSend J → IsSend term.the_row → IsSync term.the_row → IsSync value.the_row → IsSend (inside.the_row κ J g)
+inside_send κ J g j t ts vs =
     let p = plan_sync ts vs in
-    declared_send (inside.the_type κ) (search (sendable, crosses) depth 40, (name_send, (clause_send t, (search (sendable, crosses) depth 40, (search (sendable, crosses) depth 40, (settings_send t, (search (sendable, crosses) depth 40, (search (sendable, crosses) depth 40, tt))))))))
+    declared_send (inside.the_type κ J g) (search (sendable, crosses) depth 40, (name_send, (clause_send t, (search (sendable, crosses) depth 40, (search (sendable, crosses) depth 40, (settings_send t, (search (sendable, crosses) depth 40, (search (sendable, crosses) depth 40, (search (sendable, crosses) depth 40, tt)))))))))
 
-pub task_send : (κ : _) → IsSend term.the_row → IsSync term.the_row → IsSync value.the_row → IsSend (task.the_row κ)
-task_send κ t ts vs = let i = inside_send κ t ts vs in search (sendable, crosses) depth 40
+-- a task of the plan that J is, where J may cross
+pub task_send : (κ : _) (J : RattleType) (g : _) → IsSend J → IsSend term.the_row → IsSync term.the_row → IsSync value.the_row → IsSend (task.the_row κ J g)
+task_send κ J g j t ts vs = let i = inside_send κ J g j t ts vs in search (sendable, crosses) depth 40

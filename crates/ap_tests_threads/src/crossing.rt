@@ -1,5 +1,5 @@
 //! A world that another thread reads and drops, and a task of the waterfall that another thread walks.
-ghost use Rattle.std.specs.Prelude.{IfOk};
+ghost use Rattle.std.specs.Prelude.{◌≡◌, IfOk};
 ghost use denote.Param.Send.{IsSend, IsSync};
 ghost use Rattle.ap_world.specs.Sound.{HasFunctions};
 ghost use Rattle.ap_hints.specs.Known.{KnownHints};
@@ -11,12 +11,13 @@ use ap_ground::laws::ground_has_its_functions;
 use ap_hints::no_hints;
 use ap_list::{NoMemory, Seq};
 use ap_rules::Ruled;
-use ap_strategy::{Acl2Step, Plan, Task};
+use ap_strategy::{Acl2Step, Plan, Planned, Task};
 use ap_term::Term;
 use ap_value::{Value, acl2};
 use ap_walk::{Rule, Step, serial};
 use ap_world::World;
 use std::alloc::{AllocError, Global};
+use std::marker::Brand;
 use std::sync::Wait;
 use std::test::Fail;
 use std::thread;
@@ -114,7 +115,8 @@ fn first_plan(alloc: Global) -> Result<Plan, NoMemory>
 }
 
 /// The task of a term, which is one of the plan's world.
-fn root<'a>(alloc: Global, plan: &'a Plan, t: &Term) -> Result<Task<'a>, NoMemory>
+fn root<'a, J: Planned>(alloc: Global, plan: &'a Plan, t: &Term) -> Result<Task<'a, J>, NoMemory>
+    requires brand { plan.now ≡ J.plan }
     requires functions { HasFunctions (defs_of plan.now) }
     requires hints { KnownHints plan.now.world.entries plan.now.hints }
 {
@@ -125,24 +127,26 @@ fn root<'a>(alloc: Global, plan: &'a Plan, t: &Term) -> Result<Task<'a>, NoMemor
     }
 }
 
-/// How many goals the waterfall visits in the walk of the conjecture, by another thread.
-fn waterfall_elsewhere<R: Threads + Wait + Sync>(
+/// How many goals the waterfall visits in the walk of the conjecture, by another thread. Where the brand may cross, a
+/// task of its plan may.
+fn waterfall_elsewhere<J: Planned + Send + Sync, R: Threads + Wait + Sync>(
     rt: &R,
     alloc: Global,
     plan: &Plan,
 ) -> Result<usize, NoMemory>
+    requires brand { plan.now ≡ J.plan }
     requires functions { HasFunctions (defs_of plan.now) }
     requires hints { KnownHints plan.now.world.entries plan.now.hints }
 {
     shown::<Term>();
     shown::<Value>();
-    let task = root(alloc, plan, &conjecture(alloc)?)?;
+    let task: Task<'_, J> = root(alloc, plan, &conjecture(alloc)?)?;
     visits_elsewhere(rt, alloc, &Acl2Step::new(plan), task)
 }
 
 #[test]
 fn a_goal_is_walked_and_dropped_elsewhere(rt: HostRuntime) -> Result<(), Fail> {
     let plan = first_plan(rt.alloc())?;
-    assert!(rt; waterfall_elsewhere(&rt, rt.alloc(), &plan)? == 6);
+    assert!(rt; waterfall_elsewhere::<Brand, _>(&rt, rt.alloc(), &plan)? == 6);
     Ok(())
 }

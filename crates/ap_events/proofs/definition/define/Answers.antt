@@ -1,4 +1,3 @@
-use Rattle.std.proofs.Common.{sym, ◌∙◌}
 use Rattle.ap_events.specs.Definitions.{unguarded_definition}
 use Rattle.ap_events.proofs.Refusing.{held_refused}
 use Rattle.ap_events.proofs.definition.define.Goals as goal

@@ -4,7 +4,7 @@ use Rattle.ap_events.proofs.lines.checkpoints_in.Given as goal
 
 -- the checkpoints so far stand before those of the walks that are left
 abbrev pub invariant-loop-left : goal.invariant-loop-left
-invariant-loop-left l = l.text ++ checkpoints_in l.left ≡ checkpoints_in l.walks
+invariant-loop-left g l = l.text ++ checkpoints_in l.left ≡ checkpoints_in l.walks
 
 abbrev pub decreases-loop-left : goal.decreases-loop-left
-decreases-loop-left l = length l.left
+decreases-loop-left g l = length l.left

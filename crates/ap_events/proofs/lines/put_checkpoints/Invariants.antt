@@ -4,4 +4,4 @@ use Rattle.ap_events.proofs.lines.put_checkpoints.Given as goal
 
 -- the checkpoints so far stand before those of the marks that are left
 abbrev pub invariant-loop-mark : goal.invariant-loop-mark
-invariant-loop-mark l = l.text ++ checkpoints_of (drop l.mark-index l.marks) ≡ l.fn.text ++ checkpoints_of l.marks
+invariant-loop-mark g l = l.text ++ checkpoints_of (drop l.mark-index l.marks) ≡ l.fn.text ++ checkpoints_of l.marks

@@ -3,4 +3,4 @@ use Rattle.ap_events.proofs.lines.put_process.Goals as goal
 
 pub returns-in-Generalize : goal.returns-in-Generalize
 unfolding process_text
-returns-in-Generalize c = rw c.in-Generalize.is c.put_counted-in-Generalize.ensures
+returns-in-Generalize g c = rw c.in-Generalize.is c.put_counted-in-Generalize.ensures

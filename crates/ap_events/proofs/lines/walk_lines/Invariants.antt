@@ -5,10 +5,10 @@ use Rattle.ap_events.proofs.lines.walk_lines.Given as goal
 
 -- the lines so far stand before those of the walks that are left
 abbrev pub invariant-loop-left : goal.invariant-loop-left
-invariant-loop-left l = record {
+invariant-loop-left g l = record {
   few : mark_count l.left + 1 < 2 ^ 32;
   told : l.text ++ walks_text l.left ≡ walks_text l.walks;
 }
 
 abbrev pub decreases-loop-left : goal.decreases-loop-left
-decreases-loop-left l = length l.left
+decreases-loop-left g l = length l.left

@@ -1,4 +1,4 @@
-use Rattle.std.proofs.Common.{ap, subst, ◌∙◌, Some, ◌≡◌, true, length, IfOk, IsTrue}
+use Rattle.std.proofs.Common.{ap, subst, ◌∙◌, Some, length, IfOk, IsTrue}
 use Rattle.ap_world.specs.declared.entry.Entry.TheVariants as entry
 use Rattle.ap_world.specs.Sound.{known}
 use Rattle.ap_world.specs.World.{Shown, function_of}

@@ -1,4 +1,4 @@
-use Rattle.std.proofs.Common.{◌≡◌, ◌∙◌, Ok, sym, ap, subst, refl, IfOk, true, option_map}
+use Rattle.std.proofs.Common.{◌≡◌, Ok, subst, refl, true}
 use Rattle.ap_list.specs.Lists.{Each}
 use Rattle.ap_world.specs.declared.entry.Defun.{Defun}
 use Rattle.ap_world.specs.Sound.{known, components}

@@ -5,7 +5,7 @@ use Rattle.ap_strategy.specs.Goals.{defs_of}
 use Rattle.ap_strategy.proofs.stepping.cases.Goals as goal
 
 pub returns-clause-few : goal.returns-clause-few
-returns-clause-few c =
+returns-clause-few g c =
     let t = c.args.task.now in
     let s = c.in-Some.found in
     let made : scheme_of (defs_of t.plan) t.settings.theory t.clause t.scheme ≡ Some (s.call, s.reduction.says) = search rules in
