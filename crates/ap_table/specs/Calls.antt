@@ -1,4 +1,4 @@
--- What each call does to the table.
+-- What each call does to the table's nodes.
 use Rattle.std.specs.Prelude.{◌≡◌, ◌≢◌, ℕ, ◌+◌, ◌≤◌, ◌<◌, List, [], ◌∷◌, ◌++◌, length, Option, Some, None}
 use Rattle.std.specs.List.{slice_get}
 use Rattle.ap_list.specs.Lists.{AnyOf}

@@ -3,7 +3,8 @@ use Rattle.ap_walk.specs.declared.act.Stepped.{Stepped}
 use Rattle.ap_table.specs.Core.{root}
 use Rattle.ap_table.specs.Sound.{AreAllowed}
 use Rattle.ap_table.specs.Shown.{Run, turns}
-use Rattle.std.specs.Prelude.{ℕ}
+use Rattle.ap_table.specs.Ended.{HasEnded}
+use Rattle.std.specs.Prelude.{◌≡◌, ◌≤◌, ℕ, Bool, false, length}
 
 module _ {T : Type 0} (step : T → Stepped T) (depth : T → ℕ) where
   -- each step of the table was allowed
@@ -16,3 +17,13 @@ module _ {T : Type 0} (step : T → Stepped T) (depth : T → ℕ) where
     pub new : Run T
     pub allowed : WasAllowed new
     pub done : does old new
+
+  -- the call saw a table, each of whose steps was allowed, of which this holds
+  pub record OneLook (says : Run T → Type 0) : Type 0 where
+    pub run : Run T
+    pub allowed : WasAllowed run
+    pub said : says run
+
+  -- a worker that has seen so much of the history waits on: it is no longer, the root isn't done and the table isn't halted
+  abbrev pub Waits : ℕ → Run T → Bool → Type 0
+  Waits seen r halted = (length r.history ≤ seen) × (HasEnded step depth r → ⊥) × (halted ≡ false)

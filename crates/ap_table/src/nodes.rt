@@ -91,6 +91,13 @@ impl<S: Step> Nodes<S> {
         })
     }
 
+    /// Whether the root is done.
+    pub fn is_done(&self) -> bool
+        ensures { IsTrue result ↔ HasEnded S.step_of S.depth self.now }
+    {
+        is_done(&self.nodes, 0)
+    }
+
     /// Whether the root is done, and its task and the table's rule are these.
     pub fn root_done(&self, step: &S, task: &S::Task, rule: Rule) -> bool
         ensures { IsTrue result ↔ IsRootDone S.step_of S.depth self.now task.now rule }
@@ -101,7 +108,7 @@ impl<S: Step> Nodes<S> {
         if !step.same_task(&self.root, task) {
             return false;
         }
-        is_done(&self.nodes, 0)
+        self.is_done()
     }
 
     /// The steps that were taken, in their order.

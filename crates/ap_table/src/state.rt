@@ -137,6 +137,13 @@ impl<S: Step> TableState<S> {
         }
     }
 
+    /// Whether the root is done. It looks at one node.
+    pub fn is_done(&self) -> bool
+        ensures { IsTrue result ↔ HasEnded S.step_of S.depth self.now }
+    {
+        self.nodes.is_done()
+    }
+
     /// Whether the root is done, and its task and the table's rule are these.
     pub fn root_done(&self, step: &S, task: &S::Task, rule: Rule) -> bool
         ensures { IsTrue result ↔ IsRootDone S.step_of S.depth self.now task.now rule }

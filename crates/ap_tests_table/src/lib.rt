@@ -7,3 +7,5 @@ mod shared;
 mod tables;
 #[cfg(test)]
 mod trees;
+#[cfg(test)]
+mod waiting;

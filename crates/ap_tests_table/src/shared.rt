@@ -9,14 +9,14 @@ use std::process::Abort;
 use std::sync::Wait;
 
 /// An initial walk without the switch.
-const RULE: Rule = Rule {
+pub(crate) const RULE: Rule = Rule {
     initial: true,
     otf: false,
     goal_limit: 100,
 };
 
 /// The job of the node that is claimed next.
-fn claim(rt: &(impl Abort + Wait), table: &GoalTable<Trees>, node: u32) -> Job<Tree> {
+pub(crate) fn claim(rt: &(impl Abort + Wait), table: &GoalTable<Trees>, node: u32) -> Job<Tree> {
     let Claim::Found(job) = table.claim(rt) else {
         panic!(rt; "no node is free");
     };
@@ -24,13 +24,13 @@ fn claim(rt: &(impl Abort + Wait), table: &GoalTable<Trees>, node: u32) -> Job<T
     job
 }
 
-/// Expands the root into three children.
-fn expand_root(
+/// Expands the root, by its job, into three children.
+pub(crate) fn expand_root(
     rt: &(impl Abort + Wait),
     alloc: Global,
     table: &GoalTable<Trees>,
+    job: Job<Tree>,
 ) -> Result<(), NoMemory> {
-    let job = claim(rt, table, 0);
     let stepped = Trees.step(alloc, &job.task)?;
     let Out::Split(children) = &stepped.out else {
         panic!(rt; "a task that doesn't split");
@@ -51,7 +51,7 @@ fn expand_root(
 }
 
 /// Puts the serial walk of a job's task, after a look for each of its marks. Answers whether it was kept.
-fn put(
+pub(crate) fn put(
     rt: &(impl Abort + Wait),
     alloc: Global,
     table: &GoalTable<Trees>,
@@ -71,7 +71,8 @@ fn put(
 fn the_state_is_what_the_calls_left(rt: HostRuntime) -> Result<(), NoMemory> {
     let alloc = rt.alloc();
     let table = begin(alloc, &Trees, Tree::Three, RULE)?;
-    expand_root(&rt, alloc, &table)?;
+    let root = claim(&rt, &table, 0);
+    expand_root(&rt, alloc, &table, root)?;
     let a = claim(&rt, &table, 1);
     let b = claim(&rt, &table, 2);
     let c = claim(&rt, &table, 3);

@@ -1,0 +1,4 @@
+use Rattle.ap_table.proofs.table.GoalTable.length.Goals as goal
+
+pub returns : goal.returns
+returns g c = record { run = _; allowed = c.length.ensures.allowed; said = c.length.ensures.is }
