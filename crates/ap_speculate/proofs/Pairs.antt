@@ -1,5 +1,5 @@
 -- Two lists of which the first elements were changed, one after another.
-use Rattle.std.proofs.Common.{◌≡◌, ℕ, zero, suc, ◌+◌, ◌<◌, ◌≤◌, List, [], ◌∷◌, length, get_or, set, refl, sym, ◌∙◌, ap, subst, arith, inl, inr, add-one}
+use Rattle.std.proofs.Common.{◌≡◌, ℕ, zero, suc, ◌+◌, ◌<◌, ◌≤◌, List, [], ◌∷◌, length, get_or, set, refl, sym, subst, arith, inl, inr, add-one}
 use Rattle.ap_list.specs.Lists.{AnyOf}
 use Rattle.ap_speculate.specs.Jobs.{Both}
 

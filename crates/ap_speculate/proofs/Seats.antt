@@ -1,6 +1,8 @@
 -- What looks leave of a seat.
-use Rattle.std.proofs.Common.{◌≡◌, ℕ, ◌+◌, ◌<◌, ◌≤◌, [], ◌∷◌, subst, refl, sym, ◌∙◌, arith, List, length}
+use Rattle.std.proofs.Common.{◌≡◌, ℕ, ◌+◌, ◌<◌, ◌≤◌, [], ◌∷◌, subst, refl, sym, ◌∙◌, arith, List}
+use Rattle.ap_list.specs.Lists.{Each}
 use Rattle.ap_word.specs.Seats.{seat_view}
+use Rattle.ap_table.specs.Seated.{HasLooked}
 use Rattle.ap_table.specs.declared.seats.AncestorSeat.{AncestorSeat}
 use Rattle.ap_speculate.specs.Jobs.{Both, Stays, LookedOn, JobStays}
 use Rattle.ap_table.specs.declared.stored.Job.{Job}
@@ -68,3 +70,10 @@ by_on many some old new l = record { looks = l.looks; low = l.low some }
 -- a job that wasn't touched
 pub same_job : {T : Type 0} (j : Job T) → JobStays j j
 same_job j = record { task = refl; rule = refl; node = refl; seats = both_same Stays stays_same j.seats }
+
+-- a seat that looked so often can be handed in with so many marks
+pub done_looked : (many : ℕ) (olds news : List AncestorSeat) → Both (LookedOn many) olds news → Each (HasLooked many) news
+done_looked many [] [] b = tt
+done_looked many [] (y ∷ ys) b = absurd b
+done_looked many (x ∷ xs) [] b = absurd b
+done_looked many (x ∷ xs) (y ∷ ys) b = let l = b.0.looks in (record { looks = omega arith; low = b.0.low }, done_looked many xs ys b.1)

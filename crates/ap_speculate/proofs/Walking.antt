@@ -1,5 +1,5 @@
 -- The walk of a list of tasks that is left, one visit after another.
-use Rattle.std.proofs.Common.{◌≡◌, ◌≢◌, ℕ, suc, ◌+◌, ◌<◌, ◌≤◌, List, [], ◌∷◌, ◌++◌, length, reverse, refl, sym, ◌∙◌, ap, subst, append_assoc, append-nil, arith, length-append}
+use Rattle.std.proofs.Common.{◌≡◌, ◌≢◌, ℕ, ◌+◌, ◌<◌, List, [], ◌∷◌, ◌++◌, length, reverse, refl, sym, ◌∙◌, ap, append_assoc, append-nil, arith, length-append}
 use Rattle.std.proofs.lemmas.List.{reverse-append}
 use Rattle.ap_list.specs.Lists.{Each}
 use Rattle.ap_walk.specs.declared.act.Stepped.{Stepped}
@@ -8,8 +8,8 @@ use Rattle.ap_walk.specs.declared.rule.Rule.{Rule}
 use Rattle.ap_walk.specs.declared.rule.End.{End}
 use Rattle.ap_walk.specs.declared.mark.Walked.{Walked}
 use Rattle.ap_walk.specs.Visits.{Visit, visit_of, out_children}
-use Rattle.ap_walk.specs.Tallies.{IsOpen, zero_tally, tally_at, mark_end}
-use Rattle.ap_walk.specs.Walks.{nothing, before, and_then, join_each, all_marks, one_mark, cut, full}
+use Rattle.ap_walk.specs.Tallies.{IsOpen, zero_tally, mark_end}
+use Rattle.ap_walk.specs.Walks.{before, and_then, join_each, all_marks, one_mark, cut, full}
 use Rattle.ap_walk.proofs.Cuts.{and_then_before, and_then_nothing}
 use Rattle.ap_walk.proofs.Stops.{opened_mark}
 use Rattle.ap_walk.proofs.Trees.{all_marks_is}

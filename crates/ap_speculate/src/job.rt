@@ -1,7 +1,7 @@
 //! One job of a worker.
-ghost use Rattle.std.specs.Prelude.{◌≡◌, IfOk};
-ghost use Rattle.ap_walk.specs.Walks.{full};
-ghost use Rattle.ap_speculate.specs.Jobs.{Both, Stays, JobStays, IsDone, IsDropped, SeatsDone, SeatsDropped};
+ghost use Rattle.std.specs.Prelude.{IfOk, IfSome};
+ghost use Rattle.ap_list.specs.Lists.{AnyOf};
+ghost use Rattle.ap_speculate.specs.Jobs.{Both, Stays, ReadBelow, JobStays, IsDone, IsDropped, SeatsDone, SeatsDropped};
 
 use crate::gate::{Gate, Place};
 use crate::looking::look_at_all;
@@ -54,6 +54,17 @@ fn walk<S: Step>(
         leave(&mut left, out)?;
     }
     Ok(JobEnd::Done(so_far))
+}
+
+/// Looks at the word of each family above a job's node, once or up to the first that tells to drop the job.
+pub(crate) fn look_at_job<T>(alloc: Global, job: &mut Job<T>) -> Option<License>
+    ensures stays { JobStays job.old job.new }
+    ensures dropped { IfSome result (λ l. AnyOf (ReadBelow l) job.new.seats) }
+{
+    let mut seats = mem::replace(&mut job.seats, Seq::new(alloc)).into_vec();
+    let license = look_at_all(seats.as_mut_slice());
+    job.seats = Seq::from_vec(seats);
+    license
 }
 
 /// The walk of a job's task, which takes the job's seats out and puts them back.

@@ -3,10 +3,14 @@
 //! family above; where one tells that the serial walk stops before the node, the node is dropped.
 #![tactic(auto)]
 
+mod board;
 mod gate;
 mod job;
 mod looking;
+mod sharing;
+mod turn;
 mod visiting;
 
 pub use gate::{Gate, NoGate, Place};
 pub use job::{JobEnd, run_job};
+pub use sharing::speculate;

@@ -1,6 +1,5 @@
 -- Each round takes the next task that is left, with one look of each seat.
-use Rattle.std.proofs.Common.{◌≡◌, ◌<◌, ◌+◌, [], ◌∷◌, ◌++◌, length, refl, sym, ◌∙◌, ap, subst, arith, inl, inr, length-append}
-use Rattle.std.specs.Prelude.{◌⊎◌}
+use Rattle.std.proofs.Common.{◌<◌, [], ◌∷◌, length, refl, sym, ◌∙◌, ap, subst, arith, inl, inr, length-append}
 use Rattle.std.proofs.lemmas.List.{nil_from_length}
 use Rattle.ap_walk.specs.Walks.{full}
 use Rattle.ap_walk.proofs.Bounds.{zero_open}
@@ -19,7 +18,7 @@ seats_stay g c = looked_less (length c.loop-task.so_far.marks) c.args.seats.now 
 -- the visit of a round
 visited : (g : Over) (c : In_ok-visit g)
     → Visited g.S.Step.step_of g.S.Step.depth c.args.rule (full g.S.Step.step_of g.S.Step.depth c.args.rule c.args.task) c.loop-task.left.items c.pop.new.self.items c.in-Some.task c.in_ok-act.field-0
-      c.loop-task.so_far c.visit.new.so_far c.mark_of-mark.result
+    c.loop-task.so_far c.visit.new.so_far c.mark_of-mark.result
 visited g c = record {
   to_come = c.loop-task.invariant.to_come;
   next_is = c.in-Some.ensures.items;
@@ -98,6 +97,6 @@ returns-clause-done g c =
     let none = nil_from_length c.loop-task.left.items (sym c.loop-task.left.ok.0 ∙ c.in_default.ensures.cases.0) in
     let some : 0 < length c.loop-task.so_far.marks = elim c.loop-task.invariant.some [ inl s ↦ s | inr s ↦ absurd (let l = ap (λ l. length l) none in omega arith) ] in (
       ends_all g.S.Step.step_of g.S.Step.depth g.met.S.Step.deeper c.args.rule (full g.S.Step.step_of g.S.Step.depth c.args.rule c.args.task) c.loop-task.left.items c.loop-task.so_far c.loop-task.invariant.to_come
-      none c.loop-task.invariant.through,
+          none c.loop-task.invariant.through,
       both_as (LookedBy (length c.loop-task.so_far.marks)) (LookedOn (length c.loop-task.so_far.marks)) (by_on (length c.loop-task.so_far.marks) some) c.args.seats.now c.loop-task.seats c.loop-task.invariant.seats,
     )

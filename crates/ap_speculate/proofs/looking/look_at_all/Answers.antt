@@ -1,4 +1,4 @@
-use Rattle.std.proofs.Common.{◌<◌, ◌≤◌, length, arith}
+use Rattle.std.proofs.Common.{arith}
 use Rattle.ap_speculate.specs.Jobs.{Stays, LookedOn, ReadBelow}
 use Rattle.ap_speculate.proofs.Pairs.{both_as, upto_all, upto_next, upto_last, any_of_set}
 use Rattle.ap_speculate.proofs.Seats.{Looked, stays_same, looked_stays, looked_on}

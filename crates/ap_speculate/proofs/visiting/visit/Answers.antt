@@ -1,4 +1,4 @@
-use Rattle.std.proofs.Common.{◌≡◌, [], ◌∷◌, ◌++◌, ◌∙◌, ap}
+use Rattle.std.proofs.Common.{[], ◌∷◌, ◌++◌, ◌∙◌, ap}
 use Rattle.ap_speculate.proofs.Walking.{one_more, one_opened}
 use Rattle.ap_speculate.proofs.visiting.visit.Goals as goal
 
