@@ -1,5 +1,5 @@
 //! A worker's turns.
-ghost use Rattle.std.specs.Prelude.{◌≤◌, IsTrue, length};
+ghost use Rattle.std.specs.Prelude.{◌≡◌, ◌≤◌, IsTrue, IfOk, IfSome, length};
 ghost use Rattle.ap_walk.specs.Visits.{out_children};
 
 use crate::board::{Board, Shared};
@@ -10,6 +10,9 @@ use ap_walk::{NoMemory, Out, Step, Stepped};
 use std::alloc::{AllocError, Global};
 use std::sync::Wait;
 
+/// A node with so many families above it isn't expanded.
+const MOST_FAMILIES: usize = 3;
+
 /// Whether a task splits into two tasks or more.
 fn splits<T>(stepped: &Stepped<T>) -> bool
     ensures { IsTrue result → 2 ≤ length (out_children stepped.now.out) }
@@ -18,6 +21,22 @@ fn splits<T>(stepped: &Stepped<T>) -> bool
         Out::Split(children) => children.len() >= 2,
         Out::Push | Out::Stop(_) => false,
     }
+}
+
+/// The step of a job's task, where the job's node is to be expanded: it splits into two tasks or more, and fewer than
+/// three families are above the node. The only error is want of memory.
+fn expansion<S: Step>(
+    alloc: Global,
+    step: &S,
+    job: &Job<S::Task>,
+) -> Result<Option<Stepped<S::Task>>, NoMemory>
+    ensures { IfOk result (λ o. IfSome o (λ s. (s ≡ S.step_of job.now.task) × (2 ≤ length (out_children s.out)))) }
+{
+    let stepped = step.step(alloc, &job.task)?;
+    if job.seats.len() >= MOST_FAMILIES || !splits(&stepped) {
+        return Ok(None);
+    }
+    Ok(Some(stepped))
 }
 
 /// Walks a claimed job, and puts the walk or drops the job. A job that the table refuses is given up.
@@ -54,10 +73,9 @@ pub(crate) fn work_claimed<S: Step, B: Board<S>, G: Gate, R: Wait>(
         board.put_drop(step, job, license);
         return Ok(());
     }
-    let stepped = step.step(alloc, &job.task)?;
-    if job.seats.len() >= 3 || !splits(&stepped) {
+    let Some(stepped) = expansion(alloc, step, &job)? else {
         return walk_claimed(rt, alloc, step, board, job, worker, gate);
-    }
+    };
     match board.expand(alloc, step, job, stepped) {
         Grown::Family { .. } => Ok(()),
         Grown::Stranger(job, _) => walk_claimed(rt, alloc, step, board, job, worker, gate),
