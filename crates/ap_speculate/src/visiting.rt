@@ -31,7 +31,7 @@ pub(crate) fn mark_of<T>(task: T, act: Act, out: &Out<T>) -> Mark<T>
     }
 }
 
-/// Adds a visit to a walk.
+/// Adds a visit to a walk. The cut of its one mark tells what it counts, and whether the walk ends there.
 pub(crate) fn visit<T: Drop>(
     alloc: Global,
     rule: Rule,

@@ -1,10 +1,40 @@
-//! A gate that holds one job until another is done.
+//! A gate that counts who passes, and one that holds one job until another is done.
 
 use ap_speculate::{Gate, Place};
 use std::sync::Wait;
 use std::sync::atomic::AtomicU64;
 use std::sync::atomic::Ordering::SeqCst;
 use std::thread;
+
+/// Counts how often each place was passed.
+#[derive(Drop)]
+pub(crate) struct Passed {
+    begun: AtomicU64,
+    done: AtomicU64,
+}
+
+impl Passed {
+    pub(crate) fn new() -> Passed {
+        Passed {
+            begun: AtomicU64::new(0),
+            done: AtomicU64::new(0),
+        }
+    }
+
+    /// How many jobs were begun, and how many were done.
+    pub(crate) fn counts(&self) -> (u64, u64) {
+        (self.begun.load(SeqCst), self.done.load(SeqCst))
+    }
+}
+
+impl Gate for Passed {
+    fn pass<R: Wait>(&self, _rt: &R, _worker: u32, _goal: &[u8], place: Place) {
+        match place {
+            Place::Begin => self.begun.fetch_add(1, SeqCst),
+            Place::Done => self.done.fetch_add(1, SeqCst),
+        };
+    }
+}
 
 /// For how many turns a job is held at most.
 const MOST_TURNS: u32 = 10_000;

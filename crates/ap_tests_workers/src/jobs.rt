@@ -1,8 +1,9 @@
 //! One job, on one thread.
 
+use crate::gates::Passed;
 use crate::tree::{Counting, Task, fresh_step};
 use crate::walks::same_walk;
-use ap_speculate::{JobEnd, NoGate, run_job};
+use ap_speculate::{JobEnd, run_job};
 use ap_table::{Claim, Grown, Job, License, TableState, Taken, first};
 use ap_walk::{NoMemory, Out, Rule, Step, serial};
 use std::alloc::Global;
@@ -58,9 +59,10 @@ fn put<R: Wait>(
     step: &Counting,
     state: &mut TableState<Counting>,
     job: Job<Task>,
+    gate: &Passed,
 ) -> Result<bool, NoMemory> {
     let mut job = job;
-    let JobEnd::Done(walked) = run_job(rt, alloc, step, &mut job, 0, &NoGate)? else {
+    let JobEnd::Done(walked) = run_job(rt, alloc, step, &mut job, 0, gate)? else {
         return Ok(false);
     };
     match state.put_step(step, job, walked) {
@@ -73,16 +75,17 @@ fn put<R: Wait>(
 fn a_job_behind_a_stop_is_dropped(rt: HostRuntime) -> Result<(), NoMemory> {
     let alloc = rt.alloc();
     let step = fresh_step();
+    let gate = Passed::new();
     let mut state = expanded(&rt, alloc, &step)?;
     let a = claim(&rt, &mut state, 1);
     let mut b = claim(&rt, &mut state, 2);
     let mut c = claim(&rt, &mut state, 3);
-    let JobEnd::Done(walked) = run_job(&rt, alloc, &step, &mut b, 0, &NoGate)? else {
+    let JobEnd::Done(walked) = run_job(&rt, alloc, &step, &mut b, 0, &gate)? else {
         panic!(rt; "nothing is marked, and it was dropped");
     };
     assert!(rt; same_walk(&walked, &serial(alloc, &step, &b.task, RULE)?));
-    assert!(rt; put(&rt, alloc, &step, &mut state, a)?);
-    let JobEnd::Dropped(license) = run_job(&rt, alloc, &step, &mut c, 0, &NoGate)? else {
+    assert!(rt; put(&rt, alloc, &step, &mut state, a, &gate)?);
+    let JobEnd::Dropped(license) = run_job(&rt, alloc, &step, &mut c, 0, &gate)? else {
         panic!(rt; "the family stops before it, and it was walked");
     };
     let wanted = License {
@@ -90,6 +93,7 @@ fn a_job_behind_a_stop_is_dropped(rt: HostRuntime) -> Result<(), NoMemory> {
         index: 0,
     };
     assert_eq!(rt; license, wanted);
+    assert_eq!(rt; gate.counts(), (3, 2));
     let Taken::Kept = state.drop_step(&step, c, license) else {
         panic!(rt; "it wasn't dropped");
     };
