@@ -1,0 +1,5 @@
+pub mod Pairs
+pub mod Seats
+pub mod Walking
+pub mod Putting
+pub mod Crossing

@@ -1,0 +1,16 @@
+//! Workers that share a goal table: speculation over sibling subgoals (Rager, Hunt and Kaufmann, ITP 2013). A
+//! worker claims the first free node, expands it or walks it, and before each step looks at the word of each
+//! family above; where one tells that the serial walk stops before the node, the node is dropped.
+#![tactic(auto)]
+
+mod board;
+mod gate;
+mod job;
+mod looking;
+mod sharing;
+mod turn;
+mod visiting;
+
+pub use gate::{Gate, NoGate, Place};
+pub use job::{JobEnd, run_job};
+pub use sharing::speculate;

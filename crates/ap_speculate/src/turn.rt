@@ -1,0 +1,131 @@
+//! A worker's turns.
+ghost use Rattle.std.specs.Prelude.{◌≡◌, ◌≤◌, IsTrue, IfOk, IfSome, length};
+ghost use Rattle.ap_walk.specs.Visits.{out_children};
+
+use crate::board::{Board, Shared};
+use crate::gate::Gate;
+use crate::job::{JobEnd, look_at_job, run_job};
+use ap_table::{Claim, GoalTable, Grown, Job};
+use ap_walk::{NoMemory, Out, Step, Stepped};
+use std::alloc::{AllocError, Global};
+use std::sync::Wait;
+
+/// A node with so many families above it isn't expanded.
+const MOST_FAMILIES: usize = 3;
+
+/// Whether a task splits into two tasks or more.
+fn splits<T>(stepped: &Stepped<T>) -> bool
+    ensures { IsTrue result → 2 ≤ length (out_children stepped.now.out) }
+{
+    match &stepped.out {
+        Out::Split(children) => children.len() >= 2,
+        Out::Push | Out::Stop(_) => false,
+    }
+}
+
+/// The step of a job's task, where the job's node is to be expanded: it splits into two tasks or more, and fewer than
+/// three families are above the node. The only error is want of memory.
+fn expansion<S: Step>(
+    alloc: Global,
+    step: &S,
+    job: &Job<S::Task>,
+) -> Result<Option<Stepped<S::Task>>, NoMemory>
+    ensures { IfOk result (λ o. IfSome o (λ s. (s ≡ S.step_of job.now.task) × (2 ≤ length (out_children s.out)))) }
+{
+    let stepped = step.step(alloc, &job.task)?;
+    if job.seats.len() >= MOST_FAMILIES || !splits(&stepped) {
+        return Ok(None);
+    }
+    Ok(Some(stepped))
+}
+
+/// Walks a claimed job, and puts the walk or drops the job. A job that the table refuses is given up.
+fn walk_claimed<S: Step, B: Board<S>, G: Gate, R: Wait>(
+    rt: &R,
+    alloc: Global,
+    step: &S,
+    board: &mut B,
+    job: Job<S::Task>,
+    worker: u32,
+    gate: &G,
+) -> Result<(), NoMemory> {
+    let mut job = job;
+    match run_job(rt, alloc, step, &mut job, worker, gate)? {
+        JobEnd::Done(walked) => board.put(step, job, walked),
+        JobEnd::Dropped(license) => board.put_drop(step, job, license),
+    };
+    Ok(())
+}
+
+/// Works a claimed job: drops it where a family above it is known to stop before it; expands it where its task splits
+/// into two or more and fewer than three families are above it; or else walks it. The only error is want of memory.
+pub(crate) fn work_claimed<S: Step, B: Board<S>, G: Gate, R: Wait>(
+    rt: &R,
+    alloc: Global,
+    step: &S,
+    board: &mut B,
+    job: Job<S::Task>,
+    worker: u32,
+    gate: &G,
+) -> Result<(), NoMemory> {
+    let mut job = job;
+    if let Some(license) = look_at_job(alloc, &mut job) {
+        board.put_drop(step, job, license);
+        return Ok(());
+    }
+    let Some(stepped) = expansion(alloc, step, &job)? else {
+        return walk_claimed(rt, alloc, step, board, job, worker, gate);
+    };
+    match board.expand(alloc, step, job, stepped) {
+        Grown::Family { .. } => Ok(()),
+        Grown::Stranger(job, _) => walk_claimed(rt, alloc, step, board, job, worker, gate),
+        Grown::NoMemory(..) => Err(AllocError),
+    }
+}
+
+/// One turn at a table: works the first free node, or waits until there is more. Answers whether there may be another
+/// turn: not where the root is done.
+fn turn<S: Step, G: Gate, R: Wait>(
+    rt: &R,
+    alloc: Global,
+    step: &S,
+    table: &GoalTable<S>,
+    worker: u32,
+    gate: &G,
+) -> Result<bool, NoMemory> {
+    let seen = table.length(rt);
+    let Claim::Found(job) = table.claim(rt) else {
+        return Ok(table.wait_more(rt, seen) > seen);
+    };
+    work_claimed(
+        rt,
+        alloc,
+        step,
+        &mut Shared { rt, table },
+        job,
+        worker,
+        gate,
+    )?;
+    Ok(true)
+}
+
+/// Takes turns at a table until the root is done or the table is halted. A worker that is refused memory halts it.
+pub(crate) fn work<S: Step, G: Gate, R: Wait>(
+    rt: &R,
+    alloc: Global,
+    step: &S,
+    table: &GoalTable<S>,
+    worker: u32,
+    gate: &G,
+) {
+    for _ in rt.forever() {
+        if table.halted(rt) {
+            return;
+        }
+        match turn(rt, alloc, step, table, worker, gate) {
+            Ok(true) => {}
+            Ok(false) => return,
+            Err(_) => table.halt(rt),
+        }
+    }
+}

@@ -1,0 +1,173 @@
+//! What workers put together is what the serial walk gives.
+ghost use Rattle.std.specs.Prelude.{◌≤◌};
+
+use crate::gates::Holding;
+use crate::tree::{Counting, Task, fresh_step};
+use ap_speculate::{Gate, NoGate, speculate};
+use ap_walk::{End, Mark, NoMemory, Reason, Rule, Walked, serial};
+use std::alloc::Global;
+use std::process::Abort;
+use std::sync::Wait;
+use std::sync::atomic::Ordering::SeqCst;
+use std::thread::Threads;
+
+/// How often each walk is made.
+const TIMES: u32 = 20;
+
+/// A root with three children, each of which splits into no tasks.
+const THREE: Task = Task {
+    level: 1,
+    number: 0,
+};
+
+/// The rule of an initial walk.
+fn initial(otf: bool, goal_limit: u32) -> Rule
+    requires limited { (1 ≤ goal_limit) × (goal_limit ≤ 200002) }
+{
+    Rule {
+        initial: true,
+        otf,
+        goal_limit,
+    }
+}
+
+/// The walk that workers make of a root.
+fn worked<G: Gate + Sync, R: Threads + Wait + Sync>(
+    rt: &R,
+    alloc: Global,
+    step: &Counting,
+    root: Task,
+    rule: Rule,
+    workers: u32,
+    gate: &G,
+) -> Result<Walked<Task>, NoMemory> {
+    let state = speculate(rt, alloc, step, &root, rule, workers, gate)?;
+    let (walked, _) = state.finish(alloc, step)?;
+    Ok(walked)
+}
+
+/// Whether two marks are equal.
+fn same_mark(a: &Mark<Task>, b: &Mark<Task>) -> bool {
+    a.task == b.task && a.act == b.act && a.children == b.children
+}
+
+/// Whether two walks are equal.
+pub(crate) fn same_walk(a: &Walked<Task>, b: &Walked<Task>) -> bool {
+    let marks = a.marks.as_slice();
+    let others = b.marks.as_slice();
+    if marks.len() != others.len() || a.tally != b.tally || a.end != b.end {
+        return false;
+    }
+    for (mark, other) in marks.iter().zip(others) {
+        if !same_mark(mark, other) {
+            return false;
+        }
+    }
+    true
+}
+
+/// Compares the walks of a root, of so many marks and with this end.
+fn expect_serial<R: Threads + Wait + Abort + Sync>(
+    rt: &R,
+    alloc: Global,
+    root: Task,
+    rule: Rule,
+    wanted: (usize, End),
+) -> Result<(), NoMemory> {
+    let step = fresh_step();
+    let serial = serial(alloc, &step, &root, rule)?;
+    assert_eq!(rt; (serial.marks.len(), serial.end), wanted);
+    for workers in [1, 2, 3, 8, 64] {
+        for _ in 0..TIMES {
+            let walked = worked(rt, alloc, &step, root, rule, workers, &NoGate)?;
+            assert!(rt; same_walk(&walked, &serial));
+        }
+    }
+    Ok(())
+}
+
+#[test]
+fn a_walk_goes_through(rt: HostRuntime) -> Result<(), NoMemory> {
+    let root = Task {
+        level: 4,
+        number: 11,
+    };
+    expect_serial(
+        &rt,
+        rt.alloc(),
+        root,
+        initial(true, 1000),
+        (49, End::Through),
+    )
+}
+
+#[test]
+fn a_walk_reverts(rt: HostRuntime) -> Result<(), NoMemory> {
+    let root = Task {
+        level: 4,
+        number: 11,
+    };
+    expect_serial(
+        &rt,
+        rt.alloc(),
+        root,
+        initial(false, 1000),
+        (32, End::Revert),
+    )
+}
+
+#[test]
+fn a_walk_stops_early(rt: HostRuntime) -> Result<(), NoMemory> {
+    let root = Task {
+        level: 4,
+        number: 111,
+    };
+    let stopped = End::Stopped(Reason::NoScheme);
+    expect_serial(&rt, rt.alloc(), root, initial(false, 1000), (30, stopped))
+}
+
+#[test]
+fn a_walk_stops_late(rt: HostRuntime) -> Result<(), NoMemory> {
+    let root = Task {
+        level: 4,
+        number: 15,
+    };
+    let stopped = End::Stopped(Reason::NoScheme);
+    expect_serial(&rt, rt.alloc(), root, initial(true, 1000), (47, stopped))
+}
+
+#[test]
+fn a_walk_comes_to_its_limit(rt: HostRuntime) -> Result<(), NoMemory> {
+    let root = Task {
+        level: 4,
+        number: 11,
+    };
+    expect_serial(&rt, rt.alloc(), root, initial(true, 25), (25, End::Limit))
+}
+
+#[test]
+fn a_claimed_task_is_stepped_twice_at_most(rt: HostRuntime) -> Result<(), NoMemory> {
+    let step = fresh_step();
+    let walked = worked(
+        &rt,
+        rt.alloc(),
+        &step,
+        THREE,
+        initial(false, 100),
+        2,
+        &NoGate,
+    )?;
+    assert_eq!(rt; (walked.marks.len(), walked.end), (4, End::Through));
+    assert!(rt; step.calls.load(SeqCst) <= 7);
+    Ok(())
+}
+
+#[test]
+fn two_children_are_worked_at_a_time(rt: HostRuntime) -> Result<(), NoMemory> {
+    let step = fresh_step();
+    let gate = Holding::new();
+    let walked = worked(&rt, rt.alloc(), &step, THREE, initial(false, 100), 2, &gate)?;
+    assert_eq!(rt; (walked.marks.len(), walked.end), (4, End::Through));
+    assert!(rt; !gate.is_used_up());
+    Ok(())
+}
