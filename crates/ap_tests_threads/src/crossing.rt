@@ -11,8 +11,10 @@ use ap_ground::laws::ground_has_its_functions;
 use ap_hints::no_hints;
 use ap_list::{NoMemory, Seq};
 use ap_rules::Ruled;
+use ap_speculate::speculate;
 use ap_strategy::{Acl2Step, Plan, Planned, Task};
 use ap_term::Term;
+use ap_tests_workers::Holding;
 use ap_value::{Value, acl2};
 use ap_walk::{Rule, Step, serial};
 use ap_world::World;
@@ -45,14 +47,16 @@ fn a_world_is_read_and_dropped_elsewhere(rt: HostRuntime) -> Result<(), Fail> {
     Ok(())
 }
 
+/// The rule of the walks.
+const RULE: Rule = Rule {
+    initial: true,
+    otf: true,
+    goal_limit: 100,
+};
+
 /// How many tasks the walk of a task visits. Task and walk are dropped.
 fn visits<S: Step>(alloc: Global, step: &S, task: S::Task) -> Result<usize, NoMemory> {
-    let rule = Rule {
-        initial: true,
-        otf: true,
-        goal_limit: 100,
-    };
-    let walked = serial(alloc, step, &task, rule)?;
+    let walked = serial(alloc, step, &task, RULE)?;
     Ok(walked.marks.len())
 }
 
@@ -148,5 +152,35 @@ fn waterfall_elsewhere<J: Planned + Send + Sync, R: Threads + Wait + Sync>(
 fn a_goal_is_walked_and_dropped_elsewhere(rt: HostRuntime) -> Result<(), Fail> {
     let plan = first_plan(rt.alloc())?;
     assert!(rt; waterfall_elsewhere::<Brand, _>(&rt, rt.alloc(), &plan)? == 6);
+    Ok(())
+}
+
+/// How many goals the waterfall visits in the walk of the conjecture, worked by two workers that pass a gate.
+fn waterfall_by_two<J: Planned + Send + Sync, R: Threads + Wait + Sync>(
+    rt: &R,
+    alloc: Global,
+    plan: &Plan,
+    gate: &Holding,
+) -> Result<usize, NoMemory>
+    requires brand { plan.now ≡ J.plan }
+    requires functions { HasFunctions (defs_of plan.now) }
+    requires hints { KnownHints plan.now.world.entries plan.now.hints }
+{
+    shown::<Term>();
+    shown::<Value>();
+    let step: Acl2Step<'_, J> = Acl2Step::new(plan);
+    let task: Task<'_, J> = root(alloc, plan, &conjecture(alloc)?)?;
+    let state = speculate(rt, alloc, &step, &task, RULE, 2, gate)?;
+    let (walked, _) = state.finish(alloc, &step)?;
+    Ok(walked.marks.len())
+}
+
+/// Two goals of a real attempt are worked at a time: `Subgoal 3` waits at the gate until `Subgoal 2` is done.
+#[test]
+fn two_goals_are_worked_at_a_time(rt: HostRuntime) -> Result<(), Fail> {
+    let plan = first_plan(rt.alloc())?;
+    let gate = Holding::new();
+    assert!(rt; waterfall_by_two::<Brand, _>(&rt, rt.alloc(), &plan, &gate)? == 6);
+    assert!(rt; !gate.is_used_up());
     Ok(())
 }

@@ -39,15 +39,17 @@ impl Gate for Passed {
 /// For how many turns a job is held at most.
 const MOST_TURNS: u32 = 10_000;
 
-/// Holds the third child of a task back until the second one is done. Each word is 0 until that is so, and 1 then.
+/// Holds the third child of a task back until the second one is done, for 10,000 turns at most. Each word is 0 until
+/// that is so, and 1 then.
 #[derive(Drop)]
-pub(crate) struct Holding {
+pub struct Holding {
     second_is_done: AtomicU64,
     used_up: AtomicU64,
 }
 
 impl Holding {
-    pub(crate) fn new() -> Holding {
+    /// A gate that nobody has passed.
+    pub fn new() -> Holding {
         Holding {
             second_is_done: AtomicU64::new(0),
             used_up: AtomicU64::new(0),
@@ -55,7 +57,7 @@ impl Holding {
     }
 
     /// Whether all turns were used up.
-    pub(crate) fn is_used_up(&self) -> bool {
+    pub fn is_used_up(&self) -> bool {
         self.used_up.load(SeqCst) == 1
     }
 

@@ -1,5 +1,5 @@
 use denote.Exit.{yes}
-use denote.Param.Send.{IsSend, IsSync, sendable}
+use denote.Param.Send.{IsSend, sendable}
 use Rattle.std.proofs.Crossing.{crosses}
 use Rattle.ap_term.specs.contracts.term.Term as term
 use Rattle.ap_value.specs.contracts.value.Value as value
