@@ -25,6 +25,8 @@ use ap_speculate::{NoGate, speculate};
 use ap_walk::*;
 use std::alloc::Global;
 use std::env;
+use std::sync::Wait;
+use std::thread::Threads;
 use std::time::Instant;
 
 /// A task whose step spins for so many rounds, and then splits into so many tasks, whose steps spin for so many, and more
@@ -105,18 +107,21 @@ impl Step for Spins {
     }
 }
 
-/// The milliseconds in which so many workers work the task, and the marks of its walk.
-fn time(rt: &HostRuntime, workers: u32, task: Spun) -> anyhow::Result<(u128, usize)> {
-    let alloc = rt.alloc();
+/// The marks of the task's walk, worked by so many workers.
+fn marks<R: Threads + Wait + Sync>(
+    rt: &R,
+    alloc: Global,
+    workers: u32,
+    task: &Spun,
+) -> Result<usize, NoMemory> {
     let rule = Rule {
         initial: false,
         otf: false,
         goal_limit: 100_000,
     };
-    let start = Instant::now(rt)?;
-    let state = speculate(rt, alloc, &Spins, &task, rule, workers, &NoGate)?;
+    let state = speculate(rt, alloc, &Spins, task, rule, workers, &NoGate)?;
     let (walked, _) = state.finish(alloc, &Spins)?;
-    Ok((start.elapsed(rt)?.as_millis(), walked.marks.len()))
+    Ok(walked.marks.len())
 }
 
 fn main(rt: HostRuntime) -> anyhow::Result<()> {
@@ -135,8 +140,11 @@ fn main(rt: HostRuntime) -> anyhow::Result<()> {
     };
     for word in env::args(&rt)?.skip(1) {
         let workers: u32 = word.parse()?;
-        let (a, n) = time(&rt, workers, equal)?;
-        let (b, m) = time(&rt, workers, unequal)?;
+        let start = Instant::now(&rt)?;
+        let n = marks(&rt, rt.alloc(), workers, &equal)?;
+        let a = start.elapsed(&rt)?.as_millis();
+        let m = marks(&rt, rt.alloc(), workers, &unequal)?;
+        let b = start.elapsed(&rt)?.as_millis() - a;
         println!(rt; "{workers} workers: {a} ms for {n} equal parts, {b} ms for {m} unequal ones")?;
     }
     Ok(())
