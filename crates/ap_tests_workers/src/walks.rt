@@ -145,29 +145,43 @@ fn a_walk_comes_to_its_limit(rt: HostRuntime) -> Result<(), NoMemory> {
     expect_serial(&rt, rt.alloc(), root, initial(true, 25), (25, End::Limit))
 }
 
-#[test]
-fn a_claimed_task_is_stepped_twice_at_most(rt: HostRuntime) -> Result<(), NoMemory> {
+/// Works the root with three children by two workers, whose steps are counted.
+fn expect_few_steps<R: Threads + Wait + Sync + Abort>(
+    rt: &R,
+    alloc: Global,
+) -> Result<(), NoMemory> {
     let step = fresh_step();
-    let walked = worked(
-        &rt,
-        rt.alloc(),
-        &step,
-        THREE,
-        initial(false, 100),
-        2,
-        &NoGate,
-    )?;
+    let walked = worked(rt, alloc, &step, THREE, initial(false, 100), 2, &NoGate)?;
     assert_eq!(rt; (walked.marks.len(), walked.end), (4, End::Through));
     assert!(rt; step.calls.load(SeqCst) <= 7);
     Ok(())
 }
 
 #[test]
-fn two_children_are_worked_at_a_time(rt: HostRuntime) -> Result<(), NoMemory> {
+fn a_claimed_task_is_stepped_twice_at_most(rt: HostRuntime) -> Result<(), NoMemory> {
+    for _ in 0..TIMES {
+        expect_few_steps(&rt, rt.alloc())?;
+    }
+    Ok(())
+}
+
+/// Works the same by two workers, of which one is held at the third child until the second is done.
+fn expect_two_at_a_time<R: Threads + Wait + Sync + Abort>(
+    rt: &R,
+    alloc: Global,
+) -> Result<(), NoMemory> {
     let step = fresh_step();
     let gate = Holding::new();
-    let walked = worked(&rt, rt.alloc(), &step, THREE, initial(false, 100), 2, &gate)?;
+    let walked = worked(rt, alloc, &step, THREE, initial(false, 100), 2, &gate)?;
     assert_eq!(rt; (walked.marks.len(), walked.end), (4, End::Through));
     assert!(rt; !gate.is_used_up());
+    Ok(())
+}
+
+#[test]
+fn two_children_are_worked_at_a_time(rt: HostRuntime) -> Result<(), NoMemory> {
+    for _ in 0..TIMES {
+        expect_two_at_a_time(&rt, rt.alloc())?;
+    }
     Ok(())
 }
