@@ -5,6 +5,7 @@ use Rattle.ap_list.specs.Lists.{Each, is_among}
 use Rattle.ap_list.proofs.Eachs.{each_append}
 use Rattle.ap_value.specs.declared.symbol.Symbol.{Symbol}
 use Rattle.ap_reader.specs.declared.form.Form.{Form}
+use Rattle.ap_reader.specs.Tops.{layer_of, symbol_at, items_in, is_symbol, is_keyword}
 use Rattle.ap_term.specs.declared.term.Term.{Term, out-Term}
 use Rattle.ap_term.specs.declared.term.Term.TheOpen.{Term-F}
 use Rattle.ap_term.specs.Terms.{term_size, vars_after}
@@ -16,14 +17,12 @@ use Rattle.ap_world.specs.World.{Shown, function_of, theorem_of}
 use Rattle.ap_translate.specs.Answers as translation
 use Rattle.ap_translate.specs.declared.fault.TransKind.TheVariants as kinds
 use Rattle.ap_translate.specs.Laws.{HasMacroFunctions}
-use Rattle.ap_translate.specs.Parts.{layer_of, items_in, is_symbol}
 use Rattle.ap_translate.specs.Table as table
 use Rattle.ap_translate.proofs.Laws as law
 use Rattle.ap_hints.specs.declared.fault.HintError.{HintError}
 use Rattle.ap_hints.specs.declared.hint.Hints.{Hints}
 use Rattle.ap_hints.specs.declared.said.Said.{Said}
 use Rattle.ap_hints.specs.Answers.{Answer, ◌>>=◌, or_refused, each, Gives}
-use Rattle.ap_hints.specs.Forms.{symbol_at, is_keyword}
 use Rattle.ap_hints.specs.Hinted.{as_instance, term_in, terms_in, begins, one_in, calls_by, calls_in, replaced_by, pair_in, pairs_in, may_replace, used, instance_of, instance_named, instance_by, use_by, use_in, alone, is_instance, uses_by, uses_in, few_enough, cases_in, call_only, scheme_in, nothing, once, forbidding, said_of, all_said, hint_of, goal_in, goal_of, with_hint, hint_said, hinted, entry_by, entries_in, hints_in}
 use Rattle.ap_hints.specs.Known.{KnownTerm, KnownUse, KnownHint, KnownHints, no_hints}
 

@@ -3,7 +3,7 @@
 use Rattle.std.specs.Prelude.{cond, List, [], ◌∷◌, ◌++◌, Option, Some, None, codes}
 use Rattle.ap_value.specs.declared.symbol.Symbol.{Symbol}
 use Rattle.ap_reader.specs.declared.form.Form.{Form}
-use Rattle.ap_translate.specs.Parts.{layer_of, items_in, is_symbol}
+use Rattle.ap_reader.specs.Tops.{layer_of, symbol_at, items_in, is_symbol, is_keyword}
 use Rattle.ap_world.specs.declared.entry.Entry.{Entry}
 use Rattle.ap_world.specs.declared.theory.Rune.{Rune}
 use Rattle.ap_world.specs.declared.theory.RuneKind.{RuneKind}
@@ -11,7 +11,7 @@ use Rattle.ap_world.specs.declared.theory.RuneKind.TheVariants as kind
 use Rattle.ap_world.specs.Theories.{ShownTheory, rune_of}
 use Rattle.ap_world.specs.World.{Shown}
 use Rattle.ap_hints.specs.declared.changes.Changes.{Changes}
-use Rattle.ap_hints.specs.Forms.{symbol_at, is_keyword, both}
+use Rattle.ap_hints.specs.Forms.{both}
 use Rattle.ap_hints.specs.Runes.{runes_named, knows_kind, changed_runes}
 
 -- what is enabled, and what is then disabled

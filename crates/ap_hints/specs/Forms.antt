@@ -1,23 +1,8 @@
 -- What the parts of an event's form are: symbols, keywords, `nil`; and what goes on where such parts are there.
-use Rattle.std.specs.Prelude.{ℕ, Bool, true, false, ◌&&◌, ◌||◌, List, [], ◌∷◌, Option, Some, None}
-use Rattle.ap_value.specs.declared.symbol.Symbol.{Symbol}
-use Rattle.ap_value.specs.Values.{bytes_eq}
+use Rattle.std.specs.Prelude.{ℕ, Bool, true, false, ◌||◌, List, [], ◌∷◌, Option, Some, None}
 use Rattle.ap_reader.specs.declared.form.Form.{Form}
-use Rattle.ap_reader.specs.declared.form.Body.TheOpen.{Body-F}
-use Rattle.ap_translate.specs.Parts.{Layer, layer_of, items_in}
-
--- the symbol that a form is; the empty list is none here
-abbrev pub symbol_at : Layer → Option Symbol
-symbol_at (Body-F.Sym s) = Some s
-symbol_at l = None
-
--- the keyword that a form is, by its name
-abbrev pub keyword_by : List ℕ → Option Symbol → Bool
-keyword_by n None = false
-keyword_by n (Some s) = s.keyword && bytes_eq s.name n
-
-abbrev pub is_keyword : List ℕ → Form → Bool
-is_keyword n f = keyword_by n (symbol_at (layer_of f))
+use Rattle.ap_reader.specs.Tops.{items_in}
+pub use Rattle.ap_reader.specs.Tops.{symbol_at, is_keyword}
 
 -- `nil`, or the empty list, which is the same
 abbrev pub empty_by : Option (List Form) → Bool

@@ -5,7 +5,7 @@ use Rattle.ap_list.specs.Lists.{is_among}
 use Rattle.ap_value.specs.declared.symbol.Symbol.{Symbol}
 use Rattle.ap_value.specs.Values.{symbol_eq}
 use Rattle.ap_reader.specs.declared.form.Form.{Form}
-use Rattle.ap_reader.specs.declared.form.Body.TheOpen.{Body-F}
+use Rattle.ap_reader.specs.Tops.{layer_of, symbol_at, string_at, items_in, is_symbol, is_keyword, quoted_in}
 use Rattle.ap_term.specs.declared.term.Subst.{Subst}
 use Rattle.ap_term.specs.declared.term.Term.{Term, out-Term}
 use Rattle.ap_term.specs.declared.term.Term.TheOpen.{Term-F}
@@ -18,16 +18,13 @@ use Rattle.ap_world.specs.declared.entry.Theorem.{Theorem}
 use Rattle.ap_world.specs.Theories.{ShownTheory}
 use Rattle.ap_world.specs.World.{Shown, theorem_of}
 use Rattle.ap_translate.specs.Answers as translation
-use Rattle.ap_translate.specs.Parts.{Layer, layer_of, items_in, is_symbol}
 use Rattle.ap_translate.specs.Table.{translated}
-use Rattle.ap_translate.specs.Written.{quoted_in}
 use Rattle.ap_hints.specs.declared.fault.HintError.{HintError}
 use Rattle.ap_hints.specs.declared.hint.Hint.{Hint}
 use Rattle.ap_hints.specs.declared.hint.Hints.{Hints}
 use Rattle.ap_hints.specs.declared.said.Said.{Said}
 use Rattle.ap_hints.specs.Answers.{Answer, ◌>>=◌, or_refused, each}
 use Rattle.ap_hints.specs.Changes.{changes_by, changed_theory}
-use Rattle.ap_hints.specs.Forms.{symbol_at, is_keyword}
 use Rattle.ap_hints.specs.Known.{no_hints}
 
 abbrev pub list_in : Form → Answer (List Form)
@@ -212,16 +209,12 @@ hint_of goal s = record {
 }
 
 -- the name of a goal: what a string is read as
-abbrev pub text_at : Layer → Option (List ℕ)
-text_at (Body-F.Str s) = Some s
-text_at l = None
-
 abbrev pub read_as : Option (List ℕ) → Option Name
 read_as None = None
 read_as (Some s) = name_of s
 
 unfoldable pub goal_in : Form → Answer Name
-goal_in f = or_refused HintError.BadGoalName (read_as (text_at (layer_of f)))
+goal_in f = or_refused HintError.BadGoalName (read_as (string_at (layer_of f)))
 
 -- the names so far: a goal has one hint
 abbrev pub goal_of : Hint → Name

@@ -1,12 +1,11 @@
 //! Changes of the current theory, as the event `in-theory` and the hint `:in-theory` write them.
 ghost use Rattle.std.specs.Prelude.{◌≡◌, IfOk, option_map};
-ghost use Rattle.ap_translate.specs.Parts.{items_in};
+ghost use Rattle.ap_reader.specs.Tops.{items_in};
 ghost use Rattle.ap_hints.specs.Changes.{as_changed, both_lists, changes_by, kind_of, known_rune, rune_by, item_runes, all_runes, changed_theory};
 
-use crate::forms::{is_keyword, is_symbol, items, symbol};
 use crate::runes::{changed_runes, knows_kind, rune_of, runes_named};
 use ap_list::{NoMemory, Seq};
-use ap_reader::Form;
+use ap_reader::{Form, is_keyword, is_symbol, items, symbol};
 use ap_value::Symbol;
 use ap_world::{Rune, RuneKind, Theory, World};
 use std::alloc::Global;

@@ -2,7 +2,7 @@
 //! `goal-spec`, `use`, `cases`, `expand`, `do-not`, `induct` and `do-not-induct`.
 //!
 //! [`hints_of`] reads the hints of an event in a world, or refuses them. Beside it stand what hints and the events have in
-//! common: what the parts of a form are, and changes of the current theory.
+//! common: what the parts of a form are beyond what `ap_reader` tells, and changes of the current theory.
 #![tactic(auto)]
 
 mod changes;
@@ -19,13 +19,13 @@ mod uses;
 
 pub use ap_list::{NoMemory, Seq};
 pub use ap_names::GoalName;
-pub use ap_reader::Form;
+pub use ap_reader::{Form, is_keyword, is_symbol, items, symbol};
 pub use ap_term::{Subst, Term};
 pub use ap_walk::Process;
 pub use ap_world::{Theory, World};
 pub use changes::{Changes, changed_theory, changes_by};
 pub use fault::HintError;
-pub use forms::{is_any_keyword, is_keyword, is_nil, is_symbol, items, symbol};
+pub use forms::{is_any_keyword, is_nil};
 pub use hint::{Hint, Hints, no_hints};
 pub use reading::hints_of;
 pub use runes::{changed_runes, runes_named};

@@ -3,19 +3,18 @@ ghost use Rattle.std.specs.Prelude.{◌≡◌, ◌∷◌, ◌++◌, [], IfOk, ma
 ghost use Rattle.ap_list.specs.Lists.{is_among};
 ghost use Rattle.ap_names.specs.Names.{name_eq, root};
 ghost use Rattle.ap_translate.specs.Laws.{HasMacroFunctions};
-ghost use Rattle.ap_translate.specs.Parts.{items_in};
+ghost use Rattle.ap_reader.specs.Tops.{items_in};
 ghost use Rattle.ap_world.specs.World.{function_of};
 ghost use Rattle.ap_hints.specs.Answers.{Gives};
 ghost use Rattle.ap_hints.specs.Hinted.{goal_of, goal_in, with_hint, hint_said, hinted, entry_by, entries_in, hints_in};
 ghost use Rattle.ap_hints.specs.Known.{KnownHints, no_hints};
 
 use crate::fault::HintError;
-use crate::forms::items;
 use crate::hint::{Hint, Hints, no_hints};
 use crate::said::{Said, all_said, hint_of};
 use ap_list::{NoMemory, Seq};
 use ap_names::{GoalName, is_name, parse};
-use ap_reader::{Body, Form};
+use ap_reader::{Form, items, string};
 use ap_world::World;
 use std::alloc::Global;
 
@@ -24,10 +23,10 @@ use std::alloc::Global;
 fn goal(alloc: Global, form: &Form) -> Result<GoalName, HintError>
     ensures { Gives result (goal_in form.now) }
 {
-    let Body::Str(text) = &form.body else {
+    let Some(text) = string(form) else {
         return Err(HintError::BadGoalName);
     };
-    match parse(alloc, text.as_slice())? {
+    match parse(alloc, text)? {
         Some(name) => Ok(name),
         None => Err(HintError::BadGoalName),
     }

@@ -4,14 +4,13 @@ ghost use Rattle.ap_hints.specs.Answers.{Gives};
 ghost use Rattle.ap_hints.specs.Hinted.{nothing, said_of, all_said, hint_of, with_theory, with_uses, with_cases, with_expand, with_skip, with_scheme, forbidding};
 
 use crate::fault::HintError;
-use crate::forms::{is_keyword, is_symbol};
 use crate::hint::Hint;
 use crate::settings::{processes, theory};
 use crate::terms::{calls, cases, scheme};
 use crate::uses::uses;
 use ap_list::Seq;
 use ap_names::{GoalName, same_name};
-use ap_reader::Form;
+use ap_reader::{Form, is_keyword, is_symbol};
 use ap_term::{Subst, Term};
 use ap_value::Symbol;
 use ap_walk::Process;

@@ -5,9 +5,8 @@ ghost use Rattle.ap_hints.specs.Hinted.{theory_in, process_in, processes_in};
 
 use crate::changes::{changed_theory, changes_by};
 use crate::fault::HintError;
-use crate::forms::{is_symbol, items, quoted};
 use ap_list::Seq;
-use ap_reader::Form;
+use ap_reader::{Form, is_symbol, items, quoted};
 use ap_walk::Process;
 use ap_world::{Theory, World};
 use std::alloc::Global;

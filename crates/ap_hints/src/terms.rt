@@ -3,12 +3,11 @@ ghost use Rattle.std.specs.Prelude.{◌≡◌, option_map};
 ghost use Rattle.ap_term.specs.declared.term.Term.{out-Term};
 ghost use Rattle.ap_hints.specs.Answers.{Gives, each};
 ghost use Rattle.ap_hints.specs.Hinted.{begins, term_in, terms_in, one_in, calls_in, cases_in, call_only, scheme_in};
-ghost use Rattle.ap_translate.specs.Parts.{items_in};
+ghost use Rattle.ap_reader.specs.Tops.{items_in};
 
 use crate::fault::HintError;
-use crate::forms::{items, symbol};
 use ap_list::Seq;
-use ap_reader::Form;
+use ap_reader::{Form, items, symbol};
 use ap_term::Term;
 use ap_translate::{TransError, translate};
 use ap_value::Symbol;

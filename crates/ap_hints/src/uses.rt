@@ -2,15 +2,14 @@
 ghost use Rattle.std.specs.Prelude.{◌≡◌, [], ◌∷◌, ◌++◌, Ok, IfOk, map, option_map};
 ghost use Rattle.ap_list.specs.Lists.{is_among};
 ghost use Rattle.ap_value.specs.Values.{symbol_eq};
-ghost use Rattle.ap_translate.specs.Parts.{items_in};
+ghost use Rattle.ap_reader.specs.Tops.{items_in};
 ghost use Rattle.ap_hints.specs.Answers.{Gives, each};
 ghost use Rattle.ap_hints.specs.Hinted.{variable_of, may_replace, replaced, pair_in, pairs_in, used, instance_of, instance_by, use_in, alone, is_instance, uses_in};
 
 use crate::fault::HintError;
-use crate::forms::{is_keyword, items, symbol};
 use crate::terms::term;
 use ap_list::{NoMemory, Seq};
-use ap_reader::Form;
+use ap_reader::{Form, is_keyword, items, symbol};
 use ap_term::{Subst, Term, is_symbol, vars};
 use ap_value::{Symbol, copy_symbol};
 use ap_world::World;

@@ -1,5 +1,5 @@
 -- Fertilization reduces: where the hypothesis is nil, it holds already; else its sides have one value.
-use Rattle.std.proofs.Common.{◌≡◌, ◌≢◌, ℕ, ◌<◌, Bool, true, false, cond, ◌||◌, List, [], ◌∷◌, length, Option, Some, None, IsTrue, is_some, slice_get, ◌⊎◌, inl, inr, refl, ap, sym, ◌∙◌, subst}
+use Rattle.std.proofs.Common.{◌≡◌, ◌≢◌, ℕ, ◌<◌, Bool, true, false, cond, ◌||◌, [], ◌∷◌, length, Option, Some, None, IsTrue, is_some, slice_get, ◌⊎◌, inl, inr, refl, ap, sym, ◌∙◌, subst}
 use Rattle.std.proofs.lemmas.Option.{slice_get_within}
 use Rattle.ap_list.specs.Lists.{Each}
 use Rattle.ap_value.specs.Values.{value_eq}

@@ -26,7 +26,7 @@ use Rattle.ap_kernel.specs.Induction.{choices, negated_at, with_choice, case_cla
 use Rattle.ap_world.proofs.Lists.{each_zip, map_each, joined_each}
 use Rattle.ap_world.proofs.Cases.{CaseKnown, cases_known}
 use Rattle.ap_world.proofs.Grounded.{nots}
-use Rattle.ap_world.proofs.KnownTerms.{known_subst, known_negate, zip_known}
+use Rattle.ap_world.proofs.KnownTerms.{known_subst, known_negate}
 use Rattle.ap_kernel.proofs.Moving.{not_true, GoodPlace, is_measured_at}
 use Rattle.ap_kernel.proofs.InductRow.{GoodCall, induct_row}
 use Rattle.ap_kernel.proofs.Candidate.{each_all, or_left, or_right, variable_is, each_among, none_of, unchanged, Led, Follows, number, whole, HasVariable, has_variable, source, distinct_names, stays}

@@ -38,11 +38,6 @@ one_more later all x xs rest out new is more before =
     ∙ append_assoc out (each_before later x) (joined (map (each_before later) rest))
     ∙ ap (λ zs. out ++ joined (map (each_before later) zs)) (sym is) ∙ before
 
--- the literals under the replacement of a call, negated
-pub hypothesis_made : (c : List Term) (s : List (Symbol × Term)) (ps : List Place) (call lent : List Term) (moved : List (Symbol × Term)) (ls : List Term) → lent ≡ call → moved ≡ moved_at s ps lent
-    → ls ≡ map (λ l. negate (subst_of moved l)) c → ls ≡ negated_at c s (moved_at s ps) call
-hypothesis_made c s ps call lent moved ls same at made = made ∙ ap (λ z. map (λ l. negate (subst_of z l)) c) (at ∙ ap (moved_at s ps) same)
-
 -- the clauses of a case, of its negated tests and the choices of hypotheses
 pub case_made : {E : Type 0} (r : Result (List (List Term)) E) (c : List Term) (s : List (Symbol × Term)) (moved : Moving) (k : Case) (tests : List Term) (lists chosen : List (List Term))
     → tests ≡ map (λ u. negate (subst_of s u)) k.tests → lists ≡ map (negated_at c s moved) k.calls → chosen ≡ choices lists

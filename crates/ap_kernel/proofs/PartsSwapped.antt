@@ -1,5 +1,5 @@
 -- What a term with parts replaced means, and that it is known; variables that are new.
-use Rattle.std.proofs.Common.{◌≡◌, Bool, true, false, cond, ◌||◌, List, [], ◌∷◌, map, Option, Some, None, unwrap_or, inl, inr, refl, ap, sym, ◌∙◌, subst}
+use Rattle.std.proofs.Common.{◌≡◌, Bool, true, false, cond, ◌||◌, List, [], ◌∷◌, map, Some, None, unwrap_or, inl, inr, refl, ap, sym, ◌∙◌, subst}
 use Rattle.std.proofs.Math.ListN.{length-map}
 use Rattle.ap_list.specs.Lists.{Each, lookup_by}
 use Rattle.ap_value.specs.declared.symbol.Symbol.{Symbol}

@@ -1,5 +1,5 @@
 -- Cross-fertilization: a hypothesis that is an equation is used in one side of another equation, and dropped.
-use Rattle.std.specs.Prelude.{ℕ, Bool, true, false, cond, ◌||◌, List, [], ◌∷◌, Option, Some, None, slice_get}
+use Rattle.std.specs.Prelude.{ℕ, Bool, true, false, cond, ◌||◌, [], ◌∷◌, Option, Some, None, slice_get}
 use Rattle.ap_term.specs.declared.term.Term.{Term}
 use Rattle.ap_term.specs.declared.term.Clause.{Clause}
 use Rattle.ap_world.specs.Shapes.{Shape, constant, negation, equation, shape_of}

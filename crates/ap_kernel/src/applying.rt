@@ -55,6 +55,7 @@ pub fn apply_theorem(
     let Some(conjunct) = conjunct_of(w, name, part) else {
         unreachable!()
     };
+    let ctx = ctx.share()?;
     let (mode, lhs, rhs) = instances(alloc, conjunct, s)?;
-    Ok(Equiv::made(ctx.share()?, mode, lhs, rhs))
+    Ok(Equiv::made(ctx, mode, lhs, rhs))
 }

@@ -1,5 +1,6 @@
 ghost use Rattle.std.specs.Prelude.{◌≡◌, IsTrue, IfOk, true, false, length, [], ◌∷◌};
 ghost use Rattle.ap_list.specs.Lists.{Each};
+ghost use Rattle.ap_term.specs.declared.term.Term.TheVariants.{Call};
 ghost use Rattle.ap_world.specs.Primitives.{prim_of};
 ghost use Rattle.ap_world.specs.Sound.{known, is_head};
 ghost use Rattle.ap_world.specs.World.{function_of};
@@ -9,61 +10,134 @@ ghost use Rattle.ap_kernel.specs.Standing.{HasGround, Stands};
 ghost use Rattle.ap_kernel.specs.Answers.{if_of, branch_made, IsArgument, said, lefts, rights, cong_made};
 
 use crate::constants::if_symbol;
+use crate::lists::three;
 use crate::objects::{Ctx, Equiv, Mode};
 use ap_list::{NoMemory, Seq};
-use ap_term::Term;
+use ap_term::{Term, copy_term};
 use ap_value::{Symbol, copy_symbol};
 use ap_world::World;
 use std::alloc::Global;
 
-/// The left sides and the right sides, in order. The terms are moved.
-fn sides(alloc: Global, args: Seq<Equiv>) -> Result<(Seq<Term>, Seq<Term>), NoMemory>
-    ensures left { IfOk result (λ p. p.0 ≡ lefts (said args)) }
-    ensures right { IfOk result (λ p. p.1 ≡ rights (said args)) }
+/// The left sides, copied, in order.
+fn left_sides(alloc: Global, args: &[Equiv]) -> Result<Seq<Term>, NoMemory>
+    ensures { IfOk result (λ ts. ts ≡ lefts (said args.now)) }
 {
-    let mut left = Seq::new(alloc);
-    let mut right = Seq::new(alloc);
-    for q in args.into_vec() {
-        let (_, _, lhs, rhs) = q.into_parts();
-        left.push(lhs)?;
-        right.push(rhs)?;
+    let mut out = Seq::new(alloc);
+    for q in args {
+        out.push(copy_term(alloc, q.lhs())?)?;
     }
-    Ok((left, right))
+    Ok(out)
+}
+
+/// The right sides, copied, in order.
+fn right_sides(alloc: Global, args: &[Equiv]) -> Result<Seq<Term>, NoMemory>
+    ensures { IfOk result (λ ts. ts ≡ rights (said args.now)) }
+{
+    let mut out = Seq::new(alloc);
+    for q in args {
+        out.push(copy_term(alloc, q.rhs())?)?;
+    }
+    Ok(out)
+}
+
+/// The call of `f` on the left sides.
+fn left_call(alloc: Global, f: &Symbol, args: &[Equiv]) -> Result<Term, NoMemory>
+    ensures { IfOk result (λ u. u ≡ Call f.now (lefts (said args.now))) }
+{
+    let head = copy_symbol(alloc, f)?;
+    let parts = left_sides(alloc, args)?;
+    Term::call(alloc, head, parts)
+}
+
+/// The call of `f` on the right sides.
+fn right_call(alloc: Global, f: &Symbol, args: &[Equiv]) -> Result<Term, NoMemory>
+    ensures { IfOk result (λ u. u ≡ Call f.now (rights (said args.now))) }
+{
+    let head = copy_symbol(alloc, f)?;
+    let parts = right_sides(alloc, args)?;
+    Term::call(alloc, head, parts)
 }
 
 /// From a call of `f` to the call on what its arguments lead to, under equality. Each argument leads under
-/// the facts `ctx` and under equality, or, where `f` is `not`, under either mode. It copies `f` alone, once
-/// for each side; the sides of the arguments are moved.
+/// the facts `ctx` and under equality, or, where `f` is `not`, under either mode. It copies `f`, once for each
+/// side, and the sides of the arguments, of which each copy costs a count.
 pub fn cong(
     alloc: Global,
     w: &World,
     ctx: &Ctx,
     f: &Symbol,
-    args: Seq<Equiv>,
+    args: &[Equiv],
 ) -> Result<Equiv, NoMemory>
     requires ground { HasGround (function_of w.now.entries) }
     requires facts { KnownFacts (function_of w.now.entries) ctx.now.0 }
-    requires head { IsTrue (is_head (function_of w.now.entries) f.now (prim_of f.now) (length args)) }
-    requires args { Each (IsArgument w.now ctx.now f.now) args }
+    requires head { IsTrue (is_head (function_of w.now.entries) f.now (prim_of f.now) (length args.now)) }
+    requires args { Each (IsArgument w.now ctx.now f.now) args.now }
     ensures stands { IfOk result (λ q. Stands w.now q) }
-    ensures made { IfOk result (λ q. q.says ≡ cong_made ctx.now f.now (said args)) }
+    ensures made { IfOk result (λ q. q.says ≡ cong_made ctx.now f.now (said args.now)) }
 {
     w.is_sound();
-    let (left, right) = sides(alloc, args)?;
-    let lhs = Term::call(alloc, copy_symbol(alloc, f)?, left)?;
-    let rhs = Term::call(alloc, copy_symbol(alloc, f)?, right)?;
-    Ok(Equiv::made(ctx.share()?, Mode::Equal, lhs, rhs))
+    let ctx = ctx.share()?;
+    let lhs = left_call(alloc, f, args)?;
+    let rhs = right_call(alloc, f, args)?;
+    Ok(Equiv::made(ctx, Mode::Equal, lhs, rhs))
 }
 
 /// `(if a b c)`
 pub fn if_term(alloc: Global, a: Term, b: Term, c: Term) -> Result<Term, NoMemory>
     ensures { IfOk result (λ u. u ≡ if_of a b c) }
 {
-    let mut parts = Seq::new(alloc);
-    parts.push(a)?;
-    parts.push(b)?;
-    parts.push(c)?;
+    let parts = three(alloc, a, b, c)?;
     Term::call(alloc, if_symbol(), parts)
+}
+
+/// The parts of an `if` that isn't built yet.
+struct IfParts {
+    test: Term,
+    yes: Term,
+    no: Term,
+}
+
+// One call wherever it is let go, whatever the parts are.
+impl Drop for IfParts {
+    fn drop(self) {
+        let IfParts {
+            test: _test,
+            yes: _yes,
+            no: _no,
+        } = self;
+    }
+}
+
+impl IfParts {
+    /// The `if` of these parts, which are moved.
+    fn into_term(self, alloc: Global) -> Result<Term, NoMemory>
+        ensures { IfOk result (λ u. u ≡ if_of self.test self.yes self.no) }
+    {
+        let IfParts { test, yes, no } = self;
+        if_term(alloc, test, yes, no)
+    }
+}
+
+/// The test's facts, and the parts of the `if` of the left sides and of the `if` of the right sides.
+fn if_parts(test: Equiv, yes: Equiv, no: Equiv) -> (Ctx, IfParts, IfParts)
+    ensures facts { result.0 ≡ test.says.ctx }
+    ensures left { result.1 ≡ record { test = test.says.lhs; yes = yes.says.lhs; no = no.says.lhs } }
+    ensures right { result.2 ≡ record { test = test.says.rhs; yes = yes.says.rhs; no = no.says.rhs } }
+{
+    let (ctx, _, test_left, test_right) = test.into_parts();
+    let (_, _, yes_left, yes_right) = yes.into_parts();
+    let (_, _, no_left, no_right) = no.into_parts();
+    let left = IfParts {
+        test: test_left,
+        yes: yes_left,
+        no: no_left,
+    };
+    let right = IfParts {
+        test: test_right,
+        yes: yes_right,
+        no: no_right,
+    };
+    (ctx, left, right)
 }
 
 /// From an `if` to the `if` of what its parts lead to. The branches lead under what the new test's truth
@@ -88,10 +162,8 @@ pub fn branch(
     ensures made { IfOk result (λ q. q.says ≡ branch_made mode test.says yes.says no.says) }
 {
     w.is_sound();
-    let (ctx, _, test_left, test_right) = test.into_parts();
-    let (_, _, yes_left, yes_right) = yes.into_parts();
-    let (_, _, no_left, no_right) = no.into_parts();
-    let lhs = if_term(alloc, test_left, yes_left, no_left)?;
-    let rhs = if_term(alloc, test_right, yes_right, no_right)?;
+    let (ctx, left, right) = if_parts(test, yes, no);
+    let lhs = left.into_term(alloc)?;
+    let rhs = right.into_term(alloc)?;
     Ok(Equiv::made(ctx, mode, lhs, rhs))
 }

@@ -7,11 +7,12 @@ ghost use Rattle.ap_world.specs.Facts.{KnownFacts};
 ghost use Rattle.ap_world.specs.Shapes.{shape_of};
 ghost use Rattle.ap_kernel.specs.Standing.{HasGround, Stands};
 ghost use Rattle.ap_kernel.specs.Masks.{MaskHolds};
+ghost use Rattle.ap_kernel.specs.Answers.{if_of};
 ghost use Rattle.ap_kernel.specs.Choices.{bare, bare_test, is_t_constant, is_truth, by_branches, if_shape, by_constant, choice_leads, is_choice, choice_made, seen_chosen};
 
 use crate::assuming::is_constant;
-use crate::calls::if_term;
-use crate::constants::{is_nil, is_t, not_symbol};
+use crate::constants::{if_symbol, is_nil, is_t, not_symbol};
+use crate::lists::one;
 use crate::objects::{Ctx, Equiv, Mode};
 use crate::shapes::{ShapeRef, shape_of};
 use ap_list::{NoMemory, Seq};
@@ -132,9 +133,19 @@ fn choice_of(truth: bool, t: &Term) -> Chosen<'_>
 pub fn not_term(alloc: Global, a: Term) -> Result<Term, NoMemory>
     ensures { IfOk result (λ u. u ≡ not_of a) }
 {
-    let mut parts = Seq::new(alloc);
-    parts.push(a)?;
+    let parts = one(alloc, a)?;
     Term::call(alloc, not_symbol(), parts)
+}
+
+/// `(if a b c)` of copies.
+fn copied_if(alloc: Global, a: &Term, b: &Term, c: &Term) -> Result<Term, NoMemory>
+    ensures { IfOk result (λ u. u ≡ if_of a.now b.now c.now) }
+{
+    let mut parts = Seq::new(alloc);
+    parts.push(copy_term(alloc, a)?)?;
+    parts.push(copy_term(alloc, b)?)?;
+    parts.push(copy_term(alloc, c)?)?;
+    Term::call(alloc, if_symbol(), parts)
 }
 
 /// What an `if` leads to, built.
@@ -144,11 +155,7 @@ fn own_chosen(alloc: Global, chosen: Chosen<'_>) -> Result<Term, NoMemory>
     match chosen {
         Chosen::One(a) => copy_term(alloc, a),
         Chosen::Not(a) => not_term(alloc, copy_term(alloc, a)?),
-        Chosen::If(a, b, c) => {
-            let test = copy_term(alloc, a)?;
-            let yes = copy_term(alloc, b)?;
-            if_term(alloc, test, yes, copy_term(alloc, c)?)
-        }
+        Chosen::If(a, b, c) => copied_if(alloc, a, b, c),
     }
 }
 
@@ -176,7 +183,7 @@ pub fn if_shape(
     ensures made { IfOk result (λ q. q.says ≡ choice_made ctx.now mode t.now mask) }
 {
     w.is_sound();
-    let lhs = copy_term(alloc, t)?;
     let rhs = own_chosen(alloc, choice_of(is_truth(mode, mask), t))?;
-    Ok(Equiv::made(ctx.share()?, mode, lhs, rhs))
+    let answer = Equiv::from_copy(alloc, ctx, mode, t, rhs)?;
+    Ok(answer)
 }

@@ -7,11 +7,12 @@ ghost use Rattle.ap_world.specs.World.{function_of};
 ghost use Rattle.ap_kernel.specs.Standing.{HasGround};
 ghost use Rattle.ap_kernel.specs.Reductions.{KnownClause, Reduces};
 ghost use Rattle.ap_kernel.specs.Solving.{occurs_in};
-ghost use Rattle.ap_kernel.specs.Eliminating.{call_on, consp_term, taken_apart, without_first, elim_goals, eliminated};
+ghost use Rattle.ap_kernel.specs.Eliminating.{call_on, consp_term, taken_apart, reduced, without_first, elim_goals, eliminated};
 
 use crate::choices::not_term;
 use crate::generalising::call_on;
 use crate::hints::before;
+use crate::lists::{one_clause, two, two_clauses};
 use crate::reductions::Reduction;
 use crate::swapping::swapped_all;
 use ap_list::{NoMemory, Seq};
@@ -53,28 +54,52 @@ fn cons_term(alloc: Global, a: &Symbol, b: &Symbol) -> Result<Term, NoMemory>
     ensures { IfOk result (λ u. u ≡ Call cons_name (Var a.now ∷ Var b.now ∷ [])) }
 {
     let head = acl2(alloc, b"CONS")?;
-    let mut parts = Seq::new(alloc);
-    parts.push(Term::Var(copy_symbol(alloc, a)?))?;
-    parts.push(Term::Var(copy_symbol(alloc, b)?))?;
+    let first = copy_symbol(alloc, a)?;
+    let second = copy_symbol(alloc, b)?;
+    let parts = two(alloc, Term::Var(first), Term::Var(second))?;
     Term::call(alloc, head, parts)
+}
+
+/// `(car v)` with the variable that it becomes.
+fn car_pair(alloc: Global, v: &Symbol, a: &Symbol) -> Result<(Term, Term), NoMemory>
+    ensures { IfOk result (λ p. p ≡ (call_on car_name v.now, Var a.now)) }
+{
+    let by = copy_symbol(alloc, a)?;
+    let part = car_term(alloc, v)?;
+    Ok((part, Term::Var(by)))
+}
+
+/// `(cdr v)` with the variable that it becomes.
+fn cdr_pair(alloc: Global, v: &Symbol, b: &Symbol) -> Result<(Term, Term), NoMemory>
+    ensures { IfOk result (λ p. p ≡ (call_on cdr_name v.now, Var b.now)) }
+{
+    let by = copy_symbol(alloc, b)?;
+    let part = cdr_term(alloc, v)?;
+    Ok((part, Term::Var(by)))
+}
+
+/// `v` with the cons that it becomes.
+fn cons_pair(alloc: Global, v: &Symbol, a: &Symbol, b: &Symbol) -> Result<(Term, Term), NoMemory>
+    ensures { IfOk result (λ p. p ≡ (Var v.now, Call cons_name (Var a.now ∷ Var b.now ∷ []))) }
+{
+    let whole = copy_symbol(alloc, v)?;
+    let by = cons_term(alloc, a, b)?;
+    Ok((Term::Var(whole), by))
 }
 
 /// What `(car v)`, `(cdr v)` and other `v` become: the first new variable, the second, and their cons.
 fn taken_apart(
     alloc: Global,
     v: &Symbol,
-    a: Symbol,
-    b: Symbol,
+    a: &Symbol,
+    b: &Symbol,
 ) -> Result<Seq<(Term, Term)>, NoMemory>
-    ensures { IfOk result (λ s. s ≡ taken_apart v.now a b) }
+    ensures { IfOk result (λ s. s ≡ taken_apart v.now a.now b.now) }
 {
-    let pair = cons_term(alloc, &a, &b)?;
-    let front = car_term(alloc, v)?;
-    let rest = cdr_term(alloc, v)?;
     let mut pairs = Seq::new(alloc);
-    pairs.push((front, Term::Var(a)))?;
-    pairs.push((rest, Term::Var(b)))?;
-    pairs.push((Term::Var(copy_symbol(alloc, v)?), pair))?;
+    pairs.push(car_pair(alloc, v, a)?)?;
+    pairs.push(cdr_pair(alloc, v, b)?)?;
+    pairs.push(cons_pair(alloc, v, a, b)?)?;
     Ok(pairs)
 }
 
@@ -103,6 +128,37 @@ fn known_pair(alloc: Global, v: &Symbol, literals: &[Term]) -> Result<Option<Seq
     without_first(alloc, &test, literals)
 }
 
+/// The clause with the pairs' seconds for their firsts.
+fn reduced(alloc: Global, pairs: &[(Term, Term)], literals: &[Term]) -> Result<Clause, NoMemory>
+    ensures { IfOk result (λ c. c.0 ≡ reduced pairs.now literals.now) }
+{
+    let literals = swapped_all(alloc, pairs, literals)?;
+    Ok(Clause(literals))
+}
+
+/// The clause with `(consp v)` before it.
+fn with_test(alloc: Global, v: &Symbol, literals: &[Term]) -> Result<Clause, NoMemory>
+    ensures { IfOk result (λ c. c.0 ≡ consp_term v.now ∷ literals.now) }
+{
+    let test = consp_term(alloc, v)?;
+    let literals = before(alloc, test, literals)?;
+    Ok(Clause(literals))
+}
+
+/// The two clauses.
+fn both_goals(
+    alloc: Global,
+    v: &Symbol,
+    pairs: &[(Term, Term)],
+    literals: &[Term],
+) -> Result<Seq<Clause>, NoMemory>
+    ensures { IfOk result (λ cs. cs ≡ record { 0 = consp_term v.now ∷ literals.now } ∷ record { 0 = reduced pairs.now literals.now } ∷ []) }
+{
+    let tested = with_test(alloc, v, literals)?;
+    let swapped = reduced(alloc, pairs, literals)?;
+    two_clauses(alloc, tested, swapped)
+}
+
 /// The one clause or the two.
 fn elim_goals(
     alloc: Global,
@@ -112,16 +168,10 @@ fn elim_goals(
 ) -> Result<Seq<Clause>, NoMemory>
     ensures { IfOk result (λ cs. cs ≡ elim_goals pairs.now v.now literals.now (without_first (not_of (consp_term v.now)) literals.now)) }
 {
-    let mut goals = Seq::new(alloc);
     match known_pair(alloc, v, literals)? {
-        Some(rest) => goals.push(Clause(swapped_all(alloc, pairs, rest.as_slice())?))?,
-        None => {
-            let test = consp_term(alloc, v)?;
-            goals.push(Clause(before(alloc, test, literals)?))?;
-            goals.push(Clause(swapped_all(alloc, pairs, literals)?))?;
-        }
+        Some(rest) => one_clause(alloc, reduced(alloc, pairs, rest.as_slice())?),
+        None => both_goals(alloc, v, pairs, literals),
     }
-    Ok(goals)
 }
 
 /// From a clause to two: the clause with `(consp v)` before it, and the clause with the first new variable
@@ -145,7 +195,7 @@ pub fn eliminate(
     ensures made { IfOk result (λ r. r.says ≡ eliminated c v.now a b) }
 {
     w.is_sound();
-    let pairs = taken_apart(alloc, v, a, b)?;
+    let pairs = taken_apart(alloc, v, &a, &b)?;
     let goals = elim_goals(alloc, v, pairs.as_slice(), c.0.as_slice())?;
     Ok(Reduction::made(c, goals))
 }

@@ -1,6 +1,7 @@
 ghost use Rattle.std.specs.Prelude.{◌≡◌, IsTrue, IfOk, IfSome, is_some};
 ghost use Rattle.std.specs.Option.{option_map};
 ghost use Rattle.ap_list.specs.Lists.{lookup_by};
+ghost use Rattle.ap_term.specs.declared.term.Term.TheVariants.{Quote};
 ghost use Rattle.ap_term.specs.Equal.{term_eq};
 ghost use Rattle.ap_world.specs.Sound.{known};
 ghost use Rattle.ap_world.specs.World.{function_of};
@@ -10,9 +11,10 @@ ghost use Rattle.ap_kernel.specs.Equations.{equal_of, truth_constant, cons_parts
 
 use crate::calls::if_term;
 use crate::constants::{equal_symbol, nil_term, t_term};
+use crate::lists::two;
 use crate::objects::{Ctx, Equiv, Mode};
 use crate::shapes::{ShapeRef, shape_of};
-use ap_list::{NoMemory, Seq};
+use ap_list::NoMemory;
 use ap_term::{Term, copy_term, is_same};
 use ap_value::{Value, copy};
 use ap_world::World;
@@ -94,9 +96,7 @@ fn leads_of<'a>(facts: &[(Term, bool)], t: &'a Term) -> Option<Leads<'a>>
 pub fn equal_term(alloc: Global, a: Term, b: Term) -> Result<Term, NoMemory>
     ensures { IfOk result (λ u. u ≡ equal_of a b) }
 {
-    let mut sides = Seq::new(alloc);
-    sides.push(a)?;
-    sides.push(b)?;
+    let sides = two(alloc, a, b)?;
     Term::call(alloc, equal_symbol(), sides)
 }
 
@@ -107,29 +107,59 @@ pub fn truth_term(sign: bool) -> Term
     if sign { t_term() } else { nil_term() }
 }
 
-/// The two parts, copied.
-fn own_parts(alloc: Global, parts: Parts<'_>) -> Result<(Term, Term), NoMemory>
-    ensures { IfOk result (λ p. p ≡ seen_parts parts.entry) }
+/// A constant of a copy of a value.
+fn own_constant(alloc: Global, v: &Value) -> Result<Term, NoMemory>
+    ensures { IfOk result (λ u. u ≡ Quote v.now) }
+{
+    let value = copy(alloc, v)?;
+    Ok(Term::Quote(value))
+}
+
+/// The first part, copied.
+fn own_first(alloc: Global, parts: Parts<'_>) -> Result<Term, NoMemory>
+    ensures { IfOk result (λ u. u ≡ (seen_parts parts.entry).0) }
 {
     match parts {
-        Parts::Terms(a, b) => Ok((copy_term(alloc, a)?, copy_term(alloc, b)?)),
-        Parts::Constants(a, b) => {
-            let first = Term::Quote(copy(alloc, a)?);
-            let rest = Term::Quote(copy(alloc, b)?);
-            Ok((first, rest))
-        }
+        Parts::Terms(a, _) => copy_term(alloc, a),
+        Parts::Constants(a, _) => own_constant(alloc, a),
     }
+}
+
+/// The second part, copied.
+fn own_second(alloc: Global, parts: Parts<'_>) -> Result<Term, NoMemory>
+    ensures { IfOk result (λ u. u ≡ (seen_parts parts.entry).1) }
+{
+    match parts {
+        Parts::Terms(_, b) => copy_term(alloc, b),
+        Parts::Constants(_, b) => own_constant(alloc, b),
+    }
+}
+
+/// The equation of the first parts of two conses.
+fn firsts_equal(alloc: Global, p: Parts<'_>, q: Parts<'_>) -> Result<Term, NoMemory>
+    ensures { IfOk result (λ u. u ≡ equal_of (seen_parts p.entry).0 (seen_parts q.entry).0) }
+{
+    let a = own_first(alloc, p)?;
+    let b = own_first(alloc, q)?;
+    equal_term(alloc, a, b)
+}
+
+/// The equation of the second parts of two conses.
+fn seconds_equal(alloc: Global, p: Parts<'_>, q: Parts<'_>) -> Result<Term, NoMemory>
+    ensures { IfOk result (λ u. u ≡ equal_of (seen_parts p.entry).1 (seen_parts q.entry).1) }
+{
+    let a = own_second(alloc, p)?;
+    let b = own_second(alloc, q)?;
+    equal_term(alloc, a, b)
 }
 
 /// The equations of the parts of two conses.
 fn apart(alloc: Global, a: Parts<'_>, b: Parts<'_>) -> Result<Term, NoMemory>
     ensures { IfOk result (λ u. u ≡ apart (seen_parts a.entry) (seen_parts b.entry)) }
 {
-    let (a_first, a_rest) = own_parts(alloc, a)?;
-    let (b_first, b_rest) = own_parts(alloc, b)?;
-    let first = equal_term(alloc, a_first, b_first)?;
-    let rest = equal_term(alloc, a_rest, b_rest)?;
-    if_term(alloc, first, rest, nil_term())
+    let firsts = firsts_equal(alloc, a, b)?;
+    let seconds = seconds_equal(alloc, a, b)?;
+    if_term(alloc, firsts, seconds, nil_term())
 }
 
 /// Where an equation leads, built.
@@ -166,7 +196,7 @@ pub fn cons_equal(alloc: Global, w: &World, ctx: &Ctx, t: &Term) -> Result<Equiv
     let Some(leads) = leads_of(ctx.facts(), t) else {
         unreachable!()
     };
-    let lhs = copy_term(alloc, t)?;
     let rhs = own_leads(alloc, leads)?;
-    Ok(Equiv::made(ctx.share()?, Mode::Equal, lhs, rhs))
+    let answer = Equiv::from_copy(alloc, ctx, Mode::Equal, t, rhs)?;
+    Ok(answer)
 }

@@ -7,7 +7,7 @@ ghost use Rattle.ap_kernel.specs.Answers.{fact_made};
 use crate::constants::{nil_term, t_term};
 use crate::objects::{Ctx, Equiv, Mode};
 use ap_list::NoMemory;
-use ap_term::{Term, copy_term};
+use ap_term::Term;
 use ap_world::World;
 use std::alloc::Global;
 
@@ -23,13 +23,10 @@ fn fact_at(facts: &[(Term, bool)], index: usize) -> &(Term, bool)
 fn fact_equiv(alloc: Global, ctx: &Ctx, t: &Term, sign: bool) -> Result<Equiv, NoMemory>
     ensures { IfOk result (λ q. q.says ≡ fact_made ctx.now t.now sign) }
 {
-    let lhs = copy_term(alloc, t)?;
     if sign {
-        let rhs = t_term();
-        return Ok(Equiv::made(ctx.share()?, Mode::Iff, lhs, rhs));
+        return Equiv::from_copy(alloc, ctx, Mode::Iff, t, t_term());
     }
-    let rhs = nil_term();
-    Ok(Equiv::made(ctx.share()?, Mode::Equal, lhs, rhs))
+    Equiv::from_copy(alloc, ctx, Mode::Equal, t, nil_term())
 }
 
 /// The fact at this place: a true fact's term leads under `iff` to `'T`, a false fact's under equality to

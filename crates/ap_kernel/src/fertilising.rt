@@ -4,11 +4,13 @@ ghost use Rattle.ap_world.specs.Shapes.{shape_of};
 ghost use Rattle.ap_world.specs.World.{function_of};
 ghost use Rattle.ap_kernel.specs.Standing.{HasGround};
 ghost use Rattle.ap_kernel.specs.Reductions.{KnownClause, Reduces, put_at, others, to_one};
+ghost use Rattle.ap_kernel.specs.Equations.{equal_of};
 ghost use Rattle.ap_kernel.specs.Swapping.{swapped};
 ghost use Rattle.ap_kernel.specs.Fertilising.{is_constant_shape, sides_of, negated_sides, side_replaced, literal_fertilised, fertilised, fertilise_made};
 ghost use Rattle.ap_kernel.specs.Splits.{and_then};
 
 use crate::equations::equal_term;
+use crate::lists::{one, one_pair};
 use crate::literals::{put_at, to_one};
 use crate::reductions::Reduction;
 use crate::shapes::{ShapeRef, shape_of};
@@ -53,9 +55,28 @@ fn negated_sides(t: &Term) -> Option<(&Term, &Term)>
 fn with_other(alloc: Global, part: &Term, by: &Term, t: &Term) -> Result<Term, NoMemory>
     ensures { IfOk result (λ u. u ≡ swapped ((part.now, by.now) ∷ []) t.now) }
 {
-    let mut pairs = Seq::new(alloc);
-    pairs.push((copy_term(alloc, part)?, copy_term(alloc, by)?))?;
+    let part = copy_term(alloc, part)?;
+    let by = copy_term(alloc, by)?;
+    let pairs = one_pair(alloc, part, by)?;
     swapped(alloc, pairs.as_slice(), t)
+}
+
+/// The equation of `l` and `r` with `a` for `b` in `r`.
+fn with_right(alloc: Global, a: &Term, b: &Term, l: &Term, r: &Term) -> Result<Term, NoMemory>
+    ensures { IfOk result (λ u. u ≡ equal_of l.now (swapped ((b.now, a.now) ∷ []) r.now)) }
+{
+    let left = copy_term(alloc, l)?;
+    let right = with_other(alloc, b, a, r)?;
+    equal_term(alloc, left, right)
+}
+
+/// The equation of `l` and `r` with `b` for `a` in `l`.
+fn with_left(alloc: Global, a: &Term, b: &Term, l: &Term, r: &Term) -> Result<Term, NoMemory>
+    ensures { IfOk result (λ u. u ≡ equal_of (swapped ((a.now, b.now) ∷ []) l.now) r.now) }
+{
+    let left = with_other(alloc, a, b, l)?;
+    let right = copy_term(alloc, r)?;
+    equal_term(alloc, left, right)
 }
 
 /// The equation of `l` and `r` with `a` for `b` in `r`, or else with `b` for `a` in `l`.
@@ -69,14 +90,10 @@ fn side_replaced(
     ensures { IfOk result (λ o. o ≡ side_replaced (a.now, b.now) (l.now, r.now)) }
 {
     if contains(r, b) {
-        let right = with_other(alloc, b, a, r)?;
-        let left = copy_term(alloc, l)?;
-        return Ok(Some(equal_term(alloc, left, right)?));
+        return Ok(Some(with_right(alloc, a, b, l, r)?));
     }
     if contains(l, a) {
-        let left = with_other(alloc, a, b, l)?;
-        let right = copy_term(alloc, r)?;
-        return Ok(Some(equal_term(alloc, left, right)?));
+        return Ok(Some(with_left(alloc, a, b, l, r)?));
     }
     Ok(None)
 }
@@ -108,9 +125,8 @@ fn fertilised(
     requires second { j < length literals.now }
     ensures { IfOk result (λ ts. ts ≡ others i (put_at j (changed ∷ []) literals.now)) }
 {
-    let mut one = Seq::new(alloc);
-    one.push(changed)?;
-    let literals = put_at(alloc, literals, j, one)?;
+    let changed = one(alloc, changed)?;
+    let literals = put_at(alloc, literals, j, changed)?;
     put_at(alloc, literals.as_slice(), i, Seq::new(alloc))
 }
 

@@ -12,6 +12,7 @@ ghost use Rattle.ap_kernel.specs.Eliminating.{call_on};
 ghost use Rattle.ap_kernel.specs.Generalising.{lies_within, tried, first_fitting, restriction, generalised};
 
 use crate::choices::not_term;
+use crate::lists::{one, one_pair};
 use crate::literals::to_one;
 use crate::reductions::Reduction;
 use crate::swapping::swapped_all;
@@ -61,8 +62,8 @@ fn recogniser_of(mask: Mask) -> Option<&'static [u8]>
 pub(crate) fn call_on(alloc: Global, f: Symbol, v: &Symbol) -> Result<Term, NoMemory>
     ensures { IfOk result (λ u. u ≡ call_on f v.now) }
 {
-    let mut parts = Seq::new(alloc);
-    parts.push(Term::Var(copy_symbol(alloc, v)?))?;
+    let v = copy_symbol(alloc, v)?;
+    let parts = one(alloc, Term::Var(v))?;
     Term::call(alloc, f, parts)
 }
 
@@ -70,13 +71,12 @@ pub(crate) fn call_on(alloc: Global, f: Symbol, v: &Symbol) -> Result<Term, NoMe
 fn restriction(alloc: Global, mask: Mask, v: &Symbol) -> Result<Seq<Term>, NoMemory>
     ensures { IfOk result (λ ts. ts ≡ restriction mask.0 v.now) }
 {
-    let mut out = Seq::new(alloc);
-    if let Some(name) = recogniser_of(mask) {
-        let head = acl2(alloc, name)?;
-        let test = call_on(alloc, head, v)?;
-        out.push(not_term(alloc, test)?)?;
-    }
-    Ok(out)
+    let Some(name) = recogniser_of(mask) else {
+        return Ok(Seq::new(alloc));
+    };
+    let head = acl2(alloc, name)?;
+    let test = call_on(alloc, head, v)?;
+    one(alloc, not_term(alloc, test)?)
 }
 
 /// The literals with a variable in every place of a term.
@@ -88,9 +88,24 @@ fn with_variable(
 ) -> Result<Seq<Term>, NoMemory>
     ensures { IfOk result (λ ts. ts ≡ map (swapped ((t.now, Var v) ∷ [])) literals.now) }
 {
-    let mut pairs = Seq::new(alloc);
-    pairs.push((copy_term(alloc, t)?, Term::Var(v)))?;
+    let part = copy_term(alloc, t)?;
+    let pairs = one_pair(alloc, part, Term::Var(v))?;
     swapped_all(alloc, pairs.as_slice(), literals)
+}
+
+/// The same, with the restriction before them.
+fn restricted(
+    alloc: Global,
+    t: &Term,
+    v: Symbol,
+    mask: Mask,
+    terms: &[Term],
+) -> Result<Seq<Term>, NoMemory>
+    ensures { IfOk result (λ ts. ts ≡ restriction mask.0 v ++ map (swapped ((t.now, Var v) ∷ [])) terms.now) }
+{
+    let mut literals = restriction(alloc, mask, &v)?;
+    literals.append(with_variable(alloc, t, v, terms)?)?;
+    Ok(literals)
 }
 
 /// From a clause to the clause with a new variable in every place of a term, and before it the negation of
@@ -113,8 +128,7 @@ pub fn generalise(
     ensures made { IfOk result (λ r. r.says ≡ generalised c t.now v mask) }
 {
     w.is_sound();
-    let mut literals = restriction(alloc, mask, &v)?;
-    literals.append(with_variable(alloc, t, v, c.0.as_slice())?)?;
+    let literals = restricted(alloc, t, v, mask, c.0.as_slice())?;
     let answer = to_one(alloc, c, literals)?;
     Ok(answer)
 }

@@ -11,9 +11,9 @@ ghost use Rattle.ap_kernel.specs.Hinting.{negated_cases, case_clauses, cased, us
 
 use crate::literals::to_one;
 use crate::reductions::Reduction;
-use crate::splits::negated;
+use crate::splits::{negated, negated_instance};
 use ap_list::{NoMemory, Seq};
-use ap_term::{Clause, Subst, Term, copy_terms, subst};
+use ap_term::{Clause, Subst, Term, copy_terms};
 use ap_value::Symbol;
 use ap_world::World;
 use std::alloc::Global;
@@ -75,8 +75,7 @@ fn with_instance(
 ) -> Result<Seq<Term>, NoMemory>
     ensures { IfOk result (λ ts. ts ≡ negate (subst_of s.now.0 term.now) ∷ literals.now) }
 {
-    let instance = subst(alloc, term, s)?;
-    let negation = negated(alloc, &instance)?;
+    let negation = negated_instance(alloc, term, s)?;
     before(alloc, negation, literals)
 }
 

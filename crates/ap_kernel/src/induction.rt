@@ -10,9 +10,10 @@ ghost use Rattle.ap_kernel.specs.Reductions.{KnownClause, Reduces};
 ghost use Rattle.ap_kernel.specs.Induction.{choices, negated_at, case_clauses, induction, variable_of, moved_at, pairs_of, induction_at, leads_induction, induct_made};
 
 use crate::hints::before;
+use crate::lists::copied_pair;
 use crate::places::{Place, places_of};
 use crate::reductions::Reduction;
-use crate::splits::negated;
+use crate::splits::negated_instance;
 use ap_list::{NoMemory, Seq};
 use ap_term::{Clause, Subst, Term, copy_term, copy_terms, subst};
 use ap_value::{Symbol, acl2, copy_symbol};
@@ -25,8 +26,7 @@ fn negated_instances(alloc: Global, terms: &[Term], s: &Subst) -> Result<Seq<Ter
 {
     let mut out = Seq::new(alloc);
     for t in terms {
-        let instance = subst(alloc, t, s)?;
-        out.push(negated(alloc, &instance)?)?;
+        out.push(negated_instance(alloc, t, s)?)?;
     }
     Ok(out)
 }
@@ -99,12 +99,23 @@ fn pairs_of(alloc: Global, places: &[Place]) -> Result<Subst, NoMemory>
 {
     let mut out = Seq::new(alloc);
     for place in places {
-        out.push((
-            copy_symbol(alloc, &place.formal)?,
-            copy_term(alloc, &place.actual)?,
-        ))?;
+        out.push(copied_pair(alloc, &place.formal, &place.actual)?)?;
     }
     Ok(Subst(out))
+}
+
+/// A variable that is replaced, by its actual, and what it becomes: the instance of a call's argument.
+fn moved_pair(
+    alloc: Global,
+    s: &Subst,
+    actual: &Term,
+    value: &Term,
+) -> Result<(Symbol, Term), NoMemory>
+    ensures { IfOk result (λ p. p ≡ (variable_of actual.now, subst_of s.now.0 value.now)) }
+{
+    let name = variable_of(alloc, actual)?;
+    let moved = subst(alloc, value, s)?;
+    Ok((name, moved))
 }
 
 /// What the variables that are replaced become for a call: its arguments at the actuals.
@@ -119,12 +130,26 @@ fn moved_at(alloc: Global, s: &Subst, places: &[Place], call: &[Term]) -> Result
             return Ok(Subst(out));
         };
         if place.is_moved {
-            out.push((variable_of(alloc, &place.actual)?, subst(alloc, value, s)?))?;
+            out.push(moved_pair(alloc, s, &place.actual, value)?)?;
         }
         left = rest;
         values = more;
     }
     Ok(Subst(out))
+}
+
+/// The literals under the replacement of a call, negated.
+fn negated_under(
+    alloc: Global,
+    literals: &[Term],
+    s: &Subst,
+    places: &[Place],
+    call: &[Term],
+) -> Result<Seq<Term>, NoMemory>
+    ensures { IfOk result (λ us. us ≡ negated_at literals.now s.now.0 (moved_at s.now.0 places.now) call.now) }
+{
+    let moved = moved_at(alloc, s, places, call)?;
+    negated_instances(alloc, literals, &moved)
 }
 
 /// For each call the literals under its replacement, negated.
@@ -139,8 +164,7 @@ fn hypotheses(
 {
     let mut out = Seq::new(alloc);
     for call in calls {
-        let moved = moved_at(alloc, s, places, call.as_slice())?;
-        out.push(negated_instances(alloc, literals, &moved)?)?;
+        out.push(negated_under(alloc, literals, s, places, call.as_slice())?)?;
     }
     Ok(out)
 }

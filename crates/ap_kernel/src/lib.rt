@@ -15,7 +15,7 @@
 //! | [`refl`] | a term to itself | the term, once for each side |
 //! | [`trans`] | the first left side to the last right side | nothing |
 //! | [`weaken_mode`] | the same, equality as equivalence under `iff` | nothing |
-//! | [`cong`] | a call to the call of what its arguments lead to | the function's name, for each side |
+//! | [`cong`] | a call to the call of what its arguments lead to | the function's name, for each side, and the arguments' sides |
 //! | [`branch`] | an `if` to the `if` of what its parts lead to | nothing |
 //! | [`by_fact`] | a fact's term to `'T` or `'NIL` | the fact's term |
 //! | [`by_type`] | a term to the one value that its mask leaves | the term |
@@ -83,6 +83,7 @@ mod generalising;
 mod hints;
 mod induction;
 mod linear;
+mod lists;
 mod literals;
 mod negations;
 mod objects;

@@ -15,7 +15,7 @@ use crate::equations::truth_term;
 use crate::objects::{Ctx, Equiv, Mode};
 use ap_list::{NoMemory, Seq};
 use ap_poly::Poly;
-use ap_term::{Term, copy_term};
+use ap_term::Term;
 use ap_world::{Mask, Primitive, World, primitive_of};
 use std::alloc::Global;
 
@@ -70,9 +70,8 @@ pub fn by_certificate(
     ensures made { IfOk result (λ q. q.says ≡ refuted_made ctx.now t.now sign) }
 {
     w.is_sound();
-    let lhs = copy_term(alloc, t)?;
     let rhs = truth_term(!sign);
-    let answer = Equiv::made(ctx.share()?, Mode::Equal, lhs, rhs);
+    let answer = Equiv::from_copy(alloc, ctx, Mode::Equal, t, rhs)?;
     Ok(answer)
 }
 
@@ -101,9 +100,9 @@ fn equal_equiv(alloc: Global, ctx: &Ctx, call: Term) -> Result<Equiv, NoMemory>
     requires { (a : Term) × (b : Term) × (call ≡ less_of a b) }
     ensures { IfOk result (λ q. (a b : Term) → call ≡ less_of a b → q.says ≡ equal_made ctx.now a b) }
 {
+    let ctx = ctx.share()?;
     let lhs = equated(alloc, call)?;
-    let rhs = t_term();
-    Ok(Equiv::made(ctx.share()?, Mode::Equal, lhs, rhs))
+    Ok(Equiv::made(ctx, Mode::Equal, lhs, t_term()))
 }
 
 /// From `(equal a b)` to `'T`, under equality: `less` takes `(< a b)` and `more` takes `(< b a)` to `'NIL`

@@ -4,6 +4,7 @@ ghost use Rattle.ap_world.specs.World.{function_of};
 ghost use Rattle.ap_kernel.specs.Standing.{HasGround, Stands};
 ghost use Rattle.ap_kernel.specs.Reductions.{KnownClause, Reduces, put_at, others, all_false, to_one, dropped, rewritten, chained};
 
+use crate::lists::{one, one_clause};
 use crate::objects::Equiv;
 use crate::reductions::Reduction;
 use ap_list::{NoMemory, Seq};
@@ -31,8 +32,7 @@ pub fn put_at(
 pub(crate) fn to_one(alloc: Global, from: Clause, to: Seq<Term>) -> Result<Reduction, NoMemory>
     ensures { IfOk result (λ r. r.says ≡ to_one from to) }
 {
-    let mut goals = Seq::new(alloc);
-    goals.push(Clause(to))?;
+    let goals = one_clause(alloc, Clause(to))?;
     Ok(Reduction::made(from, goals))
 }
 
@@ -75,8 +75,7 @@ pub fn rewrite_literal(
 {
     w.is_sound();
     let (_, _, _, rhs) = e.into_parts();
-    let mut put = Seq::new(alloc);
-    put.push(rhs)?;
+    let put = one(alloc, rhs)?;
     let literals = put_at(alloc, c.0.as_slice(), index, put)?;
     let answer = to_one(alloc, c, literals)?;
     Ok(answer)

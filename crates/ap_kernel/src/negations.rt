@@ -1,6 +1,7 @@
 ghost use Rattle.std.specs.Prelude.{◌≡◌, IsTrue, IfOk};
 ghost use Rattle.ap_world.specs.Sound.{known};
 ghost use Rattle.ap_world.specs.World.{function_of};
+ghost use Rattle.ap_world.specs.Clauses.{not_of};
 ghost use Rattle.ap_world.specs.Facts.{KnownFacts};
 ghost use Rattle.ap_kernel.specs.Standing.{HasGround, Stands};
 ghost use Rattle.ap_kernel.specs.Masks.{MaskHolds};
@@ -12,6 +13,14 @@ use ap_list::NoMemory;
 use ap_term::{Term, copy_term};
 use ap_world::{Mask, World};
 use std::alloc::Global;
+
+/// `(not (not t))`
+fn twice_negated(alloc: Global, t: &Term) -> Result<Term, NoMemory>
+    ensures { IfOk result (λ u. u ≡ not_of (not_of t.now)) }
+{
+    let once = not_term(alloc, copy_term(alloc, t)?)?;
+    not_term(alloc, once)
+}
 
 /// From `(not (not t))` to `t`, under `iff`, or under equality where the mask of `t` has no value but `t` and
 /// `nil`. It copies the term once for each side.
@@ -32,8 +41,8 @@ pub fn double_not(
     ensures made { IfOk result (λ q. q.says ≡ double_not_made ctx.now mode t.now) }
 {
     w.is_sound();
-    let once = not_term(alloc, copy_term(alloc, t)?)?;
-    let lhs = not_term(alloc, once)?;
+    let ctx = ctx.share()?;
+    let lhs = twice_negated(alloc, t)?;
     let rhs = copy_term(alloc, t)?;
-    Ok(Equiv::made(ctx.share()?, mode, lhs, rhs))
+    Ok(Equiv::made(ctx, mode, lhs, rhs))
 }

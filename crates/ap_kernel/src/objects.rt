@@ -1,7 +1,7 @@
 ghost use Rattle.std.specs.Prelude.{◌≡◌, IfOk};
 
 use ap_list::{NoMemory, Seq, Shared};
-use ap_term::Term;
+use ap_term::{Term, copy_term};
 use std::alloc::Global;
 
 /// A list of facts: each a term and whether it is assumed other than `nil` or to be `nil`. The list is
@@ -28,9 +28,15 @@ pub struct Sequent {
 }
 
 /// A sequent that holds. The field is private, so that the kernel's calls alone make one.
-#[derive(Drop)]
 pub struct Equiv {
     says: Sequent,
+}
+
+// One call wherever an equivalence is let go, whatever its sides are.
+impl Drop for Equiv {
+    fn drop(self) {
+        let Equiv { says: _says } = self;
+    }
 }
 
 impl Ctx {
@@ -69,6 +75,21 @@ impl Equiv {
                 rhs,
             },
         }
+    }
+
+    /// The same from a copy of a term, under facts that are shared.
+    pub(crate) fn from_copy(
+        alloc: Global,
+        ctx: &Ctx,
+        mode: Mode,
+        t: &Term,
+        rhs: Term,
+    ) -> Result<Equiv, NoMemory>
+        ensures { IfOk result (λ q. q.says ≡ record { ctx = ctx.now; mode = mode; lhs = t.now; rhs = rhs }) }
+    {
+        let ctx = ctx.share()?;
+        let lhs = copy_term(alloc, t)?;
+        Ok(Equiv::made(ctx, mode, lhs, rhs))
     }
 
     /// What it says, moved. Takes no memory.

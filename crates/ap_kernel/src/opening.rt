@@ -12,7 +12,7 @@ ghost use Rattle.ap_kernel.specs.Opening.{opened, is_quoted, is_constant_call};
 
 use crate::objects::{Ctx, Equiv, Mode};
 use ap_list::NoMemory;
-use ap_term::{Term, copy_term, pairs_of, subst};
+use ap_term::{Term, pairs_of, subst};
 use ap_value::Value;
 use ap_world::World;
 use std::alloc::Global;
@@ -91,8 +91,8 @@ pub fn open_def(alloc: Global, w: &World, ctx: &Ctx, call: &Term) -> Result<Equi
     let Some(rhs) = opened(alloc, w, call)? else {
         unreachable!()
     };
-    let lhs = copy_term(alloc, call)?;
-    Ok(Equiv::made(ctx.share()?, Mode::Equal, lhs, rhs))
+    let answer = Equiv::from_copy(alloc, ctx, Mode::Equal, call, rhs)?;
+    Ok(answer)
 }
 
 /// From a call on constants, under equality, to its value as a constant. That the value is the call's is
@@ -112,6 +112,6 @@ pub fn fold(
     ensures made { IfOk result (λ q. q.says ≡ equation_made ctx.now call.now (Quote value)) }
 {
     w.is_sound();
-    let lhs = copy_term(alloc, call)?;
-    Ok(Equiv::made(ctx.share()?, Mode::Equal, lhs, Term::Quote(value)))
+    let answer = Equiv::from_copy(alloc, ctx, Mode::Equal, call, Term::Quote(value))?;
+    Ok(answer)
 }

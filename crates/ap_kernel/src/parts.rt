@@ -157,8 +157,44 @@ fn read(t: &Term) -> Reading<'_>
     }
 }
 
-/// How the instances of a conjunct's sides agree, and these.
+/// How the sides agree.
+fn mode_of(reading: Reading<'_>) -> Mode
+    ensures { result ≡ mode_in (seen_sides reading.entry).0 }
+{
+    match reading {
+        Reading::Equal(_, _) => Mode::Equal,
+        Reading::Iff(_, _) => Mode::Iff,
+        Reading::Nil(_) => Mode::Equal,
+        Reading::True(_) => Mode::Iff,
+    }
+}
+
+/// The left side, lent.
+fn left_of(reading: Reading<'_>) -> &Term
+    ensures { result.now ≡ (seen_sides reading.entry).1 }
+{
+    match reading {
+        Reading::Equal(a, _) => a,
+        Reading::Iff(a, _) => a,
+        Reading::Nil(a) => a,
+        Reading::True(u) => u,
+    }
+}
+
+/// The instance of the right side.
 #[tactic(auto, using(ap_world::proofs::Written::subst_quote))]
+fn right_instance(alloc: Global, reading: Reading<'_>, s: &Subst) -> Result<Term, NoMemory>
+    ensures { IfOk result (λ u. u ≡ subst_of s.now.0 (seen_sides reading.entry).2) }
+{
+    match reading {
+        Reading::Equal(_, b) => subst(alloc, b, s),
+        Reading::Iff(_, b) => subst(alloc, b, s),
+        Reading::Nil(_) => Ok(nil_term()),
+        Reading::True(_) => Ok(t_term()),
+    }
+}
+
+/// How the instances of a conjunct's sides agree, and these.
 pub(crate) fn instances(
     alloc: Global,
     conjunct: &Term,
@@ -168,10 +204,8 @@ pub(crate) fn instances(
     ensures left { IfOk result (λ p. p.1 ≡ subst_of s.now.0 (sides conjunct.now).1) }
     ensures right { IfOk result (λ p. p.2 ≡ subst_of s.now.0 (sides conjunct.now).2) }
 {
-    match read(conjunct) {
-        Reading::Equal(a, b) => Ok((Mode::Equal, subst(alloc, a, s)?, subst(alloc, b, s)?)),
-        Reading::Iff(a, b) => Ok((Mode::Iff, subst(alloc, a, s)?, subst(alloc, b, s)?)),
-        Reading::Nil(a) => Ok((Mode::Equal, subst(alloc, a, s)?, nil_term())),
-        Reading::True(u) => Ok((Mode::Iff, subst(alloc, u, s)?, t_term())),
-    }
+    let reading = read(conjunct);
+    let left = subst(alloc, left_of(reading), s)?;
+    let right = right_instance(alloc, reading, s)?;
+    Ok((mode_of(reading), left, right))
 }

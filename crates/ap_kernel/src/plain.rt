@@ -20,9 +20,9 @@ pub fn refl(alloc: Global, w: &World, ctx: &Ctx, mode: Mode, t: &Term) -> Result
     ensures made { IfOk result (λ q. q.says ≡ refl_made ctx.now mode t.now) }
 {
     w.is_sound();
-    let lhs = copy_term(alloc, t)?;
     let rhs = copy_term(alloc, t)?;
-    Ok(Equiv::made(ctx.share()?, mode, lhs, rhs))
+    let answer = Equiv::from_copy(alloc, ctx, mode, t, rhs)?;
+    Ok(answer)
 }
 
 /// From the left side of the first to the right side of the second, where the first leads to what the

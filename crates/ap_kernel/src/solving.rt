@@ -1,4 +1,4 @@
-ghost use Rattle.std.specs.Prelude.{◌≡◌, IfOk, IsTrue, is_some, map, Some};
+ghost use Rattle.std.specs.Prelude.{◌≡◌, [], ◌∷◌, IfOk, IsTrue, is_some, map, Some};
 ghost use Rattle.std.specs.Option.{option_map};
 ghost use Rattle.ap_term.specs.declared.term.Term.{out-Term};
 ghost use Rattle.ap_world.specs.World.{function_of};
@@ -6,12 +6,13 @@ ghost use Rattle.ap_kernel.specs.Standing.{HasGround};
 ghost use Rattle.ap_kernel.specs.Reductions.{KnownClause, Reduces, to_one};
 ghost use Rattle.ap_kernel.specs.Solving.{occurs, occurs_in, side_solved, sides_solved, solved_by, solved_made};
 
+use crate::lists::copied_pair;
 use crate::literals::{put_at, to_one};
 use crate::reductions::Reduction;
 use crate::shapes::{ShapeRef, shape_of};
 use ap_list::{NoMemory, Seq};
-use ap_term::{Clause, Subst, Term, copy_term, is_symbol, subst_all};
-use ap_value::{Symbol, copy_symbol};
+use ap_term::{Clause, Subst, Term, is_symbol, subst_all};
+use ap_value::Symbol;
 use ap_world::World;
 use std::alloc::Global;
 
@@ -89,6 +90,15 @@ pub fn is_solvable(c: &Clause, index: usize) -> bool
     }
 }
 
+/// One variable and a copy of what replaces it.
+fn replacement(alloc: Global, x: &Symbol, by: &Term) -> Result<Subst, NoMemory>
+    ensures { IfOk result (λ s. s.0 ≡ (x.now, by.now) ∷ []) }
+{
+    let pair = copied_pair(alloc, x, by)?;
+    let pairs = Vec::from_array(alloc, [pair])?;
+    Ok(Subst(Seq::from_vec(pairs)))
+}
+
 /// The other literals with the variable replaced that the literal at a place solves, if it does.
 fn solved_literals(alloc: Global, c: &Clause, index: usize) -> Result<Option<Seq<Term>>, NoMemory>
     ensures { IfOk result (λ o. option_map (λ ts. to_one c.now ts) o ≡ solved_made c.now index) }
@@ -100,9 +110,8 @@ fn solved_literals(alloc: Global, c: &Clause, index: usize) -> Result<Option<Seq
         return Ok(None);
     };
     let others = put_at(alloc, c.0.as_slice(), index, Seq::new(alloc))?;
-    let mut pair = Seq::new(alloc);
-    pair.push((copy_symbol(alloc, x)?, copy_term(alloc, by)?))?;
-    Ok(Some(subst_all(alloc, others.as_slice(), &Subst(pair))?))
+    let pair = replacement(alloc, x, by)?;
+    Ok(Some(subst_all(alloc, others.as_slice(), &pair)?))
 }
 
 /// From a clause to the clause without the literal at a place, the negation of an equation, and with a

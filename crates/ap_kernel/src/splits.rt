@@ -1,5 +1,7 @@
 ghost use Rattle.std.specs.Prelude.{◌≡◌, ◌∷◌, [], ◌<◌, IfOk, IsTrue, length, is_some, Some};
 ghost use Rattle.std.specs.Option.{option_map, option_copied};
+ghost use Rattle.ap_term.specs.declared.term.Term.TheVariants.{Call};
+ghost use Rattle.ap_term.specs.Terms.{subst_of};
 ghost use Rattle.ap_world.specs.Clauses.{negate};
 ghost use Rattle.ap_world.specs.World.{function_of};
 ghost use Rattle.ap_world.specs.Shapes.{shape_of};
@@ -8,12 +10,13 @@ ghost use Rattle.ap_kernel.specs.Reductions.{KnownClause, Reduces, put_at};
 ghost use Rattle.ap_kernel.specs.Splits.{part_at, with_part, choice_at, choice_in, split_made};
 
 use crate::choices::not_term;
+use crate::lists::{one, two, two_clauses};
 use crate::literals::put_at;
 use crate::reductions::Reduction;
 use crate::shapes::{ShapeRef, shape_of};
 use ap_list::{NoMemory, Seq};
-use ap_term::{Clause, Term, copy_term};
-use ap_value::copy_symbol;
+use ap_term::{Clause, Subst, Term, copy_term, subst};
+use ap_value::{Symbol, copy_symbol};
 use ap_world::World;
 use std::alloc::Global;
 
@@ -40,12 +43,29 @@ fn choice_at<'a>(t: &'a Term, at: &[u32]) -> Option<(&'a Term, &'a Term, &'a Ter
     }
 }
 
-/// A copy of a term in which the part at a place is another one, which is moved.
-fn with_part(alloc: Global, t: &Term, at: &[u32], put: Term) -> Result<Option<Term>, NoMemory>
-    ensures { IfOk result (λ o. o ≡ with_part at.now put t.now) }
+/// The call of `f` on copies of arguments, of which the one at a place is another one, which is moved.
+fn with_argument(
+    alloc: Global,
+    f: &Symbol,
+    arguments: &[Term],
+    place: usize,
+    put: Term,
+) -> Result<Term, NoMemory>
+    requires { place < length arguments.now }
+    ensures { IfOk result (λ u. u ≡ Call f.now (put_at place (put ∷ []) arguments.now)) }
+{
+    let put = one(alloc, put)?;
+    let arguments = put_at(alloc, arguments, place, put)?;
+    let head = copy_symbol(alloc, f)?;
+    Term::call(alloc, head, arguments)
+}
+
+/// A copy of a term in which the part at a place is a copy of another one.
+fn with_part(alloc: Global, t: &Term, at: &[u32], part: &Term) -> Result<Option<Term>, NoMemory>
+    ensures { IfOk result (λ o. o ≡ with_part at.now part.now t.now) }
 {
     let [place, rest @ ..] = at else {
-        return Ok(Some(put));
+        return Ok(Some(copy_term(alloc, part)?));
     };
     let Term::Call(f, arguments) = t else {
         return Ok(None);
@@ -54,13 +74,10 @@ fn with_part(alloc: Global, t: &Term, at: &[u32], put: Term) -> Result<Option<Te
     let Some(argument) = arguments.get(place) else {
         return Ok(None);
     };
-    let Some(changed) = with_part(alloc, argument, rest, put)? else {
+    let Some(changed) = with_part(alloc, argument, rest, part)? else {
         return Ok(None);
     };
-    let mut one = Seq::new(alloc);
-    one.push(changed)?;
-    let arguments = put_at(alloc, arguments.as_slice(), place, one)?;
-    let whole = Term::call(alloc, copy_symbol(alloc, f)?, arguments)?;
+    let whole = with_argument(alloc, f, arguments.as_slice(), place, changed)?;
     Ok(Some(whole))
 }
 
@@ -74,6 +91,14 @@ pub fn negated(alloc: Global, t: &Term) -> Result<Term, NoMemory>
     }
 }
 
+/// The negation of the instance of a term.
+pub(crate) fn negated_instance(alloc: Global, t: &Term, s: &Subst) -> Result<Term, NoMemory>
+    ensures { IfOk result (λ u. u ≡ negate (subst_of s.now.0 t.now)) }
+{
+    let instance = subst(alloc, t, s)?;
+    negated(alloc, &instance)
+}
+
 /// The literals with two in the place of one.
 fn with_two(
     alloc: Global,
@@ -85,10 +110,39 @@ fn with_two(
     requires { index < length literals.now }
     ensures { IfOk result (λ c. c.0 ≡ put_at index (first ∷ second ∷ []) literals.now) }
 {
-    let mut two = Seq::new(alloc);
-    two.push(first)?;
-    two.push(second)?;
-    Ok(Clause(put_at(alloc, literals, index, two)?))
+    let put = two(alloc, first, second)?;
+    let literals = put_at(alloc, literals, index, put)?;
+    Ok(Clause(literals))
+}
+
+/// The case of a literal where its test is true, with its branch there.
+fn true_case(
+    alloc: Global,
+    literals: &[Term],
+    index: usize,
+    test: &Term,
+    yes: Term,
+) -> Result<Clause, NoMemory>
+    requires { index < length literals.now }
+    ensures { IfOk result (λ c. c.0 ≡ put_at index (negate test.now ∷ yes ∷ []) literals.now) }
+{
+    let negation = negated(alloc, test)?;
+    with_two(alloc, literals, index, negation, yes)
+}
+
+/// The case of a literal where its test is false, with its branch there.
+fn false_case(
+    alloc: Global,
+    literals: &[Term],
+    index: usize,
+    test: &Term,
+    no: Term,
+) -> Result<Clause, NoMemory>
+    requires { index < length literals.now }
+    ensures { IfOk result (λ c. c.0 ≡ put_at index (test.now ∷ no ∷ []) literals.now) }
+{
+    let test = copy_term(alloc, test)?;
+    with_two(alloc, literals, index, test, no)
 }
 
 /// The two cases of a literal, its test and its branches: of the branch where the test is true first.
@@ -103,12 +157,9 @@ fn two_cases(
     requires { index < length literals.now }
     ensures { IfOk result (λ cs. cs ≡ record { 0 = put_at index (negate test.now ∷ yes ∷ []) literals.now } ∷ record { 0 = put_at index (test.now ∷ no ∷ []) literals.now } ∷ []) }
 {
-    let mut cases = Seq::new(alloc);
-    let negation = negated(alloc, test)?;
-    cases.push(with_two(alloc, literals, index, negation, yes)?)?;
-    let test = copy_term(alloc, test)?;
-    cases.push(with_two(alloc, literals, index, test, no)?)?;
-    Ok(cases)
+    let first = true_case(alloc, literals, index, test, yes)?;
+    let second = false_case(alloc, literals, index, test, no)?;
+    two_clauses(alloc, first, second)
 }
 
 /// The two cases of an `if` within a literal, where there is one.
@@ -126,10 +177,10 @@ fn cases_at(
     let Some((test, yes, no)) = choice_at(literal, at) else {
         return Ok(None);
     };
-    let Some(yes) = with_part(alloc, literal, at, copy_term(alloc, yes)?)? else {
+    let Some(yes) = with_part(alloc, literal, at, yes)? else {
         return Ok(None);
     };
-    let Some(no) = with_part(alloc, literal, at, copy_term(alloc, no)?)? else {
+    let Some(no) = with_part(alloc, literal, at, no)? else {
         return Ok(None);
     };
     let cases = two_cases(alloc, c.0.as_slice(), index, test, yes, no)?;

@@ -10,7 +10,7 @@ ghost use Rattle.ap_kernel.specs.Masks.{MaskHolds, others, has_only, leads_to, t
 use crate::constants::{is_nil, is_t};
 use crate::objects::{Ctx, Equiv, Mode};
 use ap_list::NoMemory;
-use ap_term::{Term, copy_term};
+use ap_term::Term;
 use ap_value::{Value, same};
 use ap_world::{Mask, World};
 use std::alloc::Global;
@@ -82,6 +82,6 @@ pub fn by_type(
 {
     w.is_sound();
     let mode = typed_mode(mask, &value);
-    let lhs = copy_term(alloc, t)?;
-    Ok(Equiv::made(ctx.share()?, mode, lhs, Term::Quote(value)))
+    let answer = Equiv::from_copy(alloc, ctx, mode, t, Term::Quote(value))?;
+    Ok(answer)
 }

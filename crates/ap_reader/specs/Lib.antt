@@ -7,3 +7,4 @@ pub mod Heads
 pub mod Reading
 pub mod Grammar
 pub mod Breaks
+pub mod Tops

@@ -1,6 +1,7 @@
 -- An `if` and a negation whose parts are rewritten.
 use Rattle.std.proofs.Common.{◌≡◌, ℕ, Bool, true, false, cond, Option, Some, None, refl, ap, ◌∙◌, subst}
 use Rattle.ap_term.specs.declared.term.Term.{Term}
+use Rattle.ap_term.specs.Metered.{Got, after, known as answer}
 use Rattle.ap_world.specs.World.{Shown}
 use Rattle.ap_world.specs.Facts.{Facts}
 use Rattle.ap_world.specs.Assume.{assume}
@@ -9,9 +10,10 @@ use Rattle.ap_kernel.specs.declared.objects.Mode.{Mode}
 use Rattle.ap_kernel.specs.declared.objects.Mode.TheVariants.{Iff}
 use Rattle.ap_kernel.specs.declared.objects.Equiv.{Equiv}
 use Rattle.ap_kernel.specs.Answers.{if_of}
+use Rattle.ap_rewrite.specs.declared.branching.BothBranches.{BothBranches}
 use Rattle.ap_rewrite.specs.Settings.{Setting, Place, Inner, under}
 use Rattle.ap_rewrite.specs.Rewriting.{truth_of, shaped, negated, both, branches, rewrite_if, rewrite_not}
-use Rattle.ap_rewrite.specs.Answering.{From}
+use Rattle.ap_rewrite.specs.Answering.{in_branches, From, FromBranches}
 use Rattle.ap_rewrite.proofs.Froms.{from_own, from_at}
 
 module _ (S : Setting) (r : Inner) (o : Mode) (p : Place) where
@@ -22,24 +24,34 @@ module _ (S : Setting) (r : Inner) (o : Mode) (p : Place) where
   pub goes_out : (x a : Term) (n : ℕ) → x ≡ a → None ≡ r o p x n → None ≡ r o p a n
   goes_out x a n e h = h ∙ ap (λ x. r o p x n) e
 
-  -- both branches of an `if`, and where the steps ran out in the first or the second
-  pub both_out : (a x b c : Term) (n : ℕ) → x ≡ a → None ≡ r o (under p x true) b n → None ≡ both S r o p a b c n
-  both_out a x b c n e h =
-      let i : None ≡ r o (under p a true) b n = subst (λ z. None ≡ r o (under p z true) b n) e h in
-      rw (← i) refl
+  -- both branches of an `if`: the steps run out in one, or both are there
+  pub branches_out : (a b c : Term) (n : ℕ) → None ≡ r o (under p a true) b n → None ≡ in_branches r o p a b c n
+  branches_out a b c n e = rw (← e) refl
 
-  pub second_out : (a x y b c v : Term) (n m : ℕ) → x ≡ a → y ≡ a → Some (v, m) ≡ r o (under p x true) b n → None ≡ r o (under p y false) c m → None ≡ both S r o p a b c n
-  second_out a x y b c v n m e f h k =
-      let i : Some (v, m) ≡ r o (under p a true) b n = subst (λ z. Some (v, m) ≡ r o (under p z true) b n) e h in
-      let j : None ≡ r o (under p a false) c m = subst (λ z. None ≡ r o (under p z false) c m) f k in
-      rw (← i) (rw (← j) refl)
+  pub no_out : (a b c v : Term) (n m : ℕ) → Some (v, m) ≡ r o (under p a true) b n → None ≡ r o (under p a false) c m → None ≡ in_branches r o p a b c n
+  no_out a b c v n m e h = rw (← e) (rw (← h) refl)
 
-  pub both_is : (a x y b c v u z : Term) (n m k : ℕ) → x ≡ a → y ≡ a → Some (v, m) ≡ r o (under p x true) b n → Some (u, k) ≡ r o (under p y false) c m → z ≡ shaped S o p.facts a v u
-      → Some (z, k) ≡ both S r o p a b c n
-  both_is a x y b c v u z n m k e f h l q =
-      let i : Some (v, m) ≡ r o (under p a true) b n = subst (λ z. Some (v, m) ≡ r o (under p z true) b n) e h in
-      let j : Some (u, k) ≡ r o (under p a false) c m = subst (λ z. Some (u, k) ≡ r o (under p z false) c m) f l in
-      rw (← i) (rw (← j) (ap (λ z. Some (z, k)) q))
+  pub branches_are : (a b c v u : Term) (n m k : ℕ) → Some (v, m) ≡ r o (under p a true) b n → Some (u, k) ≡ r o (under p a false) c m → Some ((v, u), k) ≡ in_branches r o p a b c n
+  branches_are a b c v u n m k e h = rw (← e) (rw (← h) refl)
+
+  -- and so the whole
+  abbrev whole_of : Term → Got (Term × Term) → Got Term
+  whole_of a g = after g (λ q. answer (shaped S o p.facts a q.0 q.1))
+
+  shaped_no : (a v : Term) (g : Got Term) → whole_of a (after g (λ u. answer (v, u))) ≡ after g (λ u. answer (shaped S o p.facts a v u))
+  shaped_no a v None = refl
+  shaped_no a v (Some x) = refl
+
+  shaped_both : (a c : Term) (g : Got Term) → whole_of a (after g (λ v m. after (r o (under p a false) c m) (λ u. answer (v, u)))) ≡ after g (λ v m. after (r o (under p a false) c m) (λ u. answer (shaped S o p.facts a v u)))
+  shaped_both a c None = refl
+  shaped_both a c (Some x) = shaped_no a x.0 (r o (under p a false) c x.1)
+
+  pub both_out : (a x b c : Term) (n : ℕ) → x ≡ a → None ≡ in_branches r o p x b c n → None ≡ both S r o p a b c n
+  both_out a x b c n e h = ap (whole_of a) (h ∙ ap (λ z. in_branches r o p z b c n) e) ∙ shaped_both a c (r o (under p a true) b n)
+
+  pub both_is : (a x b c v u z : Term) (n m : ℕ) → x ≡ a → Some ((v, u), m) ≡ in_branches r o p x b c n → z ≡ shaped S o p.facts a v u → Some (z, m) ≡ both S r o p a b c n
+  both_is a x b c v u z n m e h q =
+      ap (λ z. Some (z, m)) q ∙ ap (whole_of a) (h ∙ ap (λ z. in_branches r o p z b c n) e) ∙ shaped_both a c (r o (under p a true) b n)
 
   -- an `if` by what its test has become
   pub branches_open : (t : Option Bool) (a b c : Term) (n : ℕ) → t ≡ None → both S r o p a b c n ≡ branches S r o p a t b c n
@@ -63,9 +75,11 @@ module _ (S : Setting) (r : Inner) (o : Mode) (p : Place) where
   pub not_out : (a : Term) (n : ℕ) → None ≡ r Iff p a n → None ≡ rewrite_not S r o p a n
   not_out a n h = rw (← h) refl
 
--- from the parts' own left sides
-pub branch_own : (w : Shown) (o : Mode) (fs : Facts) (x a : Term) (s : Bool) (u : Term) (q : Equiv) → x ≡ a → From w o (record { 0 = assume fs x s }) u q → From w o (record { 0 = assume fs a s }) q.says.lhs q
-branch_own w o fs x a s u q e h = from_own w o _ u q (subst (λ z. From w o (record { 0 = assume fs z s }) u q) e h)
+-- from the branches' own left sides, under the term that the test has become
+pub branches_own : (w : Shown) (o : Mode) (c : Ctx) (x a u v : Term) (q : BothBranches) → x ≡ a → FromBranches w o c x u v q → FromBranches w o c a q.yes.says.lhs q.no.says.lhs q
+branches_own w o c x a u v q e h =
+    let there = subst (λ z. FromBranches w o c z u v q) e h in
+    record { yes = from_own w o _ u q.yes there.yes; no = from_own w o _ v q.no there.no }
 
 -- the `if` of what the parts were
 pub if_whole : (w : Shown) (o : Mode) (c : Ctx) (t x y u v : Term) (q : Equiv) → x ≡ u → y ≡ v → From w o c (if_of t x y) q → From w o c (if_of t u v) q

@@ -17,7 +17,7 @@ use Rattle.ap_world.specs.Theories.{is_enabled}
 use Rattle.ap_term.specs.Equal.{term_eq}
 use Rattle.ap_rewrite.specs.Settings.{Setting, Place, Inner}
 use Rattle.ap_rewrite.specs.Rewriting.{most_nodes, none, answered, walk, open_instance, opened as opening, by_definition}
-use Rattle.ap_rewrite.specs.Answering.{open_closed}
+use Rattle.ap_rewrite.specs.Answering.{open_within, open_closed}
 
 pub opened_at : (D : Defs) (t : Term) (f : Symbol) (us : List Term) (g : Function) → t ≡ Call f us → D f ≡ Some g → opened D t ≡ Some (body_at g us)
 opened_at D t f us g e h = ap (opened D) e ∙ ap (opened_layer D) (outs-Call f us) ∙ ap (option_map (λ (k : Function). body_at k us)) h
@@ -50,19 +50,21 @@ is_opened false b c x y e f h = cc
 is_opened true true c x y e f h = cc
 is_opened true false false x y e f h = cc
 
--- the instance of a body: of a function that recurs it is rewritten where the call is to be opened, else walked down
+-- the instance of the body of a function that recurs: it is rewritten where the call is to be opened, else walked down
+module _ (S : Setting) (r : Inner) (o : Mode) (p q : Place) (u v : Term) (n : ℕ) where
+  abbrev by_list : Bool → Got (Option Term)
+  by_list b = cond b (answered (r o q v n)) (walk S r o p q v false n)
+
+  pub opened_whole : is_among term_eq u S.expand ≡ true → answered (r o q v n) ≡ open_within S r o p q u v n
+  opened_whole e = ap by_list (sym e)
+
+  pub walked_down : is_among term_eq u S.expand ≡ false → walk S r o p q v false n ≡ open_within S r o p q u v n
+  walked_down e = ap by_list (sym e)
+
+-- the instance of a body, by whether the function recurs
 module _ (S : Setting) (r : Inner) (o : Mode) (p : Place) (f : Symbol) (u v : Term) (n : ℕ) where
-  abbrev shut : List Symbol → Place
-  shut fs = record { facts = p.facts; closed = fs; chain = p.chain }
-
-  abbrev by_list : List Symbol → Bool → Got (Option Term)
-  by_list fs b = cond b (answered (r o (shut fs) v n)) (walk S r o p (shut fs) v false n)
-
-  pub opened_whole : (fs : List Symbol) → is_among term_eq u S.expand ≡ true → fs ≡ f ∷ p.closed → answered (r o (shut fs) v n) ≡ open_closed S r o p f u v n
-  opened_whole fs e is = ap (by_list fs) (sym e) ∙ ap (λ gs. by_list gs (is_among term_eq u S.expand)) is
-
-  pub walked_down : (fs : List Symbol) → is_among term_eq u S.expand ≡ false → fs ≡ f ∷ p.closed → walk S r o p (shut fs) v false n ≡ open_closed S r o p f u v n
-  walked_down fs e is = ap (by_list fs) (sym e) ∙ ap (λ gs. by_list gs (is_among term_eq u S.expand)) is
+  pub closed_within : (fs : List Symbol) → fs ≡ f ∷ p.closed → open_within S r o p (record { facts = p.facts; closed = fs; chain = p.chain }) u v n ≡ open_closed S r o p f u v n
+  closed_within fs is = ap (λ gs. open_within S r o p (record { facts = p.facts; closed = gs; chain = p.chain }) u v n) is
 
   abbrev by_measure : Bool → Got (Option Term)
   by_measure b = cond (not b) (answered (r o p v n)) (open_closed S r o p f u v n)

@@ -1,5 +1,5 @@
 -- The literals of a clause, rewritten one after another, and what is left of it.
-use Rattle.std.proofs.Common.{◌≡◌, ℕ, zero, suc, ◌+◌, ◌<◌, Bool, true, false, cond, List, [], ◌∷◌, ◌++◌, length, take, drop, Option, Some, None, slice_get, refl, sym, ap, ◌∙◌, subst, add-one, arith}
+use Rattle.std.proofs.Common.{◌≡◌, ℕ, zero, suc, ◌+◌, ◌<◌, Bool, true, false, cond, List, [], ◌∷◌, ◌++◌, length, take, drop, Option, Some, None, IfSome, slice_get, refl, sym, ap, ◌∙◌, subst, add-one, arith}
 use Rattle.std.specs.Option.{option_map}
 use Rattle.ap_list.specs.Lists.{Each}
 use Rattle.ap_term.specs.declared.term.Term.{Term}
@@ -9,14 +9,18 @@ use Rattle.ap_world.specs.Meaning.{Defs}
 use Rattle.ap_world.specs.World.{Shown}
 use Rattle.ap_world.specs.Facts.{Facts}
 use Rattle.ap_world.specs.Shapes.{is_constant}
+use Rattle.ap_kernel.specs.declared.objects.Ctx.{Ctx}
+use Rattle.ap_kernel.specs.declared.objects.Equiv.{Equiv}
 use Rattle.ap_kernel.specs.declared.objects.Mode.TheVariants.{Iff}
 use Rattle.ap_kernel.specs.declared.reductions.Inference.{Inference}
 use Rattle.ap_kernel.specs.declared.reductions.Reduction.{Reduction}
+use Rattle.ap_kernel.specs.Standing.{Stands}
 use Rattle.ap_kernel.specs.Reductions.{KnownClause, Reduces, put_at, others, all_false, to_one, rewritten}
 use Rattle.ap_kernel.specs.Tidying.{tidied, holds_by_itself, tidy_goals, tidy_made}
 use Rattle.ap_rewrite.specs.Settings.{Setting}
 use Rattle.ap_rewrite.specs.Rewriting.{rewrite_of}
 use Rattle.ap_rewrite.specs.Literals.{rewrite_literal, rewrite_literals, left_of, rewritten_to, split_left}
+use Rattle.ap_rewrite.specs.Answering.{From}
 use Rattle.ap_rewrite.specs.Simplifying.{got_reduced, literals_left, HasPlace, LeavesTrue}
 use Rattle.ap_rewrite.proofs.Sure.{sure_holds}
 
@@ -131,25 +135,37 @@ closed_says q us c n p same h e k =
     let none : tidy_goals (tidied c.0) ≡ [] = ap (λ (ts : List Term). tidy_goals (tidied ts)) (sym same) ∙ ap (λ b. cond b [] (record { 0 = tidied us } ∷ [])) h in
     k ∙ ap (λ (x : Inference). record { from = q.from; to = x.to }) e ∙ ap (λ (ds : List Clause). record { from = q.from; to = ds }) none
 
--- the literal that is rewritten
-pub literal_here : (ts : List Term) (i : ℕ) (u v : Term) → slice_get ts i ≡ Some u → v ≡ u → slice_get ts i ≡ Some v
-literal_here ts i u v at e = at ∙ ap Some (sym e)
+-- each answer that there is
+each_some : {A : Type 0} {P Q : A → Type 0} (o : Option A) → ((x : A) → P x → Q x) → IfSome o P → IfSome o Q
+each_some None f h = tt
+each_some (Some x) f h = f x h
 
-module _ (S : Setting) (c : Clause) (fs : Facts) (t u : Term) (i n m : ℕ) (facts : fs ≡ all_false (others i c.0)) (here : slice_get c.0 i ≡ Some t) (there : slice_get c.0 i ≡ Some u) where
-  same_literal : rewrite_of S Iff (record { facts = fs; closed = []; chain = 0 }) t n ≡ rewrite_literal S (take i c.0) (drop (i + 1) c.0) u n
+-- the literal that is rewritten, and what it leads to
+module _ (w : Shown) (x : Ctx) (t : Term) (o : Option Equiv) (from : IfSome o (From w Iff x t)) where
+  pub each_stands : IfSome o (λ q. Stands w q)
+  each_stands = each_some o (λ q f. f.stands) from
+
+  pub each_here : (ts : List Term) (i : ℕ) → slice_get ts i ≡ Some t → IfSome o (λ q. slice_get ts i ≡ Some q.says.lhs)
+  each_here ts i at = each_some o (λ q f. at ∙ ap Some (sym f.lhs)) from
+
+  pub each_facts : (fs : Facts) → x.0 ≡ fs → IfSome o (λ q. q.says.ctx.0 ≡ fs)
+  each_facts fs e = each_some o (λ q f. ap (λ (y : Ctx). y.0) f.ctx ∙ e) from
+
+module _ (S : Setting) (c : Clause) (fs : Facts) (t u : Term) (i n : ℕ) (facts : fs ≡ all_false (others i c.0)) (here : slice_get c.0 i ≡ Some t) (there : slice_get c.0 i ≡ Some u) where
+  pub same_literal : rewrite_of S Iff (record { facts = fs; closed = []; chain = 0 }) t n ≡ rewrite_literal S (take i c.0) (drop (i + 1) c.0) u n
   same_literal =
       let same : ◌≡◌ {A = Option Term} (Some t) (Some u) = sym here ∙ there in
       let is : t ≡ u = cc in
       ap (λ (gs : Facts). rewrite_of S Iff (record { facts = gs; closed = []; chain = 0 }) t n) facts
       ∙ ap (λ x. rewrite_of S Iff (record { facts = all_false (others i c.0); closed = []; chain = 0 }) x n) is
 
-  pub place_out : None ≡ rewrite_of S Iff (record { facts = fs; closed = []; chain = 0 }) t n
-      → got_reduced None m ≡ mapped (rewritten c i) (rewrite_literal S (take i c.0) (drop (i + 1) c.0) u n)
-  place_out e = ap (mapped (rewritten c i)) (e ∙ same_literal)
+module _ (S : Setting) (c : Clause) (u : Term) (i n m : ℕ) where
+  pub place_out : None ≡ rewrite_literal S (take i c.0) (drop (i + 1) c.0) u n → got_reduced None m ≡ mapped (rewritten c i) (rewrite_literal S (take i c.0) (drop (i + 1) c.0) u n)
+  place_out e = ap (mapped (rewritten c i)) e
 
-  pub place_some : (v : Term) (p : Reduction) → Some (v, m) ≡ rewrite_of S Iff (record { facts = fs; closed = []; chain = 0 }) t n → p.says ≡ rewritten c i v
+  pub place_some : (v : Term) (p : Reduction) → Some (v, m) ≡ rewrite_literal S (take i c.0) (drop (i + 1) c.0) u n → p.says ≡ rewritten c i v
       → got_reduced (Some p) m ≡ mapped (rewritten c i) (rewrite_literal S (take i c.0) (drop (i + 1) c.0) u n)
-  place_some v p e k = ap (λ (x : Inference). Some (x, m)) k ∙ ap (mapped (rewritten c i)) (e ∙ same_literal)
+  place_some v p e k = ap (λ (x : Inference). Some (x, m)) k ∙ ap (mapped (rewritten c i)) e
 
 -- what the loop keeps: the literals before the place are rewritten, and those from there on give what all of them give
 pub record Stage (w : Shown) (S : Setting) (c : Clause) (all : Got (Option (List Term))) (i n : ℕ) (q : Reduction) : Type 0 where

@@ -25,7 +25,7 @@ use Rattle.ap_kernel.specs.Answers.{if_of}
 use denote.Ref.{Bor}
 use Rattle.ap_rewrite.specs.Settings.{Setting, Place, Inner}
 use Rattle.ap_rewrite.specs.Rewriting.{truth_of, answered, none, both, Walk, walk_on, walk_shape, walk}
-use Rattle.ap_rewrite.specs.Answering.{From, leaf_on}
+use Rattle.ap_rewrite.specs.Answering.{From, leaf_on, ends_on}
 use Rattle.ap_rewrite.proofs.Froms.{if_parts, choice_parts, right_known}
 
 abbrev pub branches_there : {A : Type 0} → Shape A → Bool
@@ -114,13 +114,13 @@ no_branches u (lent.Cons a b) e h = rw (← e) refl
 no_branches u lent.Other e h = rw (← e) refl
 
 -- the branches of an `if` are smaller, and so is the one that is taken
-pub branches_smaller : (u a b c : Term) → u ≡ if_of a b c → 2 * (term_size b + term_size c) + 1 < 2 * term_size u
+pub branches_smaller : (u a b c : Term) → u ≡ if_of a b c → 3 * (term_size b + term_size c) + 3 < 3 * term_size u + 1
 branches_smaller u a b c is =
     let e : term_size (if_of a b c) ≡ (term_size a + (term_size b + (term_size c + 0))) + 1 = fold_call size_step if_name (a ∷ b ∷ c ∷ []) in
     let k : term_size u ≡ (term_size a + (term_size b + (term_size c + 0))) + 1 = ap term_size is ∙ e in
     omega (arith, k)
 
-pub branch_smaller : (s : Bool) (u b c : Term) → u ≡ cond s b c → 2 * term_size u < 2 * (term_size b + term_size c) + 1
+pub branch_smaller : (s : Bool) (u b c : Term) → u ≡ cond s b c → 3 * term_size u + 2 < 3 * (term_size b + term_size c) + 3
 branch_smaller true u b c is = let k : term_size u ≡ term_size b = ap term_size is in omega (arith, k)
 branch_smaller false u b c is = let k : term_size u ≡ term_size c = ap term_size is in omega (arith, k)
 
@@ -145,17 +145,19 @@ module _ (S : Setting) (r : Inner) (o : Mode) (p q : Place) (taken : Bool) (a b 
   pub past_chosen : (s : Bool) (v : Term) → truth_of a ≡ Some s → v ≡ cond s b c → walk S r o p q v true n ≡ past (truth_of a)
   past_chosen s v e is = ap (λ (x : Term). walk S r o p q x true n) is ∙ chosen s ∙ ap past (sym e)
 
-  ended : taken ≡ true → answered (both S r o q a b c n) ≡ past None
-  ended e = ap (λ t. walk_on S r o p q t a None (b, walk S r o p q b) (c, walk S r o p q c) n) (sym e)
+  ended : (t : Bool) → ends_on S r o q t a b c n ≡ walk_on S r o p q t a None (b, walk S r o p q b) (c, walk S r o p q c) n
+  ended true = refl
+  ended false = refl
 
-  pub past_open : taken ≡ true → truth_of a ≡ None → answered (both S r o q a b c n) ≡ past (truth_of a)
-  past_open t e = ended t ∙ ap past (sym e)
+  pub past_open : truth_of a ≡ None → ends_on S r o q taken a b c n ≡ past (truth_of a)
+  past_open e = ended taken ∙ ap past (sym e)
 
-  left : taken ≡ false → none n ≡ past None
-  left e = ap (λ t. walk_on S r o p q t a None (b, walk S r o p q b) (c, walk S r o p q c) n) (sym e)
+-- the end: both branches, or nothing
+pub ends_both : (S : Setting) (r : Inner) (o : Mode) (p : Place) (taken : Bool) (a b c : Term) (n : ℕ) → taken ≡ true → answered (both S r o p a b c n) ≡ ends_on S r o p taken a b c n
+ends_both S r o p taken a b c n e = ap (λ t. ends_on S r o p t a b c n) (sym e)
 
-  pub past_none : taken ≡ false → truth_of a ≡ None → none n ≡ past (truth_of a)
-  past_none t e = left t ∙ ap past (sym e)
+pub ends_none : (S : Setting) (r : Inner) (o : Mode) (p : Place) (taken : Bool) (a b c : Term) (n : ℕ) → taken ≡ false → none n ≡ ends_on S r o p taken a b c n
+ends_none S r o p taken a b c n e = ap (λ t. ends_on S r o p t a b c n) (sym e)
 
 -- at an `if`: the steps run out in its test, or it is passed
 pub walk_out : (S : Setting) (r : Inner) (o : Mode) (p q : Place) (u a b c : Term) (taken : Bool) (n : ℕ) → u ≡ if_of a b c → None ≡ r Iff p a n → None ≡ walk S r o p q u taken n
@@ -190,6 +192,9 @@ seen_parts w o k u v q a b c f same e =
 pub same_place : (w : Shown) (o : Mode) (k l : Ctx) (u : Term) (x : Result (Option (Option Equiv)) AllocError) → k ≡ l
     → IfOk x (λ y. IfSome y (λ a. IfSome a (From w o k u))) → IfOk x (λ y. IfSome y (λ a. IfSome a (From w o l u)))
 same_place w o k l u x e h = subst (λ (z : Ctx). IfOk x (λ y. IfSome y (λ a. IfSome a (From w o z u)))) e h
+
+pub same_found : (w : Shown) (o : Mode) (k l : Ctx) (u : Term) (x : Option Equiv) → k ≡ l → IfSome x (From w o k u) → IfSome x (From w o l u)
+same_found w o k l u x e h = subst (λ (z : Ctx). IfSome x (From w o z u)) e h
 
 pub from_there : (w : Shown) (o : Mode) (k l : Ctx) (u : Term) (q : Equiv) → k ≡ l → From w o k u q → From w o l u q
 from_there w o k l u q e f = subst (λ (z : Ctx). From w o z u q) e f

@@ -14,6 +14,7 @@ use Rattle.ap_world.specs.Meaning.{Defs}
 use Rattle.ap_world.specs.Sound.{known}
 use Rattle.ap_world.specs.World.{Shown, function_of}
 use Rattle.ap_world.specs.Facts.{KnownFacts}
+use Rattle.ap_world.specs.Assume.{assume}
 use Rattle.ap_world.specs.Holding.{KnownPairs, part_of}
 use Rattle.ap_world.specs.Rules.{Rule}
 use Rattle.ap_poly.specs.Polynomials.{Polynomial}
@@ -28,13 +29,14 @@ use Rattle.ap_kernel.specs.Standing.{HasGround, Stands}
 use Rattle.ap_rewrite.specs.declared.rewriter.Rewriter.{Rewriter}
 use Rattle.ap_rewrite.specs.declared.rewriter.Place.{Place}
 use Rattle.ap_rewrite.specs.declared.rewriter.Run.{Run}
+use Rattle.ap_rewrite.specs.declared.branching.BothBranches.{BothBranches}
 use Rattle.ap_rewrite.specs.declared.facts.Relieved.{Relieved}
 use Rattle.ap_rewrite.specs.declared.rules.Reliefs.{Reliefs}
 use Rattle.ap_rewrite.specs.Arithmetic.{is_usable}
-use Rattle.ap_rewrite.specs.Settings.{Setting, Inner, closing, Place as Stood}
+use Rattle.ap_rewrite.specs.Settings.{Setting, Inner, under, closing, Place as Stood}
 use Rattle.ap_rewrite.specs.InWorld.{world_setting}
 use Rattle.ap_rewrite.specs.Linear.{at_atoms, by_arithmetic}
-use Rattle.ap_rewrite.specs.Rewriting.{answered, none, settle, equate, walk, by_rules, by_definition, rewrite_to}
+use Rattle.ap_rewrite.specs.Rewriting.{answered, none, settle, equate, both, walk, by_rules, by_definition, rewrite_to}
 
 -- the world, and its definitions
 abbrev pub world_of : {O : Type 0} → Rewriter O → Shown
@@ -105,14 +107,31 @@ module _ (S : Setting) (r : Inner) (o : Mode) (p : Stood) (f : Symbol) (us : Lis
   abbrev pub from_settling : List (By (Option Term))
   from_settling = answer (settle S o p (Call f us)) ∷ from_equating
 
+-- what both branches of an `if` lead to
+abbrev pub got_branches : Option BothBranches → ℕ → Got (Term × Term)
+got_branches None n = None
+got_branches (Some q) n = Some ((q.yes.says.rhs, q.no.says.rhs), n)
+
+abbrev pub in_branches : Inner → Mode → Stood → Term → Term → Term → By (Term × Term)
+in_branches r o p a b c n = after (r o (under p a true) b n) (λ b' n. after (r o (under p a false) c n) (λ c'. answer (b', c')))
+
 -- an answer at the end of a walk, where a branch was taken
 abbrev pub leaf_on : Inner → Mode → Stood → Term → Bool → By (Option Term)
 leaf_on r o p u true n = answered (r o p u n)
 leaf_on r o p u false n = none n
 
--- the instance of the body of a function that recurs, to which a call leads
+-- both branches of the `if` at which a walk ends, where a branch was taken
+abbrev pub ends_on : Setting → Inner → Mode → Stood → Bool → Term → Term → Term → By (Option Term)
+ends_on S r o p true a b c n = answered (both S r o p a b c n)
+ends_on S r o p false a b c n = none n
+
+-- the instance of the body of a function that recurs, to which a call leads: where one stands within
+abbrev pub open_within : Setting → Inner → Mode → Stood → Stood → Term → Term → By (Option Term)
+open_within S r o p q u v n = cond (is_among term_eq u S.expand) (answered (r o q v n)) (walk S r o p q v false n)
+
+-- with the function closed
 abbrev pub open_closed : Setting → Inner → Mode → Stood → Symbol → Term → Term → By (Option Term)
-open_closed S r o p f u v n = cond (is_among term_eq u S.expand) (answered (r o (closing f p) v n)) (walk S r o p (closing f p) v false n)
+open_closed S r o p f u v n = open_within S r o p (closing f p) u v n
 
 -- a linear rule at each atom, where the theory enables it; the rule at a place, where there is one; and those at places,
 -- one after another
@@ -162,6 +181,11 @@ pub record From (w : Shown) (o : Mode) (c : Ctx) (u : Term) (q : Equiv) : Type 0
   pub ctx : q.says.ctx ≡ c
   pub mode : q.says.mode ≡ o
   pub lhs : q.says.lhs ≡ u
+
+-- from both branches of an `if`, each under what the test's sign adds to the facts
+pub record FromBranches (w : Shown) (o : Mode) (c : Ctx) (a b d : Term) (q : BothBranches) : Type 0 where
+  pub yes : From w o (record { 0 = assume c.0 a true }) b q.yes
+  pub no : From w o (record { 0 = assume c.0 a false }) d q.no
 
 -- from some term
 abbrev pub Leads : Shown → Mode → Ctx → Equiv → Type 0

@@ -8,12 +8,19 @@ ghost use Rattle.ap_kernel.specs.Answers.{if_of};
 ghost use Rattle.ap_kernel.specs.declared.objects.Mode.TheVariants.{Iff};
 ghost use Rattle.ap_rewrite.specs.Settings.{under};
 ghost use Rattle.ap_rewrite.specs.Rewriting.{truth_of, shaped, negated, both, branches, rewrite_if, rewrite_not};
-ghost use Rattle.ap_rewrite.specs.Answering.{defs_in, Ready, setting_of, inner_of, seen_at, got, From, IsLevel};
+ghost use Rattle.ap_rewrite.specs.Answering.{defs_in, Ready, setting_of, inner_of, seen_at, got, got_branches, in_branches, From, FromBranches, IsLevel};
 
 use crate::rewriter::{Level, Place, Rewriter, Run, deeper};
 use crate::rows::{follow, join, negate, picked, plainest, simplest, stay};
 use crate::testing::truth_of;
 use ap_kernel::{Ctx, Equiv, Mode, NoMemory, Term, TypeOracle, assume, assumed_facts_hold};
+
+/// What both branches of an `if` lead to.
+#[derive(Drop)]
+pub(crate) struct BothBranches {
+    pub yes: Equiv,
+    pub no: Equiv,
+}
 
 /// A term under what another's sign adds to the facts.
 fn under<
@@ -52,22 +59,51 @@ fn shape_whole<O: TypeOracle>(
     ctx: &Ctx,
     mode: Mode,
     test: Equiv,
-    yes: Equiv,
-    no: Equiv,
+    found: BothBranches,
 ) -> Result<Equiv, NoMemory>
     requires ready { Ready r.now }
     requires facts { KnownFacts (defs_in r.now) ctx.now.0 }
     requires test { From r.now.w.now Iff ctx.now test.says.lhs test }
     requires open { truth_of test.says.rhs ≡ None }
-    requires yes { From r.now.w.now mode (record { 0 = assume ctx.now.0 test.says.rhs true }) yes.says.lhs yes }
-    requires no { From r.now.w.now mode (record { 0 = assume ctx.now.0 test.says.rhs false }) no.says.lhs no }
-    ensures is { IfOk result (λ q. q.says.rhs ≡ shaped (setting_of r.now) mode ctx.now.0 test.says.rhs yes.says.rhs no.says.rhs) }
-    ensures from { IfOk result (From r.now.w.now mode ctx.now (if_of test.says.lhs yes.says.lhs no.says.lhs)) }
+    requires found { FromBranches r.now.w.now mode ctx.now test.says.rhs found.yes.says.lhs found.no.says.lhs found }
+    ensures is { IfOk result (λ q. q.says.rhs ≡ shaped (setting_of r.now) mode ctx.now.0 test.says.rhs found.yes.says.rhs found.no.says.rhs) }
+    ensures from { IfOk result (From r.now.w.now mode ctx.now (if_of test.says.lhs found.yes.says.lhs found.no.says.lhs)) }
 {
+    let BothBranches { yes, no } = found;
     let whole = join(r, ctx, mode, test, yes, no)?;
     let more = simplest(r, ctx, mode, whole.rhs())?;
     let q = follow(r, ctx, mode, whole, more)?;
     Ok(q)
+}
+
+/// What both branches of an `if` lead to, each under the test's sign. `None` where the steps run out.
+fn in_branches<
+    O: TypeOracle,
+    F: Fn(&mut Run, Mode, &Place<'_>, &Term) -> Result<Option<Equiv>, NoMemory>,
+>(
+    l: &Level<'_, '_, O, F>,
+    run: &mut Run,
+    mode: Mode,
+    at: &Place<'_>,
+    a: &Term,
+    b: &Term,
+    c: &Term,
+) -> Result<Option<BothBranches>, NoMemory>
+    requires level { IsLevel (F.pre l.now.below.now) (F.post l.now.below.now) l.now.r.now l.now.levels }
+    requires facts { KnownFacts (defs_in l.now.r.now) at.now.ctx.now.0 }
+    requires test { IsTrue (known (defs_in l.now.r.now) a.now) }
+    requires yes { IsTrue (known (defs_in l.now.r.now) b.now) }
+    requires no { IsTrue (known (defs_in l.now.r.now) c.now) }
+    ensures is { IfOk result (λ o. got_branches o run.new.left ≡ in_branches (inner_of l.now.r.now l.now.levels) mode (seen_at at.now) a.now b.now c.now run.old.left) }
+    ensures from { IfOk result (λ o. IfSome o (FromBranches l.now.r.now.w.now mode at.now.ctx.now a.now b.now c.now)) }
+{
+    let Some(yes) = under(l, run, mode, at, a, true, b)? else {
+        return Ok(None);
+    };
+    let Some(no) = under(l, run, mode, at, a, false, c)? else {
+        return Ok(None);
+    };
+    Ok(Some(BothBranches { yes, no }))
 }
 
 /// An `if` whose test has become no constant: both branches under its test.
@@ -92,13 +128,10 @@ pub fn both<
     ensures is { IfOk result (λ o. got o run.new.left ≡ both (setting_of l.now.r.now) (inner_of l.now.r.now l.now.levels) mode (seen_at at.now) test.says.rhs b.now c.now run.old.left) }
     ensures from { IfOk result (λ o. IfSome o (From l.now.r.now.w.now mode at.now.ctx.now (if_of test.says.lhs b.now c.now))) }
 {
-    let Some(yes) = under(l, run, mode, at, test.rhs(), true, b)? else {
+    let Some(found) = in_branches(l, run, mode, at, test.rhs(), b, c)? else {
         return Ok(None);
     };
-    let Some(no) = under(l, run, mode, at, test.rhs(), false, c)? else {
-        return Ok(None);
-    };
-    let whole = shape_whole(l.r, at.ctx, mode, test, yes, no)?;
+    let whole = shape_whole(l.r, at.ctx, mode, test, found)?;
     Ok(Some(whole))
 }
 
@@ -124,32 +157,54 @@ fn stay_under<O: TypeOracle>(
     Ok(q)
 }
 
-/// From an `if` to the branch that the constant chooses to which its test leads, where the branches stay.
+/// From both branches of an `if` to themselves, each under the test's sign.
+fn stay_in_branches<O: TypeOracle>(
+    r: &Rewriter<'_, O>,
+    ctx: &Ctx,
+    mode: Mode,
+    a: &Term,
+    b: &Term,
+    c: &Term,
+) -> Result<BothBranches, NoMemory>
+    requires ready { Ready r.now }
+    requires facts { KnownFacts (defs_in r.now) ctx.now.0 }
+    requires test { IsTrue (known (defs_in r.now) a.now) }
+    requires yes { IsTrue (known (defs_in r.now) b.now) }
+    requires no { IsTrue (known (defs_in r.now) c.now) }
+    ensures yes { IfOk result (λ q. q.yes.says.rhs ≡ b.now) }
+    ensures no { IfOk result (λ q. q.no.says.rhs ≡ c.now) }
+    ensures from { IfOk result (FromBranches r.now.w.now mode ctx.now a.now b.now c.now) }
+{
+    let yes = stay_under(r, ctx, mode, a, true, b)?;
+    let no = stay_under(r, ctx, mode, a, false, c)?;
+    Ok(BothBranches { yes, no })
+}
+
+/// From an `if` to the branch that the constant chooses to which its test leads.
 fn take_branch<O: TypeOracle>(
     r: &Rewriter<'_, O>,
     ctx: &Ctx,
     mode: Mode,
     test: Equiv,
     sign: bool,
-    yes: Equiv,
-    no: Equiv,
+    found: BothBranches,
 ) -> Result<Equiv, NoMemory>
     requires ready { Ready r.now }
     requires facts { KnownFacts (defs_in r.now) ctx.now.0 }
     requires test { From r.now.w.now Iff ctx.now test.says.lhs test }
     requires sign { truth_of test.says.rhs ≡ Some sign }
-    requires yes { From r.now.w.now mode (record { 0 = assume ctx.now.0 test.says.rhs true }) yes.says.lhs yes }
-    requires no { From r.now.w.now mode (record { 0 = assume ctx.now.0 test.says.rhs false }) no.says.lhs no }
-    ensures is { IfOk result (λ q. q.says.rhs ≡ cond sign yes.says.rhs no.says.rhs) }
-    ensures from { IfOk result (From r.now.w.now mode ctx.now (if_of test.says.lhs yes.says.lhs no.says.lhs)) }
+    requires found { FromBranches r.now.w.now mode ctx.now test.says.rhs found.yes.says.lhs found.no.says.lhs found }
+    ensures is { IfOk result (λ q. q.says.rhs ≡ cond sign found.yes.says.rhs found.no.says.rhs) }
+    ensures from { IfOk result (From r.now.w.now mode ctx.now (if_of test.says.lhs found.yes.says.lhs found.no.says.lhs)) }
 {
+    let BothBranches { yes, no } = found;
     let whole = join(r, ctx, mode, test, yes, no)?;
     let more = picked(r, ctx, mode, whole.rhs())?;
     let q = follow(r, ctx, mode, whole, more)?;
     Ok(q)
 }
 
-/// From an `if` to the branch that the constant chooses to which its test leads.
+/// From an `if` to the branch that the constant chooses to which its test leads, where the branches stay.
 pub fn choose<O: TypeOracle>(
     r: &Rewriter<'_, O>,
     ctx: &Ctx,
@@ -168,9 +223,8 @@ pub fn choose<O: TypeOracle>(
     ensures is { IfOk result (λ q. q.says.rhs ≡ cond sign b.now c.now) }
     ensures from { IfOk result (From r.now.w.now mode ctx.now (if_of test.says.lhs b.now c.now)) }
 {
-    let yes = stay_under(r, ctx, mode, test.rhs(), true, b)?;
-    let no = stay_under(r, ctx, mode, test.rhs(), false, c)?;
-    let q = take_branch(r, ctx, mode, test, sign, yes, no)?;
+    let found = stay_in_branches(r, ctx, mode, test.rhs(), b, c)?;
+    let q = take_branch(r, ctx, mode, test, sign, found)?;
     Ok(q)
 }
 

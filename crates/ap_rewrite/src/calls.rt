@@ -58,7 +58,7 @@ fn on_arguments<O: TypeOracle>(
     ensures is { IfOk result (λ q. q.says.rhs ≡ Call f.now (rights (said args))) }
     ensures from { IfOk result (From r.now.w.now mode ctx.now (Call f.now (lefts (said args)))) }
 {
-    let equal = cong(r.alloc, r.w, ctx, f, args)?;
+    let equal = cong(r.alloc, r.w, ctx, f, args.as_slice())?;
     let q = in_mode(r.alloc, r.w, equal, mode)?;
     Ok(q)
 }

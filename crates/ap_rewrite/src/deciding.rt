@@ -111,6 +111,29 @@ fn by_less<
     }
 }
 
+/// From `(< a b)` to `'NIL`, where it is refuted.
+fn less_refuted<
+    O: TypeOracle + LinearOracle,
+    F: Fn(&mut Run, Mode, &Place<'_>, &Term) -> Result<Option<Equiv>, NoMemory>,
+>(
+    l: &Level<'_, '_, O, F>,
+    run: &mut Run,
+    at: &Place<'_>,
+    a: &Term,
+    b: &Term,
+) -> Result<Option<Option<Equiv>>, NoMemory>
+    requires level { IsLevel (F.pre l.now.below.now) (F.post l.now.below.now) l.now.r.now l.now.levels }
+    requires facts { KnownFacts (defs_in l.now.r.now) at.now.ctx.now.0 }
+    requires left { IsTrue (known (defs_in l.now.r.now) a.now) }
+    requires right { IsTrue (known (defs_in l.now.r.now) b.now) }
+    ensures is { IfOk result (λ o. got_if o run.new.left ≡ refuted (setting_of l.now.r.now) (inner_of l.now.r.now l.now.levels) (seen_at at.now) (less_of a.now b.now) true run.old.left) }
+    ensures refutes { IfOk result (λ o. IfSome o (λ q. IfSome q (Refutes l.now.r.now.w.now at.now.ctx.now (less_of a.now b.now) true))) }
+{
+    let less = less_term(l.r.alloc, a, b)?;
+    let found = refuted(l, run, at, &less, true)?;
+    Ok(found)
+}
+
 /// Two integers by their types, of which the first isn't less: whether the second isn't either, so that they are equal.
 fn other_order<
     O: TypeOracle + LinearOracle,
@@ -133,8 +156,7 @@ fn other_order<
     ensures is { IfOk result (λ o. got_if o run.new.left ≡ refuted (setting_of l.now.r.now) (inner_of l.now.r.now l.now.levels) (seen_at at.now) (less_of b.now a.now) true run.old.left) }
     ensures squeezes { IfOk result (λ o. IfSome o (λ q. IfSome q (Squeezes l.now.r.now.w.now at.now.ctx.now a.now b.now))) }
 {
-    let more = less_term(l.r.alloc, b, a)?;
-    match refuted(l, run, at, &more, true)? {
+    match less_refuted(l, run, at, b, a)? {
         None => Ok(None),
         Some(None) => Ok(Some(None)),
         Some(Some(second)) => {
@@ -165,8 +187,7 @@ fn by_orders<
     ensures is { IfOk result (λ o. got_if o run.new.left ≡ by_orders (setting_of l.now.r.now) (inner_of l.now.r.now l.now.levels) (seen_at at.now) a.now b.now run.old.left) }
     ensures squeezes { IfOk result (λ o. IfSome o (λ q. IfSome q (Squeezes l.now.r.now.w.now at.now.ctx.now a.now b.now))) }
 {
-    let less = less_term(l.r.alloc, a, b)?;
-    match refuted(l, run, at, &less, true)? {
+    match less_refuted(l, run, at, a, b)? {
         None => Ok(None),
         Some(None) => Ok(Some(None)),
         Some(Some(first)) => other_order(l, run, at, a, b, masks, first),

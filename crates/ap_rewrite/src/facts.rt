@@ -19,11 +19,12 @@ ghost use Rattle.ap_rewrite.specs.Relieving.{by_facts, by_sign};
 use crate::settling::nil_value;
 use crate::shaping::not_constant;
 use ap_kernel::{
-    Ctx, Equiv, Mode, NoMemory, Seq, ShapeRef, Subst, Symbol, Term, World, by_fact, cong,
-    is_symbol, not_symbol, shape_of, trans,
+    Ctx, Equiv, Mode, NoMemory, ShapeRef, Subst, Symbol, Term, World, by_fact, cong, is_symbol,
+    not_symbol, shape_of, trans,
 };
 use ap_term::one_way_match;
 use std::alloc::Global;
+use std::slice;
 
 /// A hypothesis that is relieved: the pairs, which give each of its variables a term, and the equivalence that leads
 /// from its instance to `'T`.
@@ -107,10 +108,21 @@ pub fn not_equiv(alloc: Global, w: &World, ctx: &Ctx, q: Equiv) -> Result<Equiv,
     ensures stands { IfOk result (λ r. Stands w.now r) }
     ensures made { IfOk result (λ r. r.says ≡ leads_made ctx.now Equal (not_of q.says.lhs) (not_of q.says.rhs)) }
 {
-    let mut args = Seq::new(alloc);
-    args.push(q)?;
     let head = not_symbol();
-    let r = cong(alloc, w, ctx, &head, args)?;
+    let r = cong(alloc, w, ctx, &head, slice::from_ref(&q))?;
+    Ok(r)
+}
+
+/// From the negation of `'NIL` to `'T`.
+fn nil_turned(alloc: Global, w: &World, ctx: &Ctx, t: &Term) -> Result<Equiv, NoMemory>
+    requires ground { HasGround (function_of w.now.entries) }
+    requires facts { KnownFacts (function_of w.now.entries) ctx.now.0 }
+    requires negation { t.now ≡ not_of nil_constant }
+    ensures stands { IfOk result (λ r. Stands w.now r) }
+    ensures made { IfOk result (λ r. r.says ≡ leads_made ctx.now Equal t.now t_constant) }
+{
+    let nil = nil_value();
+    let r = not_constant(alloc, w, ctx, Mode::Equal, t, &nil)?;
     Ok(r)
 }
 
@@ -125,8 +137,7 @@ fn not_nil(alloc: Global, w: &World, ctx: &Ctx, q: Equiv) -> Result<Equiv, NoMem
     ensures made { IfOk result (λ r. r.says ≡ leads_made ctx.now Equal (not_of q.says.lhs) t_constant) }
 {
     let first = not_equiv(alloc, w, ctx, q)?;
-    let nil = nil_value();
-    let more = not_constant(alloc, w, ctx, Mode::Equal, first.rhs(), &nil)?;
+    let more = nil_turned(alloc, w, ctx, first.rhs())?;
     let r = trans(alloc, w, first, more)?;
     Ok(r)
 }

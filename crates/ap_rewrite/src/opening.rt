@@ -1,19 +1,19 @@
 // The definition of a function that is called.
-ghost use Rattle.std.specs.Prelude.{◌≡◌, ◌∷◌, IsTrue, IfOk, IfSome, Some, None};
+ghost use Rattle.std.specs.Prelude.{◌≡◌, ◌∷◌, IsTrue, IfOk, IfSome, Some, None, cond};
 ghost use Rattle.ap_term.specs.declared.term.Term.{Call};
 ghost use Rattle.ap_world.specs.Facts.{KnownFacts};
 ghost use Rattle.ap_world.specs.Sound.{known};
 ghost use Rattle.ap_kernel.specs.Answers.{if_of};
 ghost use Rattle.ap_kernel.specs.declared.objects.Mode.TheVariants.{Iff};
 ghost use Rattle.ap_rewrite.specs.Rewriting.{truth_of, both, walk, walk_on, answered, open_instance, opened as opening, by_definition};
-ghost use Rattle.ap_rewrite.specs.Answering.{defs_in, setting_of, inner_of, seen_at, got_any, leaf_on, open_closed, From, IsLevel};
+ghost use Rattle.ap_rewrite.specs.Answering.{defs_in, Ready, setting_of, inner_of, seen_at, got_any, leaf_on, ends_on, open_within, open_closed, From, IsLevel};
 
 use crate::branching::{both, choose, go_on};
-use crate::rewriter::{Level, Place, Run, deeper};
+use crate::rewriter::{Level, Place, Rewriter, Run, deeper};
 use crate::rows::{follow, opened};
 use crate::testing::{is_among, is_small, truth_of};
 use crate::trying::answered;
-use ap_kernel::{Equiv, Mode, NoMemory, Seq, ShapeRef, Symbol, Term, TypeOracle, shape_of};
+use ap_kernel::{Ctx, Equiv, Mode, NoMemory, Seq, ShapeRef, Symbol, Term, TypeOracle, shape_of};
 use ap_term::copy_term;
 use ap_value::copy_symbol;
 use ap_world::{Function, RuneKind};
@@ -29,6 +29,31 @@ fn closing(alloc: Global, f: &Symbol, closed: &[Symbol]) -> Result<Seq<Symbol>, 
         out.push(copy_symbol(alloc, g)?)?;
     }
     Ok(out)
+}
+
+/// On from an `if` into the branch that the constant chooses which its test has become.
+fn step_down<O: TypeOracle>(
+    r: &Rewriter<'_, O>,
+    ctx: &Ctx,
+    mode: Mode,
+    sofar: Equiv,
+    test: Equiv,
+    sign: bool,
+    b: &Term,
+    c: &Term,
+) -> Result<Equiv, NoMemory>
+    requires ready { Ready r.now }
+    requires facts { KnownFacts (defs_in r.now) ctx.now.0 }
+    requires sofar { From r.now.w.now mode ctx.now sofar.says.lhs sofar }
+    requires test { From r.now.w.now Iff ctx.now test.says.lhs test }
+    requires sign { truth_of test.says.rhs ≡ Some sign }
+    requires choice { sofar.says.rhs ≡ if_of test.says.lhs b.now c.now }
+    ensures is { IfOk result (λ q. q.says.rhs ≡ cond sign b.now c.now) }
+    ensures from { IfOk result (From r.now.w.now mode ctx.now sofar.says.lhs) }
+{
+    let branch = choose(r, ctx, mode, test, sign, b, c)?;
+    let next = follow(r, ctx, mode, sofar, branch)?;
+    Ok(next)
 }
 
 /// Down the body, past an `if` whose test has become what `test` leads to: into the branch that a constant chooses;
@@ -60,22 +85,15 @@ fn walk_on<
 {
     match truth_of(test.rhs()) {
         Some(sign) => {
-            let branch = choose(l.r, at.ctx, mode, test, sign, b, c)?;
-            let next = follow(l.r, at.ctx, mode, sofar, branch)?;
+            let next = step_down(l.r, at.ctx, mode, sofar, test, sign, b, c)?;
             walk(l, run, mode, at, inner, next, true)
         }
-        None => {
-            if taken {
-                walk_ends(l, run, mode, inner, sofar, test, b, c)
-            } else {
-                Ok(Some(None))
-            }
-        }
+        None => walk_ends(l, run, mode, inner, sofar, taken, test, b, c),
     }
 }
 
 /// Both branches of the `if` at which the walk ends.
-fn walk_ends<
+fn follow_both<
     O: TypeOracle,
     F: Fn(&mut Run, Mode, &Place<'_>, &Term) -> Result<Option<Equiv>, NoMemory>,
 >(
@@ -104,6 +122,68 @@ fn walk_ends<
     Ok(Some(Some(q)))
 }
 
+/// The walk ends at an `if` whose test has become no constant: at both branches, where a branch was taken.
+fn walk_ends<
+    O: TypeOracle,
+    F: Fn(&mut Run, Mode, &Place<'_>, &Term) -> Result<Option<Equiv>, NoMemory>,
+>(
+    l: &Level<'_, '_, O, F>,
+    run: &mut Run,
+    mode: Mode,
+    at: &Place<'_>,
+    sofar: Equiv,
+    taken: bool,
+    test: Equiv,
+    b: &Term,
+    c: &Term,
+) -> Result<Option<Option<Equiv>>, NoMemory>
+    requires level { IsLevel (F.pre l.now.below.now) (F.post l.now.below.now) l.now.r.now l.now.levels }
+    requires facts { KnownFacts (defs_in l.now.r.now) at.now.ctx.now.0 }
+    requires sofar { From l.now.r.now.w.now mode at.now.ctx.now sofar.says.lhs sofar }
+    requires test { From l.now.r.now.w.now Iff at.now.ctx.now test.says.lhs test }
+    requires open { truth_of test.says.rhs ≡ None }
+    requires choice { sofar.says.rhs ≡ if_of test.says.lhs b.now c.now }
+    ensures is { IfOk result (λ o. got_any o run.new.left ≡ ends_on (setting_of l.now.r.now) (inner_of l.now.r.now l.now.levels) mode (seen_at at.now) taken test.says.rhs b.now c.now run.old.left) }
+    ensures from { IfOk result (λ o. IfSome o (λ a. IfSome a (From l.now.r.now.w.now mode at.now.ctx.now sofar.says.lhs))) }
+{
+    if taken {
+        return follow_both(l, run, mode, at, sofar, test, b, c);
+    }
+    Ok(Some(None))
+}
+
+/// Down the body, which is lent: at an `if` its test under `iff`, and on by what that has become.
+#[cycle(walking)]
+fn walk_body<
+    O: TypeOracle,
+    F: Fn(&mut Run, Mode, &Place<'_>, &Term) -> Result<Option<Equiv>, NoMemory>,
+>(
+    l: &Level<'_, '_, O, F>,
+    run: &mut Run,
+    mode: Mode,
+    at: &Place<'_>,
+    inner: &Place<'_>,
+    sofar: Equiv,
+    taken: bool,
+    body: &Term,
+) -> Result<Option<Option<Equiv>>, NoMemory>
+    requires level { IsLevel (F.pre l.now.below.now) (F.post l.now.below.now) l.now.r.now l.now.levels }
+    requires facts { KnownFacts (defs_in l.now.r.now) at.now.ctx.now.0 }
+    requires inner { inner.now.ctx.now ≡ at.now.ctx.now }
+    requires sofar { From l.now.r.now.w.now mode at.now.ctx.now sofar.says.lhs sofar }
+    requires body { body.now ≡ sofar.says.rhs }
+    ensures is { IfOk result (λ o. got_any o run.new.left ≡ walk (setting_of l.now.r.now) (inner_of l.now.r.now l.now.levels) mode (seen_at at.now) (seen_at inner.now) sofar.says.rhs taken run.old.left) }
+    ensures from { IfOk result (λ o. IfSome o (λ a. IfSome a (From l.now.r.now.w.now mode at.now.ctx.now sofar.says.lhs))) }
+{
+    match shape_of(body) {
+        ShapeRef::If(a, b, c) => match deeper(l, run, Mode::Iff, at, a)? {
+            None => Ok(None),
+            Some(test) => walk_on(l, run, mode, at, inner, sofar, taken, test, b, c),
+        },
+        _ => walk_stops(l, run, mode, at, sofar, taken),
+    }
+}
+
 /// Down the body of a function that recurs, while it is an `if` whose test becomes a constant. There is an answer
 /// where one was, at least once.
 #[cycle(walking)]
@@ -124,13 +204,7 @@ fn walk<O: TypeOracle, F: Fn(&mut Run, Mode, &Place<'_>, &Term) -> Result<Option
     ensures from { IfOk result (λ o. IfSome o (λ a. IfSome a (From l.now.r.now.w.now mode at.now.ctx.now sofar.says.lhs))) }
 {
     let body = copy_term(l.r.alloc, sofar.rhs())?;
-    match shape_of(&body) {
-        ShapeRef::If(a, b, c) => match deeper(l, run, Mode::Iff, at, a)? {
-            None => Ok(None),
-            Some(test) => walk_on(l, run, mode, at, inner, sofar, taken, test, b, c),
-        },
-        _ => walk_stops(l, run, mode, at, sofar, taken),
-    }
+    walk_body(l, run, mode, at, inner, sofar, taken, &body)
 }
 
 /// The walk ends at what is no `if`: it is rewritten, where a branch was taken.
@@ -158,6 +232,33 @@ fn walk_stops<
     Ok(answered(found))
 }
 
+/// The instance of the body of a function that recurs: of a call that is to be opened it is rewritten as it stands
+/// within, else it is walked down.
+fn open_within<
+    O: TypeOracle,
+    F: Fn(&mut Run, Mode, &Place<'_>, &Term) -> Result<Option<Equiv>, NoMemory>,
+>(
+    l: &Level<'_, '_, O, F>,
+    run: &mut Run,
+    mode: Mode,
+    at: &Place<'_>,
+    inner: &Place<'_>,
+    first: Equiv,
+) -> Result<Option<Option<Equiv>>, NoMemory>
+    requires level { IsLevel (F.pre l.now.below.now) (F.post l.now.below.now) l.now.r.now l.now.levels }
+    requires facts { KnownFacts (defs_in l.now.r.now) at.now.ctx.now.0 }
+    requires inner { inner.now.ctx.now ≡ at.now.ctx.now }
+    requires first { From l.now.r.now.w.now mode at.now.ctx.now first.says.lhs first }
+    ensures is { IfOk result (λ o. got_any o run.new.left ≡ open_within (setting_of l.now.r.now) (inner_of l.now.r.now l.now.levels) mode (seen_at at.now) (seen_at inner.now) first.says.lhs first.says.rhs run.old.left) }
+    ensures from { IfOk result (λ o. IfSome o (λ a. IfSome a (From l.now.r.now.w.now mode at.now.ctx.now first.says.lhs))) }
+{
+    if ap_kernel::is_among(first.lhs(), l.r.expand.as_slice()) {
+        let found = go_on(l, run, mode, inner, first)?;
+        return Ok(answered(found));
+    }
+    walk(l, run, mode, at, inner, first, false)
+}
+
 /// The instance of the body of a function that recurs, where the function isn't opened again: of a call that is to be
 /// opened it is rewritten, else it is walked down.
 fn open_recursive<
@@ -183,11 +284,7 @@ fn open_recursive<
         closed: closed.as_slice(),
         chain: at.chain,
     };
-    if ap_kernel::is_among(first.lhs(), l.r.expand.as_slice()) {
-        let found = go_on(l, run, mode, &inner, first)?;
-        return Ok(answered(found));
-    }
-    walk(l, run, mode, at, &inner, first, false)
+    open_within(l, run, mode, at, &inner, first)
 }
 
 /// The instance of a function's body to which a call leads.

@@ -13,15 +13,15 @@ ghost use Rattle.ap_rewrite.specs.Rewriting.{truth_of, shaped, negated, constant
 ghost use Rattle.ap_rewrite.specs.Answering.{defs_in, Ready, setting_of, right_of, From};
 
 use crate::equating::equated;
+use crate::facts::not_equiv;
 use crate::rewriter::Rewriter;
 use crate::running;
 use crate::settling::{constant_equiv, in_mode, settle, settled};
 use crate::shaping::{negated, shaped};
 use ap_kernel::{
-    Ctx, Equiv, Mode, NoMemory, Seq, Symbol, Term, TypeOracle, Value, bare_test, branch, cong,
-    if_shape, not_symbol, open_def, refl, trans,
+    Ctx, Equiv, Mode, NoMemory, Symbol, Term, TypeOracle, Value, bare_test, branch, if_shape,
+    open_def, refl, trans,
 };
-use std::alloc::Global;
 
 /// From a term to itself.
 pub fn stay<O: TypeOracle>(
@@ -113,15 +113,6 @@ pub fn picked<O: TypeOracle>(
     Ok(q)
 }
 
-/// A list of one equivalence.
-fn alone(alloc: Global, q: Equiv) -> Result<Seq<Equiv>, NoMemory>
-    ensures { IfOk result (λ qs. qs ≡ q ∷ []) }
-{
-    let mut out = Seq::new(alloc);
-    out.push(q)?;
-    Ok(out)
-}
-
 /// From a negation to the negation of what its argument leads to.
 pub fn negate<O: TypeOracle>(
     r: &Rewriter<'_, O>,
@@ -135,9 +126,7 @@ pub fn negate<O: TypeOracle>(
     ensures is { IfOk result (λ a. a.says.rhs ≡ not_of q.says.rhs) }
     ensures from { IfOk result (From r.now.w.now mode ctx.now (not_of q.says.lhs)) }
 {
-    let args = alone(r.alloc, q)?;
-    let head = not_symbol();
-    let equal = cong(r.alloc, r.w, ctx, &head, args)?;
+    let equal = not_equiv(r.alloc, r.w, ctx, q)?;
     let answer = in_mode(r.alloc, r.w, equal, mode)?;
     Ok(answer)
 }

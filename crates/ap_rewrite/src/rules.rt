@@ -1,5 +1,6 @@
 // Rules, the newest first.
-ghost use Rattle.std.specs.Prelude.{◌≡◌, ◌<◌, ◌&&◌, IsTrue, IfOk, IfSome, Some, [], map};
+ghost use Rattle.std.specs.Prelude.{◌≡◌, ◌<◌, ◌&&◌, IsTrue, IfOk, IfSome, Some, [], map, true};
+ghost use Rattle.std.specs.Option.{option_map};
 ghost use Rattle.ap_list.specs.Lists.{Each};
 ghost use Rattle.ap_term.specs.declared.term.Term.{Call};
 ghost use Rattle.ap_term.specs.Matching.{matched, Extends, is_bound};
@@ -9,13 +10,18 @@ ghost use Rattle.ap_world.specs.declared.theory.Rune.TheVariants as rune;
 ghost use Rattle.ap_world.specs.Theories.{is_enabled};
 ghost use Rattle.ap_world.specs.Facts.{KnownFacts};
 ghost use Rattle.ap_world.specs.Holding.{KnownPairs};
+ghost use Rattle.ap_world.specs.Recursion.{t_constant};
+ghost use Rattle.ap_world.specs.Shapes.{is_constant};
 ghost use Rattle.ap_world.specs.Sound.{known};
 ghost use Rattle.ap_rules.specs.Made.{rule_in};
 ghost use Rattle.ap_kernel.specs.Applying.{AllLead};
 ghost use Rattle.ap_kernel.specs.Standing.{Stands};
-ghost use Rattle.ap_rewrite.specs.Relieving.{relieve_one, relieve};
+ghost use Rattle.ap_kernel.specs.declared.objects.Mode.TheVariants.{Iff};
+ghost use Rattle.ap_rewrite.specs.Leading.{leads_made};
+ghost use Rattle.ap_rewrite.specs.Settings.{relieving};
+ghost use Rattle.ap_rewrite.specs.Relieving.{if_so, relieve_one, relieve};
 ghost use Rattle.ap_rewrite.specs.Rewriting.{right, relieved, apply, fits_mode, try_rule, by_rules};
-ghost use Rattle.ap_rewrite.specs.Answering.{defs_in, Ready, setting_of, inner_of, seen_at, got_any, got_pairs, got_reliefs, IsRuleOf, Shows, From, IsLevel};
+ghost use Rattle.ap_rewrite.specs.Answering.{defs_in, Ready, setting_of, inner_of, seen_at, got, got_any, got_pairs, got_reliefs, IsRuleOf, Shows, From, IsLevel};
 ghost use Rattle.ap_rewrite.specs.Relieved.{RelievedFrom};
 
 use crate::branching::go_on;
@@ -27,13 +33,14 @@ use crate::settling::{in_mode, to_true};
 use crate::testing::is_small;
 use crate::trying::answered;
 use ap_kernel::{
-    Ctx, Equiv, Mode, NoMemory, Seq, Subst, Symbol, Term, TypeOracle, apply_theorem, is_constant,
-    subst,
+    Ctx, Equiv, Mode, NoMemory, Seq, Subst, Symbol, Term, TypeOracle, World, apply_theorem,
+    is_constant, subst,
 };
 use ap_rules::{RewriteRule, by_head, rules_are_parts};
 use ap_term::one_way_match;
 use ap_world::laws::rules_hold;
 use ap_world::{RuneKind, Theory};
+use std::alloc::Global;
 
 /// The hypotheses of a rule that are relieved: the pairs that have come of it, and for each the equivalence that
 /// leads from its instance to `'T`.
@@ -41,6 +48,52 @@ use ap_world::{RuneKind, Theory};
 pub(crate) struct Reliefs {
     pub pairs: Subst,
     pub shown: Seq<Equiv>,
+}
+
+/// The instance of a hypothesis, rewritten within one hypothesis more.
+fn rewrite_instance<
+    O: TypeOracle,
+    F: Fn(&mut Run, Mode, &Place<'_>, &Term) -> Result<Option<Equiv>, NoMemory>,
+>(
+    l: &Level<'_, '_, O, F>,
+    run: &mut Run,
+    at: &Place<'_>,
+    h: &Term,
+    s: &Subst,
+) -> Result<Option<Equiv>, NoMemory>
+    requires level { IsLevel (F.pre l.now.below.now) (F.post l.now.below.now) l.now.r.now l.now.levels }
+    requires facts { KnownFacts (defs_in l.now.r.now) at.now.ctx.now.0 }
+    requires hyp { IsTrue (known (defs_in l.now.r.now) h.now) }
+    requires pairs { KnownPairs (defs_in l.now.r.now) s.now.0 }
+    requires few { at.now.chain < 10 }
+    ensures is { IfOk result (λ o. got o run.new.left ≡ inner_of l.now.r.now l.now.levels Iff (relieving (seen_at at.now)) (subst_of s.now.0 h.now) run.old.left) }
+    ensures from { IfOk result (λ o. IfSome o (From l.now.r.now.w.now Iff at.now.ctx.now (subst_of s.now.0 h.now))) }
+{
+    let instance = subst(l.r.alloc, h, s)?;
+    let within = Place {
+        ctx: at.ctx,
+        closed: at.closed,
+        chain: at.chain + 1,
+    };
+    let found = deeper(l, run, Mode::Iff, &within, &instance)?;
+    Ok(found)
+}
+
+/// What a hypothesis's instance leads to, where that is a constant other than `nil`: the pairs, which stay, and on
+/// to `'T`.
+fn where_true(alloc: Global, w: &World, q: Equiv, s: Subst) -> Result<Option<Relieved>, NoMemory>
+    requires stands { Stands w.now q }
+    requires mode { q.says.mode ≡ Iff }
+    ensures is { IfOk result (λ o. option_map (λ a. a.pairs.0) o ≡ if_so (is_constant true q.says.rhs) s.0) }
+    ensures pairs { IfOk result (λ o. IfSome o (λ a. a.pairs ≡ s)) }
+    ensures stands { IfOk result (λ o. IfSome o (λ a. Stands w.now a.shown)) }
+    ensures made { IfOk result (λ o. IfSome o (λ a. a.shown.says ≡ leads_made q.says.ctx Iff q.says.lhs t_constant)) }
+{
+    if !is_constant(true, q.rhs()) {
+        return Ok(None);
+    }
+    let shown = to_true(alloc, w, q)?;
+    Ok(Some(Relieved { pairs: s, shown }))
 }
 
 /// A hypothesis whose variables all have terms: its instance is rewritten, within one hypothesis more, and has to
@@ -64,20 +117,11 @@ fn by_rewriting<
     ensures is { IfOk result (λ o. got_pairs o run.new.left ≡ relieve_one (inner_of l.now.r.now l.now.levels) (seen_at at.now) h.now s.0 run.old.left) }
     ensures shown { IfOk result (λ o. IfSome o (λ a. IfSome a (RelievedFrom l.now.r.now.w.now at.now.ctx.now h.now s.0))) }
 {
-    let instance = subst(l.r.alloc, h, &s)?;
-    let within = Place {
-        ctx: at.ctx,
-        closed: at.closed,
-        chain: at.chain + 1,
-    };
-    let Some(q) = deeper(l, run, Mode::Iff, &within, &instance)? else {
+    let Some(q) = rewrite_instance(l, run, at, h, &s)? else {
         return Ok(None);
     };
-    if !is_constant(true, q.rhs()) {
-        return Ok(Some(None));
-    }
-    let shown = to_true(l.r.alloc, l.r.w, q)?;
-    Ok(Some(Some(Relieved { pairs: s, shown })))
+    let found = where_true(l.r.alloc, l.r.w, q, s)?;
+    Ok(Some(found))
 }
 
 /// One hypothesis: an instance that becomes a constant other than `nil`, or, with variables that have no term, a fact,

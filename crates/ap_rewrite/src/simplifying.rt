@@ -5,17 +5,17 @@ ghost use Rattle.ap_term.specs.declared.term.Term.{Term};
 ghost use Rattle.ap_term.specs.Metered.{mapped};
 ghost use Rattle.ap_world.specs.World.{function_of};
 ghost use Rattle.ap_world.specs.Shapes.{is_constant};
-ghost use Rattle.ap_kernel.specs.Standing.{HasGround};
-ghost use Rattle.ap_kernel.specs.Reductions.{KnownClause, Reduces, put_at, to_one, rewritten};
+ghost use Rattle.ap_kernel.specs.Standing.{HasGround, Stands};
+ghost use Rattle.ap_kernel.specs.Reductions.{KnownClause, Reduces, put_at, others, all_false, to_one, rewritten};
 ghost use Rattle.ap_rewrite.specs.Literals.{rewrite_literal, rewrite_literals, rewritten_to, split_left, simplify_of};
-ghost use Rattle.ap_rewrite.specs.Answering.{defs_in, Ready, setting_of};
+ghost use Rattle.ap_rewrite.specs.Answering.{defs_in, Ready, setting_of, got};
 ghost use Rattle.ap_rewrite.specs.Simplifying.{got_reduced, literals_left, HasPlace, LeavesTrue};
 
 use crate::literals::literal;
 use crate::rewriter::Rewriter;
 use ap_clausify::split;
 use ap_kernel::{
-    LinearOracle, Mode, NoMemory, Reduction, Seq, TypeOracle, World, chain, is_constant,
+    Equiv, LinearOracle, Mode, NoMemory, Reduction, Seq, TypeOracle, World, chain, is_constant,
     others_false, refl, rewrite_literal, tidy,
 };
 use ap_term::{Clause, Steps, copy_terms};
@@ -60,6 +60,30 @@ fn first_left(alloc: Global, q: &Reduction) -> Result<Clause, NoMemory>
     Ok(Clause(literals))
 }
 
+/// What the literal at a place of a clause leads to while the others are assumed false. `None` where the steps run
+/// out.
+fn literal_at<O: TypeOracle + LinearOracle>(
+    r: &Rewriter<'_, O>,
+    steps: &mut Steps,
+    c: &Clause,
+    place: usize,
+) -> Result<Option<Equiv>, NoMemory>
+    requires ready { Ready r.now }
+    requires clause { KnownClause (defs_in r.now) c.now }
+    requires place { place < length c.now.0 }
+    ensures is { IfOk result (λ o. (u : Term) → slice_get c.now.0 place ≡ Some u → got o steps.new.left ≡ rewrite_literal (setting_of r.now) (take place c.now.0) (drop (place + 1) c.now.0) u steps.old.left) }
+    ensures stands { IfOk result (λ o. IfSome o (λ q. Stands r.now.w.now q)) }
+    ensures place { IfOk result (λ o. IfSome o (λ q. slice_get c.now.0 place ≡ Some q.says.lhs)) }
+    ensures facts { IfOk result (λ o. IfSome o (λ q. q.says.ctx.0 ≡ all_false (others place c.now.0))) }
+{
+    let ctx = others_false(r.alloc, c.0.as_slice(), place)?;
+    let t = &c.0.as_slice()[place];
+    let found = literal(
+        r.alloc, r.w, r.rules, r.theory, r.expand, r.oracle, &ctx, steps, t,
+    )?;
+    Ok(found)
+}
+
 /// From a clause to the one whose literal at a place is rewritten while the others are assumed false. `None` where
 /// the steps run out.
 fn at_place<O: TypeOracle + LinearOracle>(
@@ -74,12 +98,7 @@ fn at_place<O: TypeOracle + LinearOracle>(
     ensures is { IfOk result (λ o. (u : Term) → slice_get c.0 place ≡ Some u → got_reduced o steps.new.left ≡ mapped (rewritten c place) (rewrite_literal (setting_of r.now) (take place c.0) (drop (place + 1) c.0) u steps.old.left)) }
     ensures stands { IfOk result (λ o. IfSome o (Reduces r.now.w.now)) }
 {
-    let ctx = others_false(r.alloc, c.0.as_slice(), place)?;
-    let t = &c.0.as_slice()[place];
-    let found = literal(
-        r.alloc, r.w, r.rules, r.theory, r.expand, r.oracle, &ctx, steps, t,
-    )?;
-    let Some(q) = found else {
+    let Some(q) = literal_at(r, steps, &c, place)? else {
         return Ok(None);
     };
     let answer = rewrite_literal(r.alloc, r.w, c, place, q)?;

@@ -15,13 +15,14 @@ use Rattle.ap_translate.specs.declared.macros.Macro.TheVariants as m
 use Rattle.ap_translate.specs.declared.fault.TransError.{TransError}
 use Rattle.ap_translate.specs.Answers.{Answer, refused, ◌>>=◌, shaped, Gives}
 use Rattle.ap_translate.specs.Names.{is_constant, is_starred}
-use Rattle.ap_translate.specs.Parts.{Layer, layer_of, symbol_at, symbol_by, is_symbol}
+use Rattle.ap_reader.specs.Tops.{Layer, layer_of, symbol_by, is_symbol, quoted_at}
+use Rattle.ap_translate.specs.Parts.{symbol_at}
 use Rattle.ap_translate.specs.Macros.{macros, macro_of, path_of}
 use Rattle.ap_translate.specs.Quoted.{nil_value, constant_in}
 use Rattle.ap_translate.specs.Shapes.{lambda_in}
 use Rattle.ap_translate.specs.Plans.{quotation, named_by, headed_plan, plan_in}
 use Rattle.ap_translate.specs.Table.{Bound, Readers, constant_term, variable_term, quoted_term, plan_term, term_layer, readers, level, within}
-use Rattle.ap_translate.specs.Written.{quoted_at, literal_at, value_within, written_by, written}
+use Rattle.ap_translate.specs.Written.{literal_at, value_within, written_by, written}
 use Rattle.ap_translate.specs.Laws.{IsConstant}
 use Rattle.ap_translate.proofs.Nestings.{readers_some}
 use Rattle.ap_translate.proofs.Smalls.{size_quote}

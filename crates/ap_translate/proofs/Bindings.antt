@@ -77,20 +77,23 @@ module _ (p : ℕ) (fs : List Form) (i : ℕ) (f : Form) (out : List Symbol) (wh
       ap (λ o. named_onto out (shaped p o (λ s. variable f.place out s >>= λ v. variables p (out ++ v ∷ []) (drop (i + 1) fs) >>= λ vs. Ok (v ∷ vs)))) (sym is)
       ∙ ap (λ hs. named_onto out (variables p out hs)) (sym here) ∙ told
 
-  pub name_next : (s v : Symbol) (after : List Symbol) → symbol_in f ≡ Some s → variable f.place out s ≡ Ok v → after ≡ out ++ v ∷ []
+  name_next : (s v : Symbol) (after : List Symbol) → symbol_in f ≡ Some s → variable f.place out s ≡ Ok v → after ≡ out ++ v ∷ []
       → named_onto after (variables p after (drop (i + 1) fs)) ≡ whole
   name_next s v after is found same =
       ap (λ a. named_onto a (variables p a (drop (i + 1) fs))) same ∙ name_step out v (variables p (out ++ v ∷ []) (drop (i + 1) fs))
       ∙ ap (λ r. named_onto out (r >>= λ v. variables p (out ++ v ∷ []) (drop (i + 1) fs) >>= λ vs. Ok (v ∷ vs))) (sym found) ∙ by_name (Some s) is
 
-  pub name_fails : (s : Symbol) (e : TransError) → symbol_in f ≡ Some s → Fails e (variable f.place out s) → Fails e whole
-  name_fails s e is bad = same_fails e whole _ (sym (by_name (Some s) is)) (go (variable f.place out s) bad)
+  -- by the variable that the form is
+  pub name_read : (v : Symbol) (after : List Symbol) → shaped p (symbol_in f) (variable f.place out) ≡ Ok v → after ≡ out ++ v ∷ []
+      → named_onto after (variables p after (drop (i + 1) fs)) ≡ whole
+  name_read v after found same = go (symbol_in f) refl found
     where
-      go : (r : Answer Symbol) → Fails e r → Fails e (named_onto out (r >>= λ v. variables p (out ++ v ∷ []) (drop (i + 1) fs) >>= λ vs. Ok (v ∷ vs)))
-      go r h = onto_fails e out _ (then_fails e r (λ v. variables p (out ++ v ∷ []) (drop (i + 1) fs) >>= λ vs. Ok (v ∷ vs)) h)
-
-  pub no_name : symbol_in f ≡ None → whole ≡ refused p kinds.BadForm
-  no_name is = sym (by_name None is)
+      go : (o : Option Symbol) → symbol_in f ≡ o → shaped p o (variable f.place out) ≡ Ok v → named_onto after (variables p after (drop (i + 1) fs)) ≡ whole
+      go None is k = absurd (no k)
+        where
+          no : refused p kinds.BadForm ≡ Ok v → ⊥
+          no q = cc
+      go (Some s) is k = name_next s v after is k same
 
 pub names_ended : (p : ℕ) (fs : List Form) (i : ℕ) (out : List Symbol) (whole : Answer (List Symbol)) → length fs ≤ i → named_onto out (variables p out (drop i fs)) ≡ whole → whole ≡ Ok out
 names_ended p fs i out whole past told = sym (ap (λ hs. named_onto out (variables p out hs)) (sym (drop_all i fs past)) ∙ told) ∙ ap Ok (append-nil out)

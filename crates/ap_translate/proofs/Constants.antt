@@ -53,16 +53,16 @@ nil_kept : small_value nil_value ≡ Some nil_value
 nil_kept = let e = nodes_symbol nil_name in small_some nil_value (omega arith)
 
 -- a list, a dotted list and a quoted form, by their parts
-pub list_made : (n p : ℕ) (fs : List Form) (vs : Option (List Value)) (e : Value) (v : Option Value) → n ≢ 0 → capped few_values (each (constant_in (n - 1)) fs) ≡ Ok vs → e ≡ nil_value
-    → v ≡ list_small vs (Some e) → capped small_value (shaped p (constants n) (λ c. list_constant c fs)) ≡ Ok v
-list_made n p fs vs e v some read end found =
+pub list_made : (n p : ℕ) (fs : List Form) (vs : Option (List Value)) (v : Option Value) → n ≢ 0 → capped few_values (each (constant_in (n - 1)) fs) ≡ Ok vs
+    → v ≡ list_small vs (Some nil_value) → capped small_value (shaped p (constants n) (λ c. list_constant c fs)) ≡ Ok v
+list_made n p fs vs v some read found =
     ap (λ o. capped small_value (shaped p o (λ c. list_constant c fs))) (constants_some n some) ∙ go (each (constant_in (n - 1)) fs) read
   where
     go : (r : Answer (List Value)) → capped few_values r ≡ Ok vs → capped small_value (r >>= λ ws. Ok (conses ws nil_value)) ≡ Ok v
     go (Err q) k = cc
     go (Ok ws) k =
         let s : few_values ws ≡ vs = cc in
-        ap Ok (list_kept ws nil_value ∙ ap (list_small (few_values ws)) nil_kept ∙ ap (λ o. list_small o (Some nil_value)) s ∙ ap (λ w. list_small vs (Some w)) (sym end) ∙ sym found)
+        ap Ok (list_kept ws nil_value ∙ ap (list_small (few_values ws)) nil_kept ∙ ap (λ o. list_small o (Some nil_value)) s ∙ sym found)
 
 pub dotted_made : (n p : ℕ) (fs : List Form) (f : Form) (vs : Option (List Value)) (e v : Option Value) → n ≢ 0 → capped few_values (each (constant_in (n - 1)) fs) ≡ Ok vs
     → capped small_value (constant_in (n - 1) f) ≡ Ok e → v ≡ list_small vs e → capped small_value (shaped p (constants n) (λ c. dotted_constant c fs f)) ≡ Ok v

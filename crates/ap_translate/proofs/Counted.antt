@@ -76,15 +76,26 @@ last_turn (n ∷ ns) x [] o u h = absurd (omega arith)
 last_turn (n ∷ ns) x (t ∷ ts) o u h =
     ap (in_turn_by (n, t)) (last_turn ns x ts o u (omega arith)) ∙ turned (n, t) (kept_in_turn (zip ns ts)) (kept_instance ((x, o) ∷ []) u)
 
+-- the same of a term that may not be kept
+last_taken : (names : List Symbol) (x : Symbol) (terms : List (Option Term)) (o u : Option Term) → length names ≡ length terms
+    → kept_by (kept_in_turn (zip (names ++ x ∷ []) (terms ++ o ∷ []))) u ≡ kept_by (kept_in_turn (zip names terms)) (in_turn_by (x, o) u)
+last_taken names x terms o None h = refl
+last_taken names x terms o (Some u) h = last_turn names x terms o u h
+
 -- one turn of the loop: the last pair is taken
-pub turn_back : (ns ns' : List Symbol) (x : Symbol) (ts ts' : List (Option Term)) (o : Option Term) (u : Term) (r : Option Term) (xs : List Symbol) (os : List (Option Term)) (whole : Option Term)
-    → length ns ≡ length ts → ns ≡ ns' ++ x ∷ [] → ts ≡ ts' ++ o ∷ [] → xs ≡ x ∷ [] → os ≡ o ∷ [] → r ≡ kept_instance (zip xs os) u → kept_in_turn (zip ns ts) u ≡ whole
+pub turn_back : (ns ns' : List Symbol) (x : Symbol) (ts ts' : List (Option Term)) (o u r whole : Option Term)
+    → length ns ≡ length ts → ns ≡ ns' ++ x ∷ [] → ts ≡ ts' ++ o ∷ [] → r ≡ in_turn_by (x, o) u → kept_by (kept_in_turn (zip ns ts)) u ≡ whole
     → (kept_by (kept_in_turn (zip ns' ts')) r ≡ whole) × (length ns' ≡ length ts')
-turn_back ns ns' x ts ts' o u r xs os whole paired n t name kept made told = (
-  ap (kept_by (kept_in_turn (zip ns' ts'))) (made ∙ ap (λ ys. kept_instance (zip ys os) u) name ∙ ap (λ ps. kept_instance (zip (x ∷ []) ps) u) kept)
-      ∙ sym (last_turn ns' x ts' o u same) ∙ ap (λ ys. kept_in_turn (zip ys (ts' ++ o ∷ [])) u) (sym n) ∙ ap (λ ps. kept_in_turn (zip ns ps) u) (sym t) ∙ told,
+turn_back ns ns' x ts ts' o u r whole paired n t made told = (
+  ap (kept_by (kept_in_turn (zip ns' ts'))) made ∙ sym (last_taken ns' x ts' o u same)
+      ∙ ap (λ ys. kept_by (kept_in_turn (zip ys (ts' ++ o ∷ []))) u) (sym n) ∙ ap (λ ps. kept_by (kept_in_turn (zip ns ps)) u) (sym t) ∙ told,
   same,
 )
   where
     same : length ns' ≡ length ts'
     same = omega (arith, ap length n, ap length t, length-append ns' (x ∷ []), length-append ts' (o ∷ []))
+
+-- its end: no pair is left
+pub turns_done : (ns : List Symbol) (ts : List (Option Term)) (u whole : Option Term) → length ns ≡ 0 → kept_by (kept_in_turn (zip ns ts)) u ≡ whole → u ≡ whole
+turns_done [] ts u whole h told = sym (option_same u) ∙ told
+turns_done (n ∷ ns) ts u whole h told = absurd (omega arith)

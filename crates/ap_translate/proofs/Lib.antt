@@ -5,6 +5,7 @@ pub mod Chains
 pub mod Constants
 pub mod Counted
 pub mod Fails
+pub mod Functions
 pub mod Grown
 pub mod Kept
 pub mod Laws

@@ -1,20 +1,12 @@
 -- What a form is at its top. The empty list and the symbol `nil` are one.
-use Rattle.std.specs.Prelude.{ℕ, ℤ, Bool, false, cond, List, [], ◌∷◌, Option, Some, None, codes}
+use Rattle.std.specs.Prelude.{ℤ, Bool, false, [], ◌∷◌, Option, Some, None, codes}
 use Rattle.ap_value.specs.declared.symbol.Symbol.{Symbol}
-use Rattle.ap_value.specs.Values.{symbol_eq, acl2}
 use Rattle.ap_world.specs.Names.{nil_name}
 use Rattle.ap_reader.specs.declared.form.Form.{Form}
-use Rattle.ap_reader.specs.declared.form.Body.{Body, out-Body}
 use Rattle.ap_reader.specs.declared.form.Body.TheOpen.{Body-F}
+pub use Rattle.ap_reader.specs.Tops.{Layer, layer_of, items_in, is_symbol}
 use Rattle.ap_translate.specs.declared.parts.Name.{Name}
 use Rattle.ap_translate.specs.declared.parts.Name.TheVariants as names
-
--- one level of a form
-abbrev pub Layer : Type 0
-Layer = Body-F Body Form
-
-abbrev pub layer_of : Form → Layer
-layer_of f = out-Body f.body
 
 -- the symbol that it is
 abbrev pub symbol_at : Layer → Option Symbol
@@ -31,15 +23,6 @@ name_seen names.Nil = Some nil_name
 name_seen (names.Symbol s) = Some s.now
 name_seen names.Other = None
 
--- the forms of a list
-abbrev pub items_at : Layer → Option (List Form)
-items_at (Body-F.List fs) = Some fs
-items_at (Body-F.Sym s) = cond (symbol_eq s nil_name) (Some []) None
-items_at l = None
-
-abbrev pub items_in : Form → Option (List Form)
-items_in f = items_at (layer_of f)
-
 -- the integer that it is
 abbrev pub integer_at : Layer → Option ℤ
 integer_at (Body-F.Int n) = Some n
@@ -47,14 +30,6 @@ integer_at l = None
 
 abbrev pub integer_in : Form → Option ℤ
 integer_in f = integer_at (layer_of f)
-
--- it is the symbol of package ACL2 with this name
-abbrev pub symbol_by : List ℕ → Layer → Bool
-symbol_by n (Body-F.Sym s) = symbol_eq s (acl2 n)
-symbol_by n l = false
-
-abbrev pub is_symbol : List ℕ → Form → Bool
-is_symbol n f = symbol_by n (layer_of f)
 
 -- (declare ..)
 abbrev pub declare_at : Layer → Bool

@@ -1,25 +1,17 @@
 -- A constant as `defconst` takes it: a form that is a constant by itself, or a quoted form.
-use Rattle.std.specs.Prelude.{ℕ, cond, nat_le, [], ◌∷◌, Option, Some, None, Result, Ok, Err, codes}
+use Rattle.std.specs.Prelude.{ℕ, cond, nat_le, [], Option, Some, None, Result, Ok, Err}
 use Rattle.ap_value.specs.declared.value.Value.{Value}
 use Rattle.ap_value.specs.declared.value.Value.TheVariants.{Int, Chr, Str, Sym}
 use Rattle.ap_value.specs.Counts.{node_count}
 use Rattle.ap_reader.specs.declared.form.Form.{Form}
 use Rattle.ap_reader.specs.declared.form.Body.TheOpen.{Body-F}
+pub use Rattle.ap_reader.specs.Tops.{quoted_in}
 use Rattle.ap_translate.specs.declared.fault.TransError.{TransError}
 use Rattle.ap_translate.specs.declared.fault.TransKind.TheVariants as kinds
 use Rattle.ap_translate.specs.Answers.{Answer, refused, error_of, ◌>>=◌}
 use Rattle.ap_translate.specs.Names.{is_constant}
-use Rattle.ap_translate.specs.Parts.{Layer, layer_of, is_symbol}
+use Rattle.ap_translate.specs.Parts.{Layer, layer_of}
 use Rattle.ap_translate.specs.Quoted.{nil_value, constant_in}
-
--- x of 'x and of (quote x)
-abbrev pub quoted_at : Layer → Option Form
-quoted_at (Body-F.Quoted f) = Some f
-quoted_at (Body-F.List (h ∷ f ∷ [])) = cond (is_symbol (codes "QUOTE") h) (Some f) None
-quoted_at l = None
-
-abbrev pub quoted_in : Form → Option Form
-quoted_in f = quoted_at (layer_of f)
 
 -- a constant by itself
 abbrev pub literal_at : Layer → Option Value

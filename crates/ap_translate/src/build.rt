@@ -1,5 +1,6 @@
 ghost use Rattle.std.specs.Prelude.{◌≡◌, ◌<◌, ◌∷◌, ◌++◌, [], IfOk, IfSome, length, true};
 ghost use Rattle.ap_value.specs.Values.{acl2};
+ghost use Rattle.ap_term.specs.declared.term.Term.TheVariants.{Call};
 ghost use Rattle.ap_world.specs.Names.{not_name};
 ghost use Rattle.ap_translate.specs.Kept.{kept_made, piece_size, few_pieces, as_piece, list_pieces, ArePieces, kept_pieced, quote_pieced, kept_quoted};
 ghost use Rattle.ap_translate.specs.Macros.{fits};
@@ -41,23 +42,52 @@ fn t_term(alloc: Global) -> Result<Term, NoMemory>
     Ok(Term::Quote(Value::Sym(acl2(alloc, b"T")?)))
 }
 
+/// A call of the function of package `ACL2` with this name.
+fn called(alloc: Global, name: &[u8], arguments: Seq<Term>) -> Result<Term, NoMemory>
+    ensures { IfOk result (λ u. u ≡ Call (acl2 name.now) arguments) }
+{
+    let head = acl2(alloc, name)?;
+    Term::call(alloc, head, arguments)
+}
+
+/// One term as a list.
+fn one(alloc: Global, a: Term) -> Result<Seq<Term>, NoMemory>
+    ensures { IfOk result (λ us. us ≡ a ∷ []) }
+{
+    let terms = vec![in alloc; a]?;
+    Ok(Seq::from_vec(terms))
+}
+
+/// Two terms as a list.
+fn two(alloc: Global, a: Term, b: Term) -> Result<Seq<Term>, NoMemory>
+    ensures { IfOk result (λ us. us ≡ a ∷ b ∷ []) }
+{
+    let terms = vec![in alloc; a, b]?;
+    Ok(Seq::from_vec(terms))
+}
+
+/// Three terms as a list.
+fn three(alloc: Global, a: Term, b: Term, c: Term) -> Result<Seq<Term>, NoMemory>
+    ensures { IfOk result (λ us. us ≡ a ∷ b ∷ c ∷ []) }
+{
+    let terms = vec![in alloc; a, b, c]?;
+    Ok(Seq::from_vec(terms))
+}
+
 /// A call of one argument.
 pub(crate) fn call_1(alloc: Global, name: &[u8], a: Term) -> Result<Term, NoMemory>
     ensures { IfOk result (λ u. u ≡ call_1 (acl2 name.now) a) }
 {
-    let mut parts = Seq::new(alloc);
-    parts.push(a)?;
-    Term::call(alloc, acl2(alloc, name)?, parts)
+    let arguments = one(alloc, a)?;
+    called(alloc, name, arguments)
 }
 
 /// A call of two arguments.
 pub(crate) fn call_2(alloc: Global, name: &[u8], a: Term, b: Term) -> Result<Term, NoMemory>
     ensures { IfOk result (λ u. u ≡ call_2 (acl2 name.now) a b) }
 {
-    let mut parts = Seq::new(alloc);
-    parts.push(a)?;
-    parts.push(b)?;
-    Term::call(alloc, acl2(alloc, name)?, parts)
+    let arguments = two(alloc, a, b)?;
+    called(alloc, name, arguments)
 }
 
 /// `(if a b c)`
@@ -65,11 +95,8 @@ pub(crate) fn call_2(alloc: Global, name: &[u8], a: Term, b: Term) -> Result<Ter
 pub(crate) fn if_term(alloc: Global, a: Term, b: Term, c: Term) -> Result<Term, NoMemory>
     ensures { IfOk result (λ u. u ≡ if_term a b c) }
 {
-    let mut parts = Seq::new(alloc);
-    parts.push(a)?;
-    parts.push(b)?;
-    parts.push(c)?;
-    Term::call(alloc, acl2(alloc, b"IF")?, parts)
+    let arguments = three(alloc, a, b, c)?;
+    called(alloc, b"IF", arguments)
 }
 
 /// `(if a b 'NIL)`

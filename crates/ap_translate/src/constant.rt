@@ -1,5 +1,5 @@
 ghost use Rattle.std.specs.Prelude.{◌≡◌, ◌∷◌, [], Ok, Some, IfOk, IfSome};
-ghost use Rattle.ap_value.specs.declared.value.Value.TheVariants.{Str, Sym};
+ghost use Rattle.ap_value.specs.declared.value.Value.TheVariants.{Str, Sym, Cons};
 ghost use Rattle.ap_translate.specs.Answers.{Gives, shaped, each};
 ghost use Rattle.ap_translate.specs.Quoted.{nil_value, conses, quote_list, constants, constant_in, quote_name, list_constant, dotted_constant, quoted_constant};
 ghost use Rattle.ap_translate.specs.Sizes.{small_value, few_values, capped, list_values, AreCounted, list_small};
@@ -76,15 +76,28 @@ pub(crate) fn quote_symbol(alloc: Global) -> Result<Value, NoMemory>
     Ok(Value::Sym(acl2(alloc, b"QUOTE")?))
 }
 
+/// Values as a list that ends with `nil`, where it has at most 4,096 nodes.
+fn proper_list(alloc: Global, list: Option<Seq<Value>>) -> Result<Option<Value>, NoMemory>
+    ensures { IfOk result (λ o. o ≡ list_small list (Some nil_value)) }
+{
+    let end = nil(alloc)?;
+    list_value(alloc, list, Some(end))
+}
+
+/// The list `(X)` of a constant.
+fn list_of_one(alloc: Global, inner: Value) -> Result<Value, NoMemory>
+    ensures { IfOk result (λ v. v ≡ Cons inner nil_value) }
+{
+    let end = nil(alloc)?;
+    Value::cons(alloc, inner, end)
+}
+
 /// The list `(QUOTE X)` of a constant.
 fn quote_list(alloc: Global, inner: Value) -> Result<Value, NoMemory>
     ensures { IfOk result (λ v. v ≡ quote_list inner) }
 {
-    let mut parts = Seq::new(alloc);
-    parts.push(quote_symbol(alloc)?)?;
-    parts.push(inner)?;
-    let end = nil(alloc)?;
-    chained(alloc, parts, end)
+    let rest = list_of_one(alloc, inner)?;
+    Value::cons(alloc, quote_symbol(alloc)?, rest)
 }
 
 /// The constant that a form is within a quote. So many more may be nested in it.
@@ -143,8 +156,7 @@ fn list(
         return Err(refused_at(place, TransKind::BadForm));
     }
     let values = constants(alloc, left - 1, items)?;
-    let end = nil(alloc)?;
-    let value = list_value(alloc, values, Some(end))?;
+    let value = proper_list(alloc, values)?;
     Ok(value)
 }
 

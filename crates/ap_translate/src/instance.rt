@@ -3,7 +3,7 @@ ghost use Rattle.ap_list.specs.Lists.{lookup_by};
 ghost use Rattle.ap_value.specs.Values.{symbol_eq};
 ghost use Rattle.ap_term.specs.declared.term.Term.TheVariants.{Var};
 ghost use Rattle.ap_term.specs.Terms.{term_size};
-ghost use Rattle.ap_translate.specs.Instances.{nodes_found, sum_known, nodes_of, more_than, known_pairs, kept_instance, kept_in_turn, kept_either, kept_by};
+ghost use Rattle.ap_translate.specs.Instances.{nodes_found, sum_known, nodes_of, more_than, kept_pair, known_pairs, kept_instance, in_turn_by, kept_in_turn, kept_either, kept_by};
 
 use crate::sizes::{MOST_NODES, more_nodes};
 use ap_list::{NoMemory, Seq};
@@ -108,6 +108,14 @@ fn term_for(alloc: Global, name: &Symbol, kept: &Option<Term>) -> Result<Term, N
     }
 }
 
+/// A variable with what it becomes.
+fn pair_kept(alloc: Global, name: &Symbol, kept: &Option<Term>) -> Result<(Symbol, Term), NoMemory>
+    ensures { IfOk result (λ p. p ≡ kept_pair (name.now, kept.now)) }
+{
+    let symbol = copy_symbol(alloc, name)?;
+    Ok((symbol, term_for(alloc, name, kept)?))
+}
+
 /// Each variable with what it becomes, up to the end of the shorter list.
 fn pairs_kept(
     alloc: Global,
@@ -123,7 +131,8 @@ fn pairs_kept(
         let [kept, more @ ..] = values else {
             return Ok(out);
         };
-        out.push((copy_symbol(alloc, name)?, term_for(alloc, name, kept)?))?;
+        let pair = pair_kept(alloc, name, kept)?;
+        out.push(pair)?;
         left = rest;
         values = more;
     }
@@ -149,30 +158,43 @@ fn instance(
     }
 }
 
+/// A term with one variable replaced, where the term is kept.
+fn replaced(
+    alloc: Global,
+    name: &Symbol,
+    kept: &Option<Term>,
+    term: Option<Term>,
+) -> Result<Option<Term>, NoMemory>
+    ensures { IfOk result (λ o. o ≡ in_turn_by (name.now, kept.now) term) }
+{
+    match term {
+        None => Ok(None),
+        Some(term) => instance(alloc, from_ref(name), from_ref(kept), &term),
+    }
+}
+
 /// A term with its variables replaced one after another, the last one first.
 fn instance_in_turn(
     alloc: Global,
-    names: Seq<Symbol>,
-    terms: Seq<Option<Term>>,
+    names: &[Symbol],
+    terms: &[Option<Term>],
     term: Term,
 ) -> Result<Option<Term>, NoMemory>
-    requires { length names ≡ length terms }
-    ensures { IfOk result (λ o. o ≡ kept_in_turn (zip names terms) term) }
+    requires { length names.now ≡ length terms.now }
+    ensures { IfOk result (λ o. o ≡ kept_in_turn (zip names.now terms.now) term) }
 {
-    let mut names = names;
-    let mut terms = terms;
-    let mut inner = term;
-    while let Some(name) = names.pop() {
-        let Some(kept) = terms.pop() else {
+    let mut left = names;
+    let mut values = terms;
+    let mut inner = Some(term);
+    while let Some((name, rest)) = left.split_last() {
+        let Some((kept, more)) = values.split_last() else {
             return Ok(None);
         };
-        let taken = instance(alloc, from_ref(&name), from_ref(&kept), &inner)?;
-        inner = match taken {
-            None => return Ok(None),
-            Some(next) => next,
-        };
+        inner = replaced(alloc, name, kept, inner)?;
+        left = rest;
+        values = more;
     }
-    Ok(Some(inner))
+    Ok(inner)
 }
 
 /// The body of a `let` or a `lambda` with its variables replaced, or of a `let*`, one after another.
@@ -190,7 +212,7 @@ pub(crate) fn body_replaced(
         return Ok(None);
     };
     if in_turn {
-        instance_in_turn(alloc, names, terms, body)
+        instance_in_turn(alloc, names.as_slice(), terms.as_slice(), body)
     } else {
         instance(alloc, names.as_slice(), terms.as_slice(), &body)
     }

@@ -3,8 +3,8 @@ ghost use Rattle.ap_value.specs.declared.value.Value.TheVariants.{Sym};
 ghost use Rattle.ap_term.specs.declared.term.Term.TheVariants.{Quote};
 ghost use Rattle.ap_world.specs.World.{constant_of};
 ghost use Rattle.ap_translate.specs.declared.fault.TransKind.TheVariants.{BadForm};
-ghost use Rattle.ap_translate.specs.Answers.{Gives, error_of};
-ghost use Rattle.ap_translate.specs.Parts.{name_seen};
+ghost use Rattle.ap_translate.specs.Answers.{Gives, shaped, error_of};
+ghost use Rattle.ap_translate.specs.Parts.{symbol_in, name_seen};
 ghost use Rattle.ap_translate.specs.Quoted.{constant_in};
 ghost use Rattle.ap_translate.specs.Sizes.{small, capped};
 ghost use Rattle.ap_translate.specs.Shapes.{name_of};
@@ -202,6 +202,21 @@ fn named(alloc: Global, name: Name<'_>) -> Result<Option<Symbol>, NoMemory>
     }
 }
 
+/// The variable of a `lambda` that a form is, after others.
+fn variable_in(
+    alloc: Global,
+    place: usize,
+    before: &[Symbol],
+    form: &Form,
+) -> Result<Symbol, TransError>
+    ensures { Gives result (shaped place (symbol_in form.now) (variable form.now.place before.now)) }
+{
+    match named(alloc, name_in(form))? {
+        Some(symbol) => variable(form.place, before, symbol),
+        None => Err(refused_at(place, TransKind::BadForm)),
+    }
+}
+
 /// The variables of a `lambda`.
 pub(crate) fn variables(
     alloc: Global,
@@ -212,10 +227,7 @@ pub(crate) fn variables(
 {
     let mut out = Seq::new(alloc);
     for form in forms {
-        let Some(symbol) = named(alloc, name_in(form))? else {
-            return Err(refused_at(place, TransKind::BadForm));
-        };
-        let symbol = variable(form.place, out.as_slice(), symbol)?;
+        let symbol = variable_in(alloc, place, out.as_slice(), form)?;
         out.push(symbol)?;
     }
     Ok(out)

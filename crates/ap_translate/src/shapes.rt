@@ -2,8 +2,8 @@ ghost use Rattle.std.specs.Prelude.{◌≡◌, option_map, is_some, map};
 ghost use Rattle.std.specs.List.{list_all};
 ghost use Rattle.ap_translate.specs.Shapes.{arm_in, arm_seen, last_in, are_arms, binding_in, bind_seen, is_binding, is_symbolic, body_in, let_in, scope_seen, lambda_in, less_literal, literal_seen};
 
-use crate::parts::{Name, integer, is_declare, is_symbol, items, name_in};
-use ap_reader::Form;
+use crate::parts::{Name, integer, is_declare, name_in};
+use ap_reader::{Form, is_symbol, items};
 use ap_value::Symbol;
 use std::slice::from_ref;
 

@@ -1,46 +1,17 @@
 ghost use Rattle.std.specs.Prelude.{◌≡◌, IfOk, IfSome, option_map};
-ghost use Rattle.ap_reader.specs.declared.form.Body.TheOpen.{Body-F};
 ghost use Rattle.ap_translate.specs.Answers.{Gives};
 ghost use Rattle.ap_translate.specs.Laws.{IsConstant};
 ghost use Rattle.ap_translate.specs.Sizes.{small_value};
-ghost use Rattle.ap_translate.specs.Written.{quoted_at, quoted_in, literal_in, kept_within, written};
+ghost use Rattle.ap_translate.specs.Written.{literal_in, kept_within, written};
 
 use crate::constant::{constant, nil, string};
 use crate::fault::{TransError, TransKind, refused_at};
 use crate::names::is_constant;
-use crate::parts::is_symbol;
 use crate::translator::MOST_NESTED;
 use ap_list::NoMemory;
-use ap_reader::{Body, Form};
+use ap_reader::{Body, Form, quoted};
 use ap_value::{Value, copy_symbol};
 use std::alloc::Global;
-
-/// The `x` of a list `(quote x)`.
-fn quoted_list(items: &[Form]) -> Option<&Form>
-    ensures { option_map (λ f. f.now) result ≡ quoted_at (Body-F.List items.now) }
-{
-    match items {
-        [head, form] => {
-            if is_symbol(head, b"QUOTE") {
-                Some(form)
-            } else {
-                None
-            }
-        }
-        _ => None,
-    }
-}
-
-/// The `x` of `'x` or `(quote x)`.
-fn quoted_in(form: &Form) -> Option<&Form>
-    ensures { option_map (λ f. f.now) result ≡ quoted_in form.now }
-{
-    match &form.body {
-        Body::Quoted(inner) => Some(inner.get()),
-        Body::List(items) => quoted_list(items.as_slice()),
-        _ => None,
-    }
-}
 
 /// The value of a form that is a constant by itself, and whether it is one; the value is `None` where it has
 /// more than 4,096 nodes.
@@ -84,7 +55,7 @@ fn within(place: usize, value: Option<Value>) -> Result<Option<Value>, TransErro
 fn value_of(alloc: Global, form: &Form) -> Result<Option<Value>, TransError>
     ensures { Gives result (written form.now) }
 {
-    if let Some(inner) = quoted_in(form) {
+    if let Some(inner) = quoted(form) {
         let value = constant(alloc, MOST_NESTED - 1, inner)?;
         return within(form.place, value);
     }

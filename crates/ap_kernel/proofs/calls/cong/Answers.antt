@@ -12,7 +12,7 @@ use Rattle.ap_kernel.proofs.calls.cong.Goals as goal
 pub returns-clause-stands : goal.returns-clause-stands
 returns-clause-stands c =
     stands_by c.args.w.now c.made.result _ (search rules)
-    (cong_stands (function_of c.args.w.now.entries) c.is_sound.ensures.total c.requires.ground c.args.ctx.now c.args.f.now (said c.args.args)
+    (cong_stands (function_of c.args.w.now.entries) c.is_sound.ensures.total c.requires.ground c.args.ctx.now c.args.f.now (said c.args.args.now)
     c.requires.facts
-    (subst (λ n. IsTrue (is_head (function_of c.args.w.now.entries) c.args.f.now (prim_of c.args.f.now) n)) (sym (length-map c.args.args (λ (q : Equiv). q.says))) c.requires.head)
-    (arguments_hold c.args.w.now c.args.ctx.now c.args.f.now c.args.args c.requires.args))
+    (subst (λ n. IsTrue (is_head (function_of c.args.w.now.entries) c.args.f.now (prim_of c.args.f.now) n)) (sym (length-map c.args.args.now (λ (q : Equiv). q.says))) c.requires.head)
+    (arguments_hold c.args.w.now c.args.ctx.now c.args.f.now c.args.args.now c.requires.args))

@@ -1,5 +1,4 @@
 use Rattle.std.proofs.Common.{◌≡◌, map}
-use Rattle.ap_term.specs.declared.term.Clause.{Clause}
 use Rattle.ap_kernel.proofs.induction.as_clauses.Given as goal
 
 -- each list so far is a clause

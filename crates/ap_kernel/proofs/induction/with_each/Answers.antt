@@ -1,4 +1,4 @@
-use Rattle.std.proofs.Common.{◌≡◌, ◌+◌, ◌++◌, ◌<◌, drop, length, arith}
+use Rattle.std.proofs.Common.{◌≡◌, ◌+◌, ◌++◌, drop, arith}
 use Rattle.ap_kernel.proofs.Listed.{from_item, each_before, one_more}
 use Rattle.ap_kernel.proofs.induction.with_each.Goals as goal
 

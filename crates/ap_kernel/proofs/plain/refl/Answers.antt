@@ -5,5 +5,5 @@ use Rattle.ap_kernel.proofs.plain.refl.Goals as goal
 
 pub returns-clause-stands : goal.returns-clause-stands
 returns-clause-stands c =
-    stands_by c.args.w.now c.made.result _ (search rules)
+    stands_by c.args.w.now c.in_ok-answer.answer _ (search rules)
     (refl_stands (function_of c.args.w.now.entries) c.is_sound.ensures.total c.args.ctx.now c.args.mode c.args.t.now c.requires.facts c.requires.term)

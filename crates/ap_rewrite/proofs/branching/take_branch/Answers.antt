@@ -9,7 +9,7 @@ pub picked-requires-clause-term : goal.picked-requires-clause-term
 picked-requires-clause-term g c = subst (λ (u : Term). known (defs_in c.args.r.now) u ≡ true) (sym c.rhs.ensures) (right_known _ _ _ _ _ c.in_ok-whole.ensures.from)
 
 pub picked-requires-clause-choice : goal.picked-requires-clause-choice
-picked-requires-clause-choice g c = (c.args.test.says.rhs, c.args.yes.says.rhs, c.args.no.says.rhs, c.rhs.ensures ∙ c.in_ok-whole.ensures.is)
+picked-requires-clause-choice g c = (c.args.test.says.rhs, c.args.found.yes.says.rhs, c.args.found.no.says.rhs, c.rhs.ensures ∙ c.in_ok-whole.ensures.is)
 
 pub follow-requires-clause-first : goal.follow-requires-clause-first
 follow-requires-clause-first g c = from_own _ _ _ _ _ c.in_ok-whole.ensures.from
@@ -22,3 +22,9 @@ returns-clause-is g c = c.in_ok-q.ensures.is ∙ c.in_ok-more.ensures.is _ _ _ _
 
 pub returns-clause-from : goal.returns-clause-from
 returns-clause-from g c = followed_from _ _ _ _ _ _ c.in_ok-whole.ensures.from c.in_ok-q.ensures.from
+
+pub join-requires-clause-yes : goal.join-requires-clause-yes
+join-requires-clause-yes g c = c.requires.found.yes
+
+pub join-requires-clause-no : goal.join-requires-clause-no
+join-requires-clause-no g c = c.requires.found.no

@@ -1,26 +1,12 @@
-use Rattle.std.proofs.Common.{List, sym, ap, ◌∙◌}
-use Rattle.ap_list.specs.Lists.{is_among}
-use Rattle.ap_term.specs.declared.term.Term.{Term}
-use Rattle.ap_term.specs.Equal.{term_eq}
+use Rattle.std.proofs.Common.{◌∙◌}
 use Rattle.ap_rewrite.specs.Answering.{setting_of, inner_of, seen_at}
-use Rattle.ap_rewrite.proofs.Chained.{answered_is, answered_from, same_answer}
-use Rattle.ap_rewrite.proofs.Opened.{opened_whole, walked_down}
+use Rattle.ap_rewrite.proofs.Chained.{same_answer}
+use Rattle.ap_rewrite.proofs.Opened.{closed_within}
 use Rattle.ap_rewrite.proofs.opening.open_recursive.Goals as goal
-
-pub returns-then-is_among-clause-is : goal.returns-then-is_among-clause-is
-returns-then-is_among-clause-is g c =
-    answered_is _ _ _ _ c.answered.ensures c.in_ok-found.ensures.is
-    ∙ opened_whole (setting_of c.args.l.now.r.now) (inner_of c.args.l.now.r.now c.args.l.now.levels) c.args.mode (seen_at c.args.at.now) c.args.f.now c.args.first.says.lhs c.args.first.says.rhs c.args.run.now.left c.as_slice.result.now
-    (ap (λ (u : Term). is_among term_eq u c.args.l.now.r.now.expand.now) (sym c.lhs.ensures) ∙ ap (λ (us : List Term). is_among term_eq c.lhs.result.now us) (sym c.as_slice-2.ensures) ∙ sym c.is_among.ensures ∙ c.if-is_among.true)
-    (c.as_slice.ensures ∙ c.in_ok-closed.ensures)
-
-pub returns-then-is_among-clause-from : goal.returns-then-is_among-clause-from
-returns-then-is_among-clause-from g c = answered_from _ _ _ _ _ _ c.answered.ensures c.in_ok-found.ensures.from
 
 pub returns-clause-is : goal.returns-clause-is
 returns-clause-is g c =
     same_answer _ _ _ _
-    (walked_down (setting_of c.args.l.now.r.now) (inner_of c.args.l.now.r.now c.args.l.now.levels) c.args.mode (seen_at c.args.at.now) c.args.f.now c.args.first.says.lhs c.args.first.says.rhs c.args.run.now.left c.as_slice.result.now
-    (ap (λ (u : Term). is_among term_eq u c.args.l.now.r.now.expand.now) (sym c.lhs.ensures) ∙ ap (λ (us : List Term). is_among term_eq c.lhs.result.now us) (sym c.as_slice-2.ensures) ∙ sym c.is_among.ensures ∙ c.if-is_among.false)
+    (closed_within (setting_of c.args.l.now.r.now) (inner_of c.args.l.now.r.now c.args.l.now.levels) c.args.mode (seen_at c.args.at.now) c.args.f.now c.args.first.says.lhs c.args.first.says.rhs c.args.run.now.left c.as_slice.result.now
     (c.as_slice.ensures ∙ c.in_ok-closed.ensures))
-    c.walk.ensures.is
+    c.open_within.ensures.is

@@ -1,20 +1,14 @@
-use Rattle.std.proofs.Common.{sym}
-use Rattle.ap_rewrite.proofs.Froms.{from_at}
-use Rattle.ap_rewrite.proofs.Chained.{answered_some, answered_out}
-use Rattle.ap_rewrite.proofs.Walked.{led_parts}
+use Rattle.ap_rewrite.specs.Answering.{setting_of, inner_of, seen_at}
+use Rattle.ap_rewrite.proofs.Chained.{same_answer}
+use Rattle.ap_rewrite.proofs.Walked.{ends_both, ends_none}
 use Rattle.ap_rewrite.proofs.opening.walk_ends.Goals as goal
 
-pub both-requires-clause-yes : goal.both-requires-clause-yes
-both-requires-clause-yes g c = (led_parts _ _ _ _ _ _ _ _ c.requires.sofar c.requires.choice).1
-
-pub both-requires-clause-no : goal.both-requires-clause-no
-both-requires-clause-no g c = (led_parts _ _ _ _ _ _ _ _ c.requires.sofar c.requires.choice).2
-
-pub returns-in_default-clause-is : goal.returns-in_default-clause-is
-returns-in_default-clause-is g c = answered_out _ (rw c.in_default.is at c.in_ok-more.ensures.is)
-
-pub follow-requires-clause-second : goal.follow-requires-clause-second
-follow-requires-clause-second g c = from_at _ _ _ _ _ _ (sym c.requires.choice) (rw c.in-Some.is at c.in_ok-more.ensures.from)
+pub returns-then-taken-clause-is : goal.returns-then-taken-clause-is
+returns-then-taken-clause-is g c =
+    same_answer _ _ _ _
+    (ends_both (setting_of c.args.l.now.r.now) (inner_of c.args.l.now.r.now c.args.l.now.levels) c.args.mode (seen_at c.args.at.now) c.args.taken c.args.test.says.rhs c.args.b.now c.args.c.now c.args.run.now.left c.if-taken.true)
+    c.follow_both.ensures.is
 
 pub returns-clause-is : goal.returns-clause-is
-returns-clause-is g c = answered_some _ _ _ _ c.in_ok-q.ensures.is (rw c.in-Some.is at c.in_ok-more.ensures.is)
+returns-clause-is g c =
+    ends_none (setting_of c.args.l.now.r.now) (inner_of c.args.l.now.r.now c.args.l.now.levels) c.args.mode (seen_at c.args.at.now) c.args.taken c.args.test.says.rhs c.args.b.now c.args.c.now c.args.run.now.left c.if-taken.false

@@ -25,8 +25,7 @@ dotted-returns t c =
 
 pub list-returns : goal.list-returns
 list-returns t c =
-    list_made c.args.left c.args.place c.args.items.now c.in_ok-values.values c.in_ok-end.end c.in_ok-value.value c.if-left-eq0.false
-    c.in_ok-values.ensures c.in_ok-end.ensures c.in_ok-value.ensures
+    list_made c.args.left c.args.place c.args.items.now c.in_ok-values.values c.in_ok-value.value c.if-left-eq0.false c.in_ok-values.ensures c.in_ok-value.ensures
 
 pub quoted-returns-in-None : goal.quoted-returns-in-None
 quoted-returns-in-None t c = quoted_large c.args.left c.args.place c.args.inner.now c.in_ok-constant.field-0 c.if-left-eq0.false c.in_ok-constant.ensures c.in-None.is

@@ -1,0 +1,5 @@
+pub mod Texts
+pub mod Package
+pub mod Bodies
+pub mod Plan
+pub mod Demo
