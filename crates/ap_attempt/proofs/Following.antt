@@ -1,5 +1,5 @@
 -- What follows a turn.
-use Rattle.std.proofs.Common.{◌≡◌, ℕ, zero, suc, ◌-◌, ◌≤◌, ◌<◌, Bool, true, false, List, [], ◌∷◌, ◌++◌, length, Option, Some, None, arith, refl, ap, subst, sym, ◌∙◌, append_assoc, append-nil}
+use Rattle.std.proofs.Common.{◌≡◌, ℕ, zero, suc, ◌-◌, ◌≤◌, ◌<◌, Bool, true, false, List, [], ◌∷◌, ◌++◌, length, Option, Some, None, arith, refl, ap, subst, sym, ◌∙◌, append_assoc}
 use Rattle.ap_walk.specs.declared.act.Stepped.{Stepped}
 use Rattle.ap_walk.specs.declared.rule.Rule.{Rule}
 use Rattle.ap_walk.specs.declared.rule.Tally.{Tally}
@@ -12,15 +12,14 @@ use Rattle.ap_walk.proofs.Trees.{walk_is_cut_of_all}
 use Rattle.ap_walk.proofs.Stops.{cut_counts}
 use Rattle.ap_attempt.specs.declared.turn.Turn.{Turn}
 use Rattle.ap_attempt.specs.declared.turn.Next.{Next}
-use Rattle.ap_attempt.specs.declared.verdict.Verdict.{Verdict}
-use Rattle.ap_attempt.specs.Attempts.{Course, walks_of, with_pool, after_walk, next_turn, follow, walked_first, turn_walk, one_turn, turns_within, turns_from}
+use Rattle.ap_attempt.specs.Attempts.{RootedWalk, Course, with_pool, after_walk, next_turn, follow, walked_first, turn_walk, one_turn, turns_within, turns_from}
 use Rattle.ap_attempt.proofs.Lowering.{next_rule}
 
 module _ {T : Type 0} where
   -- walks that were made, and then those of this course, are those of the whole one
-  pub record EndsWith (made : List (Walked T)) (rest whole : Course T) : Type 0 where
+  pub record EndsWith (made : List (RootedWalk T)) (rest whole : Course T) : Type 0 where
     pub verdict : rest.verdict ≡ whole.verdict
-    pub walks : made ++ walks_of rest ≡ walks_of whole
+    pub walks : made ++ rest.walks ≡ whole.walks
 
   turn_back : (a b : Turn T) → Next.Walk a ≡ Next.Walk b → a ≡ b
   turn_back a b is = cc
@@ -115,11 +114,11 @@ module _ {T : Type 0} (step : T → Stepped T) (depth : T → ℕ) (tells : (tas
     turns_from_is turn = once turn.rule.goal_limit turn (omega arith)
 
     -- what has been walked, and then this turn's walk with what follows it
-    turned : (walks before : List (Walked T)) (turn : Turn T) (w : Walked T) (next : Next T) (whole : Course T)
+    pub turned : (before : List (RootedWalk T)) (turn : Turn T) (w : Walked T) (next : Next T) (whole : Course T)
         → EndsWith before (turns_from step depth inducted original refuses turn) whole
-        → w ≡ walk step depth turn.rule turn.task zero_tally → next ≡ next_turn inducted original refuses turn.rule w turn.rest → walks ≡ before ++ w ∷ []
-        → EndsWith walks (follow next (turns_from step depth inducted original refuses)) whole
-    turned walks before turn w next whole to_come is follows added =
+        → w ≡ walk step depth turn.rule turn.task zero_tally → next ≡ next_turn inducted original refuses turn.rule w turn.rest
+        → EndsWith (before ++ turn_walk turn w ∷ []) (follow next (turns_from step depth inducted original refuses)) whole
+    turned before turn w next whole to_come is follows =
         let turns = turns_from step depth inducted original refuses in
         let after : Walked T → Course T = λ v. walked_first (turn_walk turn v) (follow (next_turn inducted original refuses turn.rule v turn.rest) turns) in
         record {
@@ -129,28 +128,12 @@ module _ {T : Type 0} (step : T → Stepped T) (depth : T → ℕ) (tells : (tas
               ∙ ap (λ (c : Course T). c.verdict) (sym (turns_from_is turn))
               ∙ to_come.verdict;
           walks =
-              ap (λ ws. ws ++ walks_of (follow next turns)) added
-              ∙ append_assoc before (w ∷ []) _
-              ∙ ap (λ n. before ++ w ∷ walks_of (follow n turns)) follows
-              ∙ ap (λ v. before ++ walks_of (after v)) is
-              ∙ ap (λ (c : Course T). before ++ walks_of c) (sym (turns_from_is turn))
+              append_assoc before (turn_walk turn w ∷ []) _
+              ∙ ap (λ n. before ++ turn_walk turn w ∷ (follow n turns).walks) follows
+              ∙ ap (λ v. before ++ (after v).walks) is
+              ∙ ap (λ (c : Course T). before ++ c.walks) (sym (turns_from_is turn))
               ∙ to_come.walks;
         }
-
-    pub turn_follows : (walks before : List (Walked T)) (turn : Turn T) (w : Walked T) (next : Next T) (after : Turn T) (whole : Course T)
-        → EndsWith before (turns_from step depth inducted original refuses turn) whole
-        → w ≡ walk step depth turn.rule turn.task zero_tally → next ≡ next_turn inducted original refuses turn.rule w turn.rest → walks ≡ before ++ w ∷ []
-        → next ≡ Next.Walk after → EndsWith walks (turns_from step depth inducted original refuses after) whole
-    turn_follows walks before turn w next after whole to_come is follows added walks_on =
-        turned walks before turn w (Next.Walk after) whole to_come is (sym walks_on ∙ follows) added
-
-    pub verdict_follows : (walks before : List (Walked T)) (turn : Turn T) (w : Walked T) (next : Next T) (verdict : Verdict) (whole : Course T)
-        → EndsWith before (turns_from step depth inducted original refuses turn) whole
-        → w ≡ walk step depth turn.rule turn.task zero_tally → next ≡ next_turn inducted original refuses turn.rule w turn.rest → walks ≡ before ++ w ∷ []
-        → next ≡ Next.Done verdict → (verdict ≡ whole.verdict) × (walks ≡ walks_of whole)
-    verdict_follows walks before turn w next verdict whole to_come is follows added done =
-        let ends = turned walks before turn w (Next.Done verdict) whole to_come is (sym done ∙ follows) added in
-        (ends.verdict, sym (append-nil walks) ∙ ends.walks)
 
     pub turn_shrinks : (turn : Turn T) (w : Walked T) (next : Next T) (after : Turn T)
         → w ≡ walk step depth turn.rule turn.task zero_tally → next ≡ next_turn inducted original refuses turn.rule w turn.rest

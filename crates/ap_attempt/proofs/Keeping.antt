@@ -15,7 +15,7 @@ use Rattle.ap_walk.proofs.Bounds.{walk_few_from_zero}
 use Rattle.ap_attempt.specs.declared.turn.Turn.{Turn}
 use Rattle.ap_attempt.specs.declared.turn.Next.{Next}
 use Rattle.ap_attempt.specs.declared.verdict.Verdict.{Verdict}
-use Rattle.ap_attempt.specs.Attempts.{Course, walks_of, turn_walk, inductions, rule_after, with_pool, after_walk, next_turn, follow, turns_within, attempt}
+use Rattle.ap_attempt.specs.Attempts.{Course, walks_of, inductions, rule_after, with_pool, after_walk, next_turn, follow, turns_within, attempt}
 use Rattle.ap_attempt.specs.Laws.{mark_count, IsLater, EachAfterFirst}
 use Rattle.ap_attempt.proofs.Following.{next_turn_rule, walk_counts}
 

@@ -3,3 +3,8 @@ pub mod Following
 pub mod Keeping
 pub mod PushNames
 pub mod Ranked
+pub mod Dividing
+pub mod Topping
+pub mod Licensing
+pub mod Making
+pub mod Known

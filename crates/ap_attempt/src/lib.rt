@@ -1,6 +1,7 @@
-//! An attempt on a goal, over any prover and on one thread. The goal is walked, and what the walk pushes is
-//! proved by induction, from the goal that was pushed first ("Computer-Aided Reasoning", 2000; the manual's
-//! topics `hints-and-the-waterfall` and `otf-flg`). Nothing here speaks of terms or clauses.
+//! An attempt on a goal, over any prover. The goal is walked, and what the walk pushes is proved by induction,
+//! from the goal that was pushed first ("Computer-Aided Reasoning", 2000; the manual's topics
+//! `hints-and-the-waterfall` and `otf-flg`). Each walk is made by one worker, or by several that speculate over
+//! sibling subgoals. Nothing here speaks of terms or clauses.
 #![tactic(auto)]
 
 mod naming;
@@ -10,8 +11,11 @@ mod proving;
 mod theorems;
 mod turn;
 mod verdict;
+mod walking;
 
 pub use ap_list::{NoMemory, Seq};
+pub use ap_speculate::{Gate, NoGate, Place};
+pub use ap_table::DropNote;
 pub use naming::push_name;
 pub use prover::Prover;
 pub use proving::prove;

@@ -1,15 +1,21 @@
-ghost use Rattle.std.specs.Prelude.{◌≡◌, ◌+◌, ◌≤◌, ◌<◌, ◌^◌, [], length, IfOk};
+ghost use Rattle.std.specs.Prelude.{◌≡◌, ◌+◌, ◌≤◌, ◌<◌, ◌^◌, [], ◌∷◌, ◌++◌, length, IfOk, OnOk};
 ghost use Rattle.ap_walk.specs.Laws.{pushed};
 ghost use Rattle.ap_attempt.specs.Attempts.{attempt, inductions, next_turn, rule_after, walks_of, with_pool};
+ghost use Rattle.ap_attempt.specs.Drops.{Divided};
 ghost use Rattle.ap_attempt.specs.Laws.{EachAfterFirst, IsLater, mark_count};
 
 use crate::pool::Pool;
 use crate::prover::Prover;
 use crate::turn::{Next, Turn};
 use crate::verdict::{Attempt, Verdict};
+use crate::walking::walk_by;
 use ap_list::{NoMemory, Seq};
-use ap_walk::{End, Mark, Process, Reason, Rule, Walked, serial};
+use ap_speculate::Gate;
+use ap_table::DropNote;
+use ap_walk::{End, Mark, Process, Reason, Rule, Walked};
 use std::alloc::Global;
+use std::sync::Wait;
+use std::thread::Threads;
 
 /// The rule of the walk after one that was under a rule and visited so many goals, where goals are left.
 fn rule_after(rule: Rule, goals: u32) -> Option<Rule>
@@ -89,25 +95,57 @@ fn next_turn<P: Prover>(
     Ok(with_pool(prover.do_not_induct(), left, pool))
 }
 
+/// The walks that an attempt made so far, and the notes of what was dropped in them.
+#[derive(Drop)]
+struct Made<T> {
+    walks: Seq<Walked<T>>,
+    drops: Seq<DropNote>,
+}
+
+impl<T: Drop> Made<T> {
+    /// Adds a walk, and the notes of what was dropped in it.
+    fn add(&mut self, walked: Walked<T>, drops: Seq<DropNote>) -> Result<(), NoMemory>
+        ensures walks { OnOk result (self.new.walks ≡ self.old.walks ++ walked ∷ []) }
+        ensures drops { OnOk result (self.new.drops ≡ self.old.drops ++ drops) }
+    {
+        self.walks.push(walked)?;
+        self.drops.append(drops)
+    }
+}
+
 /// An attempt on a goal. The root is walked under the rule. Where a walk stops for a reason, the attempt fails
 /// for that; where it comes to the limit on goals, it fails with `GoalLimit`. Where the root's walk reverts,
 /// the pool is the induction of the root's original as number 1; else it is the inductions of what was
 /// pushed, in order. The attempt is `Qed` where the pool is empty. Else it fails with `DoNotInduct` where the
 /// prover refuses induction, and else with `GoalLimit` where no goals are left. Else the first of the pool is
 /// walked, under a rule that isn't initial and has the goals that are left as its limit, and what it pushes
-/// stands before the rest of the pool. So it goes on. The only error is want of memory.
-pub fn prove<P: Prover>(
+/// stands before the rest of the pool. So it goes on.
+///
+/// Each walk is made by so many workers, up to 64, and is the same whatever their number. With 0 or 1 of them
+/// the caller makes it alone: no thread is started, the gate isn't passed, and nothing is dropped. The only
+/// error is want of memory.
+pub fn prove<P: Prover + Sync, G: Gate + Sync, R: Threads + Wait + Sync>(
+    rt: &R,
     alloc: Global,
     prover: &P,
     root: P::Task,
     rule: Rule,
+    workers: u32,
+    gate: &G,
 ) -> Result<Attempt<P::Task>, NoMemory>
+where
+    P::Task: Send,
     ensures attempt { let course = attempt P.step_of P.depth P.inducted (P.original_of root) (P.refuses_induction prover.now) rule root in IfOk result (λ done. (done.verdict ≡ course.verdict) × (done.walks ≡ walks_of course)) }
+    ensures drops { let course = attempt P.step_of P.depth P.inducted (P.original_of root) (P.refuses_induction prover.now) rule root in IfOk result (λ done. Divided P.step_of P.depth P.name done.drops course.walks) }
+    ensures alone { IfOk result (λ done. workers ≤ 1 → done.drops ≡ []) }
     ensures good { IfOk result (λ done. done.verdict ≡ Verdict.Qed → P.good root) }
     ensures few { IfOk result (λ done. mark_count done.walks ≤ rule.goal_limit) }
     ensures later { IfOk result (λ done. EachAfterFirst (IsLater P.step_of P.depth) done.walks) }
 {
-    let mut walks = Seq::new(alloc);
+    let mut made = Made {
+        walks: Seq::new(alloc),
+        drops: Seq::new(alloc),
+    };
     let task = prover.copy_task(alloc, &root)?;
     let mut turn = Turn {
         task,
@@ -116,12 +154,19 @@ pub fn prove<P: Prover>(
     };
     loop {
         let Turn { task, rule, rest } = turn;
-        let walked = serial(alloc, prover, &task, rule)?;
+        let (walked, drops) = walk_by(rt, alloc, prover, &task, rule, workers, gate)?;
         let next = next_turn(alloc, prover, &root, rule, &walked, rest)?;
-        walks.push(walked)?;
+        made.add(walked, drops)?;
         match next {
             Next::Walk(after) => turn = after,
-            Next::Done(verdict) => return Ok(Attempt { verdict, walks }),
+            Next::Done(verdict) => {
+                let Made { walks, drops } = made;
+                return Ok(Attempt {
+                    verdict,
+                    walks,
+                    drops,
+                });
+            }
         }
     }
 }

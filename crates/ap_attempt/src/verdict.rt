@@ -1,4 +1,5 @@
 use ap_list::Seq;
+use ap_table::DropNote;
 use ap_walk::{Reason, Walked};
 
 /// What an attempt came to.
@@ -25,4 +26,7 @@ pub enum Verdict {
 pub struct Attempt<T> {
     pub verdict: Verdict,
     pub walks: Seq<Walked<T>>,
+    /// The goals that workers dropped, walk by walk, and of one walk in the order in which they were. How many
+    /// there are, and which, may differ from one attempt to the next.
+    pub drops: Seq<DropNote>,
 }
