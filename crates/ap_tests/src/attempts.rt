@@ -7,6 +7,8 @@ use ap_names::{GoalName, same_name};
 use ap_walk::{Act, End, Out, Process, Reason, Rule, Step, Stepped, Walked};
 use std::alloc::{AllocError, Global};
 use std::process::Abort;
+use std::sync::Wait;
+use std::thread::Threads;
 
 /// What comes of a goal.
 #[derive(Clone, Copy, PartialEq)]
@@ -267,41 +269,55 @@ fn expect_walks(
 #[derive(Clone, Copy)]
 struct Trial(Kind, bool, bool, u32);
 
-/// Makes an attempt.
-fn attempt(alloc: Global, trial: Trial) -> Result<Attempt<Goal>, NoMemory> {
+/// Makes an attempt by so many workers.
+fn attempt<R: Threads + Wait + Sync>(
+    rt: &R,
+    alloc: Global,
+    trial: Trial,
+    workers: u32,
+) -> Result<Attempt<Goal>, NoMemory> {
     let Trial(kind, refuses, otf, limit) = trial;
     if limit < 1 || limit > 200002 {
         return Err(AllocError);
     }
     let name = root_name(alloc);
     prove(
+        rt,
         alloc,
         &Given { refuses },
         Goal { name, kind },
         first(otf, limit),
+        workers,
+        &NoGate,
     )
 }
 
 /// What is expected of an attempt: its verdict, and its walks.
 type Row = (Trial, Verdict, &'static [Walk]);
 
-/// Compares an attempt with what is expected.
-fn expect_row(
-    rt: &impl Abort,
+/// Compares an attempt by so many workers with what is expected.
+fn expect_row<R: Threads + Wait + Sync + Abort>(
+    rt: &R,
     alloc: Global,
     trial: Trial,
     verdict: Verdict,
     walks: &[Walk],
+    workers: u32,
 ) -> Result<(), NoMemory> {
-    let done = attempt(alloc, trial)?;
+    let done = attempt(rt, alloc, trial, workers)?;
     assert!(rt; done.verdict == verdict, "the verdict");
     expect_walks(rt, alloc, done.walks.as_slice(), walks)
 }
 
-/// Compares attempts with what is expected.
-fn expect_rows(rt: &impl Abort, alloc: Global, rows: &[Row]) -> Result<(), NoMemory> {
+/// Compares attempts by so many workers with what is expected.
+fn expect_rows<R: Threads + Wait + Sync + Abort>(
+    rt: &R,
+    alloc: Global,
+    rows: &[Row],
+    workers: u32,
+) -> Result<(), NoMemory> {
     for (trial, verdict, walks) in rows {
-        expect_row(rt, alloc, *trial, *verdict, *walks)?;
+        expect_row(rt, alloc, *trial, *verdict, *walks, workers)?;
     }
     Ok(())
 }
@@ -332,7 +348,7 @@ const REVERTS: &[Row] = &[
 
 #[test]
 fn a_second_push_reverts_to_the_original(rt: HostRuntime) -> Result<(), NoMemory> {
-    expect_rows(&rt, rt.alloc(), REVERTS)
+    expect_rows(&rt, rt.alloc(), REVERTS, 1)
 }
 
 const STUCK: &[Row] = &[
@@ -353,7 +369,7 @@ const STUCK: &[Row] = &[
 
 #[test]
 fn a_push_without_an_induction_fails(rt: HostRuntime) -> Result<(), NoMemory> {
-    expect_rows(&rt, rt.alloc(), STUCK)
+    expect_rows(&rt, rt.alloc(), STUCK, 1)
 }
 
 const LIMITS: &[Row] = &[
@@ -381,7 +397,7 @@ const LIMITS: &[Row] = &[
 
 #[test]
 fn goals_run_out(rt: HostRuntime) -> Result<(), NoMemory> {
-    expect_rows(&rt, rt.alloc(), LIMITS)
+    expect_rows(&rt, rt.alloc(), LIMITS, 1)
 }
 
 const HINTS: &[Row] = &[
@@ -404,7 +420,7 @@ const HINTS: &[Row] = &[
 
 #[test]
 fn a_hint_forbids_induction(rt: HostRuntime) -> Result<(), NoMemory> {
-    expect_rows(&rt, rt.alloc(), HINTS)
+    expect_rows(&rt, rt.alloc(), HINTS, 1)
 }
 
 const ORDERS: &[Row] = &[
@@ -434,7 +450,21 @@ const ORDERS: &[Row] = &[
 
 #[test]
 fn pushes_of_a_pushed_goal_come_before_the_rest(rt: HostRuntime) -> Result<(), NoMemory> {
-    expect_rows(&rt, rt.alloc(), ORDERS)
+    expect_rows(&rt, rt.alloc(), ORDERS, 1)
+}
+
+/// How often attempts by several workers are made.
+const TIMES: u32 = 20;
+
+#[test]
+fn several_workers_prove_as_one_does(rt: HostRuntime) -> Result<(), NoMemory> {
+    for workers in [2, 8] {
+        for _ in 0..TIMES {
+            expect_rows(&rt, rt.alloc(), REVERTS, workers)?;
+            expect_rows(&rt, rt.alloc(), ORDERS, workers)?;
+        }
+    }
+    Ok(())
 }
 
 /// The case 3 of the induction 1.
