@@ -1,5 +1,6 @@
-pub mod Grammars
-pub mod Numbers
-pub mod Showing
-pub mod Starting
 pub mod Commanding
+pub mod Leading
+pub mod Numbers
+pub mod Sessions
+pub mod Soundness
+pub mod Starting

@@ -1,4 +1,4 @@
--- The world that a session begins with.
+-- The world that a book begins with.
 use Rattle.std.proofs.Common.{◌≡◌, map, subst, sym}
 use Rattle.ap_world.specs.declared.entry.Entry.TheVariants as entry
 use Rattle.ap_world.specs.Ground.{ground_functions, ground_rules}
@@ -6,7 +6,7 @@ use Rattle.ap_world.specs.Sound.{HasFunctions}
 use Rattle.ap_world.specs.World.{Shown, function_of}
 use Rattle.ap_world.proofs.Adding.{has_functions-more}
 use Rattle.ap_ground.proofs.There.{has_functions}
-use Rattle.acl2p.specs.Session.{start}
+use Rattle.acl2p.specs.Working.{start}
 
 -- it has the functions of the ground world
 pub start_has : (w : Shown) → w ≡ start → HasFunctions (function_of w.entries)

@@ -1,12 +1,16 @@
--- The command's words: for now they name exactly one book, behind the options `--steps N` and `--goals N` where these are
--- given, in any order.
-use Rattle.std.specs.Prelude.{ℕ, ◌+◌, ◌*◌, ◌-◌, Bool, false, cond, not, ◌&&◌, ◌||◌, nat_eq, nat_le, List, [], ◌∷◌, length, Option, Some, None, unwrap_or, codes, string_bytes}
+-- The command's words: for now they name exactly one book, behind the options `--workers N`, `--steps N`, `--goals N` and
+-- `--trace` where these are given, in any order.
+use Rattle.std.specs.Prelude.{ℕ, ◌+◌, ◌*◌, ◌-◌, Bool, true, false, cond, not, ◌&&◌, ◌||◌, nat_eq, nat_le, List, [], ◌∷◌, length, map, Option, Some, None, unwrap_or, codes, string_bytes}
 use Rattle.std.specs.List.{list_all}
 use Rattle.ap_value.specs.Values.{bytes_eq}
 use Rattle.ap_events.specs.declared.limits.Limits.{Limits}
 use Rattle.ap_events.specs.Limits.{limits_of}
 use Rattle.acl2p.specs.declared.command.Command as commands
-use Rattle.acl2p.specs.declared.command.Options as options
+use Rattle.acl2p.specs.declared.command.Counted.{Counted}
+use Rattle.acl2p.specs.declared.command.Counted.TheVariants.{Workers, Steps, Goals}
+use Rattle.acl2p.specs.declared.command.Flag.{Flag}
+use Rattle.acl2p.specs.declared.command.Flag.TheVariants.{Number, Trace}
+use Rattle.acl2p.specs.declared.command.Options.{Options}
 
 -- between two codes, both among them
 abbrev pub is_between : ℕ → ℕ → ℕ → Bool
@@ -31,6 +35,12 @@ begins_well (b ∷ bs) = not (nat_eq b 45)
 abbrev pub is_book_name : List ℕ → Bool
 is_book_name w = begins_well w && nat_le (length w) 64 && list_all is_name_byte w
 
+-- the books that a command may name: so far exactly one
+abbrev pub are_books : List (List ℕ) → Bool
+are_books [] = false
+are_books (w ∷ []) = is_book_name w
+are_books (w ∷ v ∷ ws) = false
+
 -- a number is decimal digits without a sign or a leading zero
 abbrev pub leads : List ℕ → Bool
 leads [] = false
@@ -48,24 +58,33 @@ read_on n (b ∷ bs) = read_on (10 * n + (b - 48)) bs
 abbrev pub number_in : ℕ → List ℕ → Option ℕ
 number_in most w = cond (is_number w && nat_le (read_on 0 w) most) (Some (read_on 0 w)) None
 
--- what the words command: the book, and the limits of its attempts
+-- what the words command: the books in order, the limits of their attempts, how many goals may be worked at a time, and
+-- whether what was dropped is told
 pub record Command : Type 0 where
-  pub book : List ℕ
+  pub books : List (List ℕ)
   pub limits : Limits
+  pub workers : ℕ
+  pub trace : Bool
 
--- the options that are given, each at most once: how many steps a clause may spend, and how many goals an attempt may
--- visit
-pub record Options : Type 0 where
-  pub steps : Option ℕ
-  pub goals : Option ℕ
+-- the option that a word is, if it is one
+abbrev pub flag_of : List ℕ → Option Flag
+flag_of w =
+    cond (bytes_eq w (codes "--workers")) (Some (Number Workers))
+    (cond (bytes_eq w (codes "--steps")) (Some (Number Steps))
+    (cond (bytes_eq w (codes "--goals")) (Some (Number Goals))
+    (cond (bytes_eq w (codes "--trace")) (Some Trace) None)))
 
 abbrev pub no_options : Options
-no_options = record { steps = None; goals = None }
+no_options = record { workers = None; steps = None; goals = None; trace = false }
 
 -- an option's number, where there is one and the option comes for the first time
 abbrev pub once : Option ℕ → Option ℕ → Option ℕ
 once None n = n
 once (Some k) n = None
+
+abbrev pub with_workers : Options → Option ℕ → Option Options
+with_workers p None = None
+with_workers p (Some n) = Some (record p { workers = Some n })
 
 abbrev pub with_steps : Options → Option ℕ → Option Options
 with_steps p None = None
@@ -75,36 +94,63 @@ abbrev pub with_goals : Options → Option ℕ → Option Options
 with_goals p None = None
 with_goals p (Some n) = Some (record p { goals = Some n })
 
--- one option more, of these words
-abbrev pub with_option : Options → List ℕ → List ℕ → Option Options
-with_option p o n =
-    cond (bytes_eq o (codes "--steps")) (with_steps p (once p.steps (number_in 1000000 n)))
-    (cond (bytes_eq o (codes "--goals")) (with_goals p (once p.goals (number_in 100000 n))) None)
+-- one option more that has a number, which this word gives
+abbrev pub with_number : Options → Counted → List ℕ → Option Options
+with_number p Workers w = with_workers p (once p.workers (number_in 64 w))
+with_number p Steps w = with_steps p (once p.steps (number_in 1000000 w))
+with_number p Goals w = with_goals p (once p.goals (number_in 100000 w))
 
--- a clause may spend 100,000 steps, and an attempt visit 10,000 goals where the words don't say how many
+-- one option more that has none
+abbrev pub with_trace : Options → Option Options
+with_trace p = cond p.trace None (Some (record p { trace = true }))
+
+-- where the words don't say how many, a clause may spend 100,000 steps, an attempt visit 10,000 goals, and one goal is
+-- worked at a time
 abbrev pub limits_in : Options → Option Limits
 limits_in p = limits_of (unwrap_or p.steps 100000) (unwrap_or p.goals 10000)
 
-abbrev pub book_command : Option Limits → List ℕ → Option Command
-book_command None w = None
-book_command (Some limits) w = cond (is_book_name w) (Some (record { book = w; limits = limits })) None
+abbrev pub command_by : Options → List (List ℕ) → Option Limits → Option Command
+command_by p ws None = None
+command_by p ws (Some limits) = Some (record { books = ws; limits = limits; workers = unwrap_or p.workers 1; trace = p.trace })
+
+-- behind these options the books
+abbrev pub books_command : Options → List (List ℕ) → Option Command
+books_command p ws = cond (are_books ws) (command_by p ws (limits_in p)) None
 
 abbrev pub go_on : Option Options → (Options → Option Command) → Option Command
-go_on None k = None
-go_on (Some p) k = k p
+go_on None more = None
+go_on (Some p) more = more p
 
--- options, each with its number, and then a book's name
+-- a word with nothing behind it
+abbrev pub last_word : Option Flag → Options → List ℕ → Option Command
+last_word None p w = books_command p (w ∷ [])
+last_word (Some f) p w = None
+
+-- a word with others behind it: `next` goes on behind it, `later` behind the next word
+abbrev pub first_word : Option Flag → Options → List ℕ → List ℕ → List (List ℕ) → (Options → Option Command) → (Options → Option Command) → Option Command
+first_word None p w v ws next later = books_command p (w ∷ v ∷ ws)
+first_word (Some Trace) p w v ws next later = go_on (with_trace p) next
+first_word (Some (Number c)) p w v ws next later = go_on (with_number p c v) later
+
+-- options, each at most once, and then books
 abbrev pub command_from : List (List ℕ) → Options → Option Command
 command_from [] p = None
-command_from (w ∷ []) p = book_command (limits_in p) w
-command_from (o ∷ n ∷ ws) p = go_on (with_option p o n) (command_from ws)
+command_from (w ∷ []) p = last_word (flag_of w) p w
+command_from (w ∷ v ∷ ws) p = first_word (flag_of w) p w v ws (command_from (v ∷ ws)) (command_from ws)
 
 abbrev pub command_of : List (List ℕ) → Option Command
 command_of ws = command_from ws no_options
 
--- options and a command as the program holds them
-abbrev pub shown_options : options.Options → Options
-shown_options p = record { steps = p.steps; goals = p.goals }
+-- the books that the words name
+abbrev pub books_in : Option Command → List (List ℕ)
+books_in None = []
+books_in (Some c) = c.books
 
+-- how many goals the words let be worked at a time
+abbrev pub workers_in : Option Command → ℕ
+workers_in None = 1
+workers_in (Some c) = c.workers
+
+-- a command as the program holds it
 abbrev pub shown_command : commands.Command → Command
-shown_command c = record { book = string_bytes c.book.now; limits = c.limits }
+shown_command c = record { books = map string_bytes c.books.now; limits = c.limits; workers = c.workers; trace = c.trace }

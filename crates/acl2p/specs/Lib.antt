@@ -1,4 +1,5 @@
+pub mod Admitting
 pub mod Command
-pub mod Package
 pub mod Session
 pub mod Texts
+pub mod Working

@@ -1,102 +1,127 @@
 -- The session: what is printed, which status and which world the words and the books give.
-use Rattle.std.specs.Prelude.{◌≡◌, ℕ, Bool, true, false, cond, List, [], ◌∷◌, ◌++◌, Option, Some, None, Result, Ok, Err, codes, IfSome, IsSomeAnd}
-use Rattle.ap_world.specs.Ground.{ground}
+use Rattle.std.specs.Prelude.{◌≡◌, ◌≤◌, ◌⊎◌, ℕ, Bool, true, false, cond, ◌&&◌, List, [], ◌∷◌, ◌++◌, map, Option, Some, None, codes, IfSome}
 use Rattle.ap_world.specs.World.{Shown}
 use Rattle.ap_outside.specs.declared.library.BookRead.{BookRead}
-use Rattle.ap_outside.specs.declared.library.BookRead.TheVariants.{Absent, TooLong, Found}
-use Rattle.ap_tokens.specs.Gaps.{at}
-use Rattle.ap_reader.specs.declared.form.Form.{Form}
-use Rattle.ap_reader.specs.Faults as faults
-use Rattle.ap_reader.specs.Reading.{forms_from}
-use Rattle.acl2p.specs.declared.report.Status.{Status}
-use Rattle.acl2p.specs.declared.report.Status.TheVariants.{Certified, NotCertified, Usage, ReadFault, WriteFault, NoMemory}
-use Rattle.acl2p.specs.declared.report.BookSeen.{BookSeen}
+use Rattle.ap_outside.specs.Gains.{Gained}
 use Rattle.ap_outside.specs.Files.{Files, told_at}
 use Rattle.ap_outside.specs.Books.{answer_of}
+use Rattle.ap_table.specs.declared.link.DropNote.{DropNote}
+use Rattle.ap_books.specs.declared.admitter.BookSeen.{BookSeen}
+use Rattle.ap_books.specs.Bodies.{Body, body_of, opened}
+use Rattle.ap_books.specs.Texts.{closing}
 use Rattle.ap_events.specs.declared.limits.Limits.{Limits}
-use Rattle.ap_events.specs.Events.{event_of}
-use Rattle.acl2p.specs.Command.{Command, command_of}
-use Rattle.acl2p.specs.Package.{is_package}
-use Rattle.acl2p.specs.Texts.{usage_text, opening, closing, absent_text, too_long_text, read_error_text, no_package_text}
+use Rattle.ap_events.specs.Ends.{Told, walks_in}
+use Rattle.ap_events.specs.Drops.{DividedWalks}
+use Rattle.acl2p.specs.declared.report.Status.{Status}
+use Rattle.acl2p.specs.declared.report.Status.TheVariants.{Certified, NotCertified, Usage, ReadFault, WriteFault, NoMemory}
+use Rattle.acl2p.specs.declared.fault.Fault.{Fault}
+use Rattle.acl2p.specs.declared.fault.Fault.TheVariants as faults
+use Rattle.acl2p.specs.Admitting.{AdmittingSeen, notes_in, IsTold}
+use Rattle.acl2p.specs.Command.{Command}
+use Rattle.acl2p.specs.Texts.{usage_text, trace_text}
+use Rattle.acl2p.specs.Working.{Working, start, admits, ends}
 
--- the world that a session begins with: the ground world, with everything enabled
-unfoldable pub start : Shown
-start = record { entries = ground; theory = record { disabled = [] } }
+-- the body of a book that was read: each book begins with the same world
+abbrev pub read_body : Limits → BookRead → Body Working Told
+read_body limits read = body_of admits ends read (record { limits = limits; world = start })
 
--- a book's text between its first and last lines, whether it is certified, and the world after it
-pub record Body : Type 0 where
-  pub text : List ℕ
-  pub certified : Bool
-  pub world : Shown
+-- a book's text, from its first line to its last
+unfoldable pub book_text : List ℕ → Body Working Told → List ℕ
+book_text name b = opened name b ++ closing name b.certified
 
--- the events up to the first that is refused, each in the world that the one before left
-abbrev pub before : List ℕ → Body → Body
-before text b = record { text = text ++ b.text; certified = b.certified; world = b.world }
-
-abbrev pub go_on : Shown → List ℕ → Option Shown → (Shown → Body) → Body
-go_on w text None more = record { text = text; certified = false; world = w }
-go_on w text (Some v) more = before text (more v)
-
-abbrev pub events_of : Limits → List Form → Shown → Body
-events_of limits [] w = record { text = []; certified = true; world = w }
-events_of limits (f ∷ fs) w = go_on w (event_of limits w f).text (event_of limits w f).next (events_of limits fs)
-
--- a body that stands for no events
-abbrev pub without_events : List ℕ → Body
-without_events text = record { text = text; certified = false; world = start }
-
--- the first form names the package, and the others are events
-abbrev pub forms_body : Limits → List Form → Body
-forms_body limits [] = without_events no_package_text
-forms_body limits (f ∷ fs) = cond (is_package f) (events_of limits fs start) (without_events no_package_text)
-
--- the book is read whole before any event
-abbrev pub read_body : Limits → Result (List Form) faults.ReadFault → Body
-read_body limits (Err e) = without_events (read_error_text e)
-read_body limits (Ok fs) = forms_body limits fs
-
--- what is read of a text: its forms, or its first fault
-abbrev pub forms_in : List ℕ → Result (List Form) faults.ReadFault
-forms_in text = forms_from (at 0 text)
-
-abbrev pub body_of : Limits → BookRead → Body
-body_of limits Absent = without_events absent_text
-body_of limits TooLong = without_events too_long_text
-body_of limits (Found book) = read_body limits (forms_in book.0)
-
--- what the session gives; it has no status where the book that the words name wasn't read
+-- a session so far: its text, whether each of its books is certified, what was told on the way, and the last world
 pub record Session : Type 0 where
   pub text : List ℕ
-  pub status : Option Status
-  pub world : Shown
+  pub certified : Bool
+  pub told : List Told
+  pub last : Shown
 
-abbrev pub status_of : Bool → Status
-status_of true = Certified
-status_of false = NotCertified
+abbrev pub begun : Session
+begun = record { text = []; certified = true; told = []; last = start }
 
-unfoldable pub shown_book : List ℕ → Body → Session
-shown_book name b = record { text = opening name ++ b.text ++ closing name b.certified; status = Some (status_of b.certified); world = b.world }
+-- one book more
+abbrev pub with_body : Session → List ℕ → Body Working Told → Session
+with_body s name b =
+    record { text = s.text ++ book_text name b; certified = s.certified && b.certified; told = s.told ++ b.log; last = b.state.world }
 
--- by the words, and by what the read of the book that they name answered, if it did
-abbrev pub answered : Command → Option BookRead → Session
-answered c None = record { text = []; status = None; world = start }
-answered c (Some r) = shown_book c.book (body_of c.limits r)
+abbrev pub then_book : Limits → Session → List ℕ → BookRead → Session
+then_book limits s name read = with_body s name (read_body limits read)
 
-abbrev pub commanded : Option Command → Option BookRead → Session
-commanded None read = record { text = usage_text; status = Some Usage; world = start }
-commanded (Some c) read = answered c read
+-- the books of these names, as they were read; the reads may be fewer than the names
+abbrev pub books_of : Limits → Session → List (List ℕ) → List BookRead → Session
+books_of limits s [] reads = s
+books_of limits s (name ∷ names) [] = s
+books_of limits s (name ∷ names) (read ∷ reads) = books_of limits (then_book limits s name read) names reads
 
-abbrev pub session : List (List ℕ) → Option BookRead → Session
-session words read = commanded (command_of words) read
+-- the session that words which are no command give
+abbrev pub usage : Session
+usage = record { text = usage_text; certified = false; told = []; last = start }
+
+-- by what the words command, and by what the reads of the books answered
+abbrev pub session : Option Command → List BookRead → Session
+session None reads = usage
+session (Some c) reads = books_of c.limits begun c.books reads
+
+abbrev pub status_of : Option Command → Bool → Status
+status_of None certified = Usage
+status_of (Some c) certified = cond certified Certified NotCertified
+
+-- where the words ask for it, what was dropped is told at the end
+abbrev pub traced : Option Command → List DropNote → List ℕ
+traced None drops = []
+traced (Some c) drops = cond c.trace (trace_text drops) []
+
+-- all that is printed
+abbrev pub output : Option Command → Session → List DropNote → List ℕ
+output command s drops = s.text ++ traced command drops
+
+-- the session passed through this world
+abbrev pub Passed : Session → Shown → Type 0
+Passed s w = (w ≡ start) ⊎ IsTold s.told w
+
+-- what the reads of the books answered
+abbrev pub reads_in : List BookSeen → List BookRead
+reads_in books = map (λ b. b.read) books
+
+-- the books of these names, by what they were read as, from the start
+abbrev pub worked_books : AdmittingSeen → List (List ℕ) → List BookSeen → Session
+worked_books a names books = books_of a.working.limits begun names (reads_in books)
+
+-- all books were worked, and this is what they gave
+pub record Worked (before after : Option (List ℕ)) (s : Session) (all : Bool) (a : AdmittingSeen) : Type 0 where
+  pub text : Gained before after s.text
+  pub certified : s.certified ≡ all
+  pub last : s.last ≡ a.working.world
+
+-- what holds of a session that was worked so far, also where a fault cut it off
+pub record Kept (s : Session) (a b : AdmittingSeen) : Type 0 where
+  pub passed : Passed s b.working.world
+  pub drops : DividedWalks (notes_in b) (walks_in s.told)
+  pub alone : a.workers ≤ 1 → notes_in b ≡ []
 
 -- the file that a book is read from
 abbrev pub file_name : List ℕ → List ℕ
 file_name name = name ++ codes ".lisp"
 
--- what the first of the books read answered
-abbrev pub first_read : List BookSeen → Option BookRead
-first_read [] = None
-first_read (b ∷ bs) = Some b.read
+-- the books of a report are the first of those that are named, in order, each as the library told it
+abbrev pub Listed : Option Files → List (List ℕ) → List BookSeen → Type 0
+Listed files names [] = Unit {0}
+Listed files [] (b ∷ books) = ⊥
+Listed files (name ∷ names) (b ∷ books) =
+    (b.name.0 ≡ name) × IfSome (told_at files (file_name name)) (λ found. b.read ≡ answer_of found) × Listed files names books
+
+-- one book more is listed
+pub record IsNext (files : Option Files) (name : List ℕ) (old new : List BookSeen) : Type 0 where
+  pub book : BookSeen
+  pub listed : new ≡ old ++ book ∷ []
+  pub named : book.name.0 ≡ name
+  pub told : IfSome (told_at files (file_name name)) (λ found. book.read ≡ answer_of found)
+
+-- the status that a fault gives
+abbrev pub fault_status : Fault → Status
+fault_status faults.Read = ReadFault
+fault_status faults.Write = WriteFault
+fault_status faults.NoMemory = NoMemory
 
 -- the session ended by itself, and not by a fault
 abbrev pub is_done : Status → Bool
@@ -107,6 +132,11 @@ is_done ReadFault = false
 is_done WriteFault = false
 is_done NoMemory = false
 
+-- by itself, or for want of memory
+abbrev pub EndsItself : Status → Type 0
+EndsItself NoMemory = Unit {0}
+EndsItself s = is_done s ≡ true
+
 -- the exit status
 abbrev pub number_of : Status → ℕ
 number_of Certified = 0
@@ -116,13 +146,11 @@ number_of ReadFault = 3
 number_of WriteFault = 4
 number_of NoMemory = 5
 
--- by itself, or for want of memory
-abbrev pub EndsItself : Status → Type 0
-EndsItself NoMemory = Unit {0}
-EndsItself s = is_done s ≡ true
-
--- the books of a report: none, or the one that the words name, with what the library told at the start
-abbrev pub Listed : Option Files → Option Command → List BookSeen → Type 0
-Listed told command [] = Unit {0}
-Listed told command (b ∷ []) = IsSomeAnd command (λ c. c.book ≡ b.name.0) × IfSome (told_at told (file_name b.name.0)) (λ found. b.read ≡ answer_of found)
-Listed told command (b ∷ c ∷ bs) = ⊥
+-- what stands on standard error
+abbrev pub message_of : Status → Option (List ℕ)
+message_of Certified = None
+message_of NotCertified = None
+message_of Usage = None
+message_of ReadFault = Some (codes "acl2p: read fault")
+message_of WriteFault = Some (codes "acl2p: write fault")
+message_of NoMemory = Some (codes "acl2p: no memory")

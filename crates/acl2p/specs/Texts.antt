@@ -1,48 +1,18 @@
--- The printed texts of a session and its books.
-use Rattle.std.specs.Prelude.{ℕ, Bool, true, false, List, [], ◌∷◌, ◌++◌, codes, decimal}
-use Rattle.ap_reader.specs.declared.fault.ReadKind.{ReadKind}
-use Rattle.ap_reader.specs.declared.fault.ReadKind.TheVariants as faults
-use Rattle.ap_reader.specs.Faults.{ReadFault, number_of}
-use Rattle.ap_events.specs.Texts.{line}
+-- The texts of a session that stand in no book.
+use Rattle.std.specs.Prelude.{ℕ, List, [], ◌∷◌, ◌++◌, codes}
+use Rattle.ap_names.specs.Printed.{name_text}
+use Rattle.ap_table.specs.declared.link.DropNote.{DropNote}
+use Rattle.ap_books.specs.Texts.{line}
 
 unfoldable pub usage_text : List ℕ
 usage_text =
     line (codes "usage: acl2p [--workers N] [--steps N] [--goals N] [--trace] BOOK ..")
     ++ line (codes "       acl2p [--workers N] --demo N")
 
-unfoldable pub opening : List ℕ → List ℕ
-opening name = codes "Book " ++ name ++ 10 ∷ []
+-- a goal that was dropped, and the one by which its walk stops
+unfoldable pub drop_text : DropNote → List ℕ
+drop_text note = codes "Dropped " ++ name_text note.dropped ++ codes " after " ++ name_text note.stopped ++ 10 ∷ []
 
--- the book's last line, by whether it is certified
-unfoldable pub closing : List ℕ → Bool → List ℕ
-closing name true = codes "Book " ++ name ++ line (codes " certified")
-closing name false = codes "Book " ++ name ++ line (codes " not certified")
-
-unfoldable pub absent_text : List ℕ
-absent_text = line (codes "Absent")
-
-unfoldable pub too_long_text : List ℕ
-too_long_text = line (codes "Too long")
-
--- a book that isn't read: the first fault, by its number, its name and its place
-unfoldable pub kind_text : ReadKind → List ℕ
-kind_text faults.OpenString = codes "OpenString"
-kind_text faults.OpenComment = codes "OpenComment"
-kind_text faults.OpenBar = codes "OpenBar"
-kind_text faults.BadHash = codes "BadHash"
-kind_text faults.BadCharName = codes "BadCharName"
-kind_text faults.OpenList = codes "OpenList"
-kind_text faults.StrayClose = codes "StrayClose"
-kind_text faults.NotInteger = codes "NotInteger"
-kind_text faults.IntegerTooWide = codes "IntegerTooWide"
-kind_text faults.TooDeep = codes "TooDeep"
-kind_text faults.BadDot = codes "BadDot"
-kind_text faults.BadPackage = codes "BadPackage"
-
-unfoldable pub read_error_text : ReadFault → List ℕ
-read_error_text e =
-    codes "Read error " ++ decimal (number_of e.kind) ++ codes " " ++ kind_text e.kind ++ codes " at " ++ decimal e.place ++ 10 ∷ []
-
--- a book that doesn't begin with (in-package "ACL2")
-unfoldable pub no_package_text : List ℕ
-no_package_text = line (codes "IN-PACKAGE refused 12 NoInPackage")
+abbrev pub trace_text : List DropNote → List ℕ
+trace_text [] = []
+trace_text (note ∷ notes) = drop_text note ++ trace_text notes

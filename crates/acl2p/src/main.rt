@@ -1,20 +1,22 @@
-//! `acl2p` certifies ACL2 books: it reads the book that its words name from the current folder, proves its
+//! `acl2p` certifies ACL2 books: it reads the books that its words name from the current folder, proves their
 //! theorems, and prints each event's goals and verdict.
 #![tactic(auto)]
 
-ghost use Rattle.std.specs.Prelude.{◌≡◌, ◌↔◌, IsSome, false};
-ghost use Rattle.acl2p.specs.Session.{is_done, number_of};
+ghost use Rattle.std.specs.Prelude.{◌≡◌, option_map};
+ghost use Rattle.acl2p.specs.Session.{number_of, message_of};
 
+mod admitting;
+mod book;
 mod certifier;
 mod command;
-mod package;
-mod reading;
+mod fault;
 mod report;
 mod start;
 #[cfg(test)]
 mod tests;
 mod texts;
 
+use ap_attempt::NoGate;
 use ap_list::NoMemory;
 use ap_outside::{FolderLibrary, WriterSink};
 use certifier::certify;
@@ -35,7 +37,7 @@ fn words(rt: &HostRuntime, alloc: Global) -> Result<Vec<String>, NoMemory> {
 /// The exit status of a session, and what stands on standard error where a fault ended it.
 fn exit(status: Status) -> (u8, Option<&'static str>)
     ensures number { result.0 ≡ number_of status }
-    ensures said { IsSome result.1 ↔ (is_done status ≡ false) }
+    ensures message { option_map (λ said. said.now) result.1 ≡ message_of status }
 {
     match status {
         Status::Certified => (0, None),
@@ -53,7 +55,15 @@ fn main(rt: HostRuntime) -> ExitCode {
         Ok(words) => {
             let mut library = FolderLibrary::new(&rt);
             let mut sink = WriterSink::new(io::writer(&rt));
-            certify(alloc, words.as_slice(), &mut library, &mut sink).status
+            certify(
+                &rt,
+                alloc,
+                words.as_slice(),
+                &mut library,
+                &mut sink,
+                &NoGate,
+            )
+            .status
         }
         Err(_) => Status::NoMemory,
     };

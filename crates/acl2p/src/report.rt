@@ -1,6 +1,6 @@
+use ap_attempt::DropNote;
+use ap_books::BookSeen;
 use ap_list::Seq;
-use ap_outside::BookRead;
-use ap_value::BookName;
 use ap_world::World;
 
 /// How a session ended. The numbers are the program's exit statuses.
@@ -14,17 +14,11 @@ pub enum Status {
     NoMemory,
 }
 
-/// A book that was read, as the read answered.
-#[derive(Debug, Drop)]
-pub struct BookSeen {
-    pub name: BookName,
-    pub read: BookRead,
-}
-
-/// What a session did: its status, the books as they were read, and the last world.
+/// What a session did: its status, the books as they were read, the last world, and what was dropped in its attempts.
 #[derive(Drop)]
 pub struct Report {
     pub status: Status,
     pub books: Seq<BookSeen>,
     pub world: World,
+    pub drops: Seq<DropNote>,
 }

@@ -1,10 +1,13 @@
 use crate::certifier::certify;
 use crate::report::Status;
+use ap_attempt::NoGate;
 use ap_list::{Bytes, Seq};
 use ap_outside::{MemoryLibrary, MemorySink};
 use std::alloc::Global;
 use std::process::Abort;
+use std::sync::Wait;
 use std::test::Fail;
+use std::thread::Threads;
 
 /// What is certified, which calls of the library and the sink fail, and what must be seen.
 #[derive(Drop)]
@@ -26,7 +29,7 @@ const REFL: &[u8] = b"(in-package \"ACL2\")\n(defthm refl (equal x x) :rule-clas
 const CERTIFIED: &[u8] =
     b"Book refl\nDEFTHM REFL\nGoal simplify 0\nDEFTHM REFL proved\nBook refl certified\n";
 
-const ROWS: [Row; 27] = [
+const ROWS: [Row; 37] = [
     Row {
         words: &["refl"],
         book: Some(REFL),
@@ -195,6 +198,85 @@ const ROWS: [Row; 27] = [
         text: USAGE,
     },
     Row {
+        words: &["--workers", "64", "refl"],
+        book: Some(REFL),
+        failing: NONE,
+        status: Status::Certified,
+        text: CERTIFIED,
+    },
+    Row {
+        words: &[
+            "--trace",
+            "--goals",
+            "2",
+            "--workers",
+            "1",
+            "--steps",
+            "3",
+            "refl",
+        ],
+        book: Some(REFL),
+        failing: NONE,
+        status: Status::Certified,
+        text: CERTIFIED,
+    },
+    Row {
+        words: &["--workers", "0", "refl"],
+        book: Some(REFL),
+        failing: NONE,
+        status: Status::Usage,
+        text: USAGE,
+    },
+    Row {
+        words: &["--workers", "65", "refl"],
+        book: Some(REFL),
+        failing: NONE,
+        status: Status::Usage,
+        text: USAGE,
+    },
+    Row {
+        words: &["--workers", "01", "refl"],
+        book: Some(REFL),
+        failing: NONE,
+        status: Status::Usage,
+        text: USAGE,
+    },
+    Row {
+        words: &["--workers", "2", "--workers", "2", "refl"],
+        book: Some(REFL),
+        failing: NONE,
+        status: Status::Usage,
+        text: USAGE,
+    },
+    Row {
+        words: &["--workers", "2"],
+        book: Some(REFL),
+        failing: NONE,
+        status: Status::Usage,
+        text: USAGE,
+    },
+    Row {
+        words: &["--trace", "--trace", "refl"],
+        book: Some(REFL),
+        failing: NONE,
+        status: Status::Usage,
+        text: USAGE,
+    },
+    Row {
+        words: &["--trace"],
+        book: Some(REFL),
+        failing: NONE,
+        status: Status::Usage,
+        text: USAGE,
+    },
+    Row {
+        words: &["refl", "--trace"],
+        book: Some(REFL),
+        failing: NONE,
+        status: Status::Usage,
+        text: USAGE,
+    },
+    Row {
         words: &["--demo", "1"],
         book: Some(REFL),
         failing: NONE,
@@ -225,7 +307,12 @@ const ROWS: [Row; 27] = [
 ];
 
 /// Certifies a row's book in memory, and asserts what is seen.
-fn shows(rt: &impl Abort, alloc: Global, row: &Row, book: Option<&[u8]>) -> Result<(), Fail> {
+fn shows<R: Abort + Threads + Wait + Sync>(
+    rt: &R,
+    alloc: Global,
+    row: &Row,
+    book: Option<&[u8]>,
+) -> Result<(), Fail> {
     let mut words = Vec::new(alloc);
     let mut files = Seq::new(alloc);
     for word in row.words {
@@ -240,14 +327,26 @@ fn shows(rt: &impl Abort, alloc: Global, row: &Row, book: Option<&[u8]>) -> Resu
     }
     let mut library = MemoryLibrary::new(files, Seq::from_slice(alloc, row.failing.0)?);
     let mut sink = MemorySink::new(alloc, Seq::from_slice(alloc, row.failing.1)?);
-    let report = certify(alloc, words.as_slice(), &mut library, &mut sink);
+    let report = certify(
+        rt,
+        alloc,
+        words.as_slice(),
+        &mut library,
+        &mut sink,
+        &NoGate,
+    );
     assert_eq!(rt; report.status, row.status);
     assert_eq!(rt; sink.content(), row.text);
     Ok(())
 }
 
 /// Certifies a book in memory, and asserts what is printed.
-fn prints(rt: &impl Abort, alloc: Global, book: &[u8], text: &[u8]) -> Result<(), Fail> {
+fn prints<R: Abort + Threads + Wait + Sync>(
+    rt: &R,
+    alloc: Global,
+    book: &[u8],
+    text: &[u8],
+) -> Result<(), Fail> {
     let mut words = Vec::new(alloc);
     words.push(String::from_str(alloc, "b")?)?;
     let mut files = Seq::new(alloc);
@@ -257,7 +356,14 @@ fn prints(rt: &impl Abort, alloc: Global, book: &[u8], text: &[u8]) -> Result<()
     ))?;
     let mut library = MemoryLibrary::new(files, Seq::new(alloc));
     let mut sink = MemorySink::new(alloc, Seq::new(alloc));
-    let report = certify(alloc, words.as_slice(), &mut library, &mut sink);
+    let report = certify(
+        rt,
+        alloc,
+        words.as_slice(),
+        &mut library,
+        &mut sink,
+        &NoGate,
+    );
     assert_eq!(rt; sink.content(), text);
     let certified = text.ends_with(b" certified\n") && !text.ends_with(b"not certified\n");
     assert_eq!(rt; report.status == Status::Certified, certified);
@@ -268,6 +374,63 @@ fn prints(rt: &impl Abort, alloc: Global, book: &[u8], text: &[u8]) -> Result<()
 fn the_session_prints_its_text_and_each_fault_has_its_cause(rt: HostRuntime) -> Result<(), Fail> {
     for row in &ROWS {
         shows(&rt, rt.alloc(), row, row.book)?;
+    }
+    Ok(())
+}
+
+/// A theorem whose goal splits into two that are pushed, so that the walk reverts, and one that is proved.
+const SPLIT: &[u8] = b"(in-package \"ACL2\")
+(defthm s (implies (equal x y) (equal y x)) :rule-classes nil)
+(defthm h (if (equal (equal x y) (equal z w)) (equal u v) nil) :rule-classes nil)";
+
+/// What is printed of that book under these words, and how many goals were dropped.
+fn printed<R: Abort + Threads + Wait + Sync>(
+    rt: &R,
+    alloc: Global,
+    options: &[&str],
+) -> Result<(Vec<u8>, usize), Fail> {
+    let mut words = Vec::new(alloc);
+    for word in options {
+        words.push(String::from_str(alloc, word)?)?;
+    }
+    words.push(String::from_str(alloc, "b")?)?;
+    let mut files = Seq::new(alloc);
+    files.push((
+        Bytes::from_slice(alloc, b"b.lisp")?,
+        Bytes::from_slice(alloc, SPLIT)?,
+    ))?;
+    let mut library = MemoryLibrary::new(files, Seq::new(alloc));
+    let mut sink = MemorySink::new(alloc, Seq::new(alloc));
+    let report = certify(
+        rt,
+        alloc,
+        words.as_slice(),
+        &mut library,
+        &mut sink,
+        &NoGate,
+    );
+    assert_eq!(rt; report.status, Status::NotCertified);
+    assert_eq!(rt; report.books.len(), 1);
+    Ok((Vec::from_slice(alloc, sink.content())?, report.drops.len()))
+}
+
+#[test]
+fn two_workers_print_what_one_prints_and_then_what_was_dropped(
+    rt: HostRuntime,
+) -> Result<(), Fail> {
+    let alloc = rt.alloc();
+    let (serial, none) = printed(&rt, alloc, &["--trace"])?;
+    assert_eq!(rt; none, 0);
+    for _ in 0..20 {
+        let (quiet, _) = printed(&rt, alloc, &["--workers", "2"])?;
+        assert_eq!(rt; quiet.as_slice(), serial.as_slice());
+        let (told, drops) = printed(&rt, alloc, &["--workers", "2", "--trace"])?;
+        assert!(rt; told.as_slice().starts_with(serial.as_slice()));
+        let lines = told.as_slice()[serial.len()..]
+            .iter()
+            .filter(|byte| **byte == 10)
+            .count();
+        assert_eq!(rt; lines, drops);
     }
     Ok(())
 }
@@ -426,8 +589,8 @@ fn names_of_the_ground_world_are_taken(rt: HostRuntime) -> Result<(), Fail> {
 
 /// Certifies the book of each line of a table, and asserts what it prints. The lines of a text stand
 /// between strokes.
-fn prints_each(
-    rt: &impl Abort,
+fn prints_each<R: Abort + Threads + Wait + Sync>(
+    rt: &R,
     alloc: Global,
     table: &str,
     last: &str,

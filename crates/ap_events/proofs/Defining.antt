@@ -1,9 +1,11 @@
 -- A definition keeps the world sound.
-use Rattle.std.proofs.Common.{◌≡◌, ℕ, true, false, true≢false, List, [], Option, Some, None, Result, Ok, IfOk, map, refl, ap, sym, ◌∙◌, subst}
-use Rattle.ap_list.specs.Lists.{Each, is_distinct, is_within}
+use Rattle.std.proofs.Common.{◌≡◌, ℕ, true, false, true≢false, List, [], ◌∷◌, Option, Some, None, map, refl, ap, sym, ◌∙◌, subst, ◌+◌, ◌++◌, ◌<◌, ◌≤◌, length, drop, get_or, append_assoc, append-nil}
+use Rattle.std.proofs.lemmas.List.{drop_all}
+use Rattle.ap_list.specs.Lists.{Each, all_true, is_distinct, is_within}
 use Rattle.ap_value.specs.declared.symbol.Symbol.{Symbol}
 use Rattle.ap_value.specs.declared.value.Value.TheVariants.{Sym}
 use Rattle.ap_value.specs.Values.{symbol_eq}
+use Rattle.ap_term.specs.declared.term.Term.{Term}
 use Rattle.ap_term.specs.declared.term.Clause.{Clause}
 use Rattle.ap_world.specs.declared.entry.Measure.{Measure}
 use Rattle.ap_world.specs.declared.entry.Defun.{Defun}
@@ -12,30 +14,26 @@ use Rattle.ap_world.specs.Ground.{ground_functions, not_function, append_functio
 use Rattle.ap_world.specs.Meaning.{Defs, Valid}
 use Rattle.ap_world.specs.Names.{nil_name}
 use Rattle.ap_world.specs.Recursion.{has_no_call, measure_of}
-use Rattle.ap_world.specs.Sound.{takes, HasFunctions, Sound}
+use Rattle.ap_world.specs.Sound.{takes, known, HasFunctions, Sound}
 use Rattle.ap_world.specs.World.{Shown, as_function, function_of, has_name}
 use Rattle.ap_world.proofs.Adding.{sound-define}
 use Rattle.ap_world.proofs.Extending.{not_taken}
 use Rattle.ap_world.proofs.Grounded.{given_free}
-use Rattle.ap_world.proofs.Knowing.{known_quote}
+use Rattle.ap_world.proofs.Knowing.{known_quote, each_true}
 use Rattle.ap_world.proofs.Starting.{has_all}
 use Rattle.ap_world.proofs.Written.{vars_quote}
-use Rattle.ap_reader.specs.declared.form.Form.{Form}
-use Rattle.ap_translate.specs.declared.fault.TransKind.{TransKind}
-use Rattle.ap_translate.specs.Answers.{Answer, refused as refused_at}
+use Rattle.ap_kernel.specs.Reductions.{KnownClause}
 use Rattle.ap_translate.specs.Laws.{HasMacroFunctions}
-use Rattle.ap_terminate.specs.declared.measures.TerminateError.{TerminateError}
 use Rattle.ap_admit.specs.Admission.{with_function}
 use Rattle.ap_admit.specs.Condition.{admitted_by, admitted, owed, clause_of, IsAdmissible}
-use Rattle.ap_admit.proofs.Definitions.{admitted_is_sound}
+use Rattle.ap_admit.proofs.Definitions.{admitted_is_sound, owed_is_known}
 use Rattle.ap_admit.proofs.Masked.{stubs_know}
-use Rattle.ap_events.specs.declared.limits.Limits.{Limits}
-use Rattle.ap_events.specs.declared.end.RuledEnd.{RuledEnd}
-use Rattle.ap_events.specs.Ends.{step_in, Follows}
-use Rattle.ap_events.specs.Hinting.{given_hints}
-use Rattle.ap_events.specs.Texts.{translation_text, termination_text}
-use Rattle.ap_events.specs.Definitions.{stub, function_with, refused_definition, hinted_definition, unmeasured, measured_definition, admitted_definition, defined_step}
+use Rattle.ap_events.specs.declared.owing.Owed.{Owed}
+use Rattle.ap_events.specs.Definitions.{Ends, numbered, owed_by, function_in}
 use Rattle.ap_events.specs.Prepared.{IsPrepared}
+use Rattle.ap_events.specs.Texts.{obligation_line}
+use Rattle.ap_events.specs.Translating.{stub}
+use Rattle.ap_events.proofs.Places.{at_place}
 
 -- the functions that macros stand for are among the given ones
 pub macro_functions : (D : Defs) → HasFunctions D → HasMacroFunctions D
@@ -54,8 +52,8 @@ sound_stub W n names sound functions free distinct =
     (given_free (function_of W) functions (stub n names) (ap as_function (not_taken W n free).1))
     (λ vs v l h. has_all v)
 
--- a prepared definition whose name is free may be admitted
-pub admissible : (w : Shown) (d : Defun) (m : Measure) → has_name w.entries d.name ≡ false → IsPrepared w.entries d
+-- a definition that was stated may be admitted
+admissible : (w : Shown) (d : Defun) (m : Measure) → has_name w.entries d.name ≡ false → IsPrepared w.entries d
     → (has_no_call d.name d.body ≡ false → measure_of d ≡ Some m.0) → IsAdmissible w d m
 admissible w d m free p measure = record {
   fresh = free;
@@ -66,8 +64,8 @@ admissible w d m free p measure = record {
 }
 
 -- where it doesn't call itself
-pub sound_plain : (w : Shown) (d : Defun) → Sound w.entries → HasFunctions (function_of w.entries) → has_name w.entries d.name ≡ false
-    → IsPrepared w.entries d → has_no_call d.name d.body ≡ true → Sound (with_function w.entries (function_with w d None []))
+sound_plain : (w : Shown) (d : Defun) → Sound w.entries → HasFunctions (function_of w.entries) → has_name w.entries d.name ≡ false
+    → IsPrepared w.entries d → has_no_call d.name d.body ≡ true → Sound (with_function w.entries (function_in w (record { definition = d; measure = None })))
 sound_plain w d sound functions free p plain =
     subst (λ b. Sound (with_function w.entries (admitted_by b w d none))) plain
     (admitted_is_sound w d none [] sound functions (admissible w d none free p (λ recurs. absurd (no recurs))) (λ recurs. absurd (no recurs)))
@@ -79,50 +77,56 @@ sound_plain w d sound functions free p plain =
     no recurs = true≢false (sym plain ∙ recurs)
 
 -- where it does, and what it owes is valid
-pub sound_recursive : (w : Shown) (d : Defun) (m : Measure) → Sound w.entries → HasFunctions (function_of w.entries) → has_name w.entries d.name ≡ false
+sound_recursive : (w : Shown) (d : Defun) (m : Measure) → Sound w.entries → HasFunctions (function_of w.entries) → has_name w.entries d.name ≡ false
     → IsPrepared w.entries d → has_no_call d.name d.body ≡ false → measure_of d ≡ Some m.0
     → Each (λ (c : Clause). Valid (function_of w.entries) c.0) (map clause_of (owed d m))
-    → Sound (with_function w.entries (function_with w d (Some m) d.cases))
+    → Sound (with_function w.entries (function_in w (record { definition = d; measure = Some m })))
 sound_recursive w d m sound functions free p recurs measure valid =
     subst (λ b. Sound (with_function w.entries (admitted_by b w d m))) recurs
     (admitted_is_sound w d m (map clause_of (owed d m)) sound functions (admissible w d m free p (λ _. measure))
     (λ _. record { all = refl; valid = valid }))
 
--- what holds in a world holds in it as it was
-pub functions_as_were : (w v : Shown) → v ≡ w → HasFunctions (function_of w.entries) → HasFunctions (function_of v.entries)
-functions_as_were w v same h = subst (λ (u : Shown). HasFunctions (function_of u.entries)) (sym same) h
+-- what holds of obligations that are numbered holds of them
+unnumbered : (P : Clause → Type 0) (k : ℕ) (cs : List Clause) → Each (λ (o : Owed). P o.clause) (numbered k cs) → Each P cs
+unnumbered P k [] h = tt
+unnumbered P k (c ∷ cs) h = (h.0, unnumbered P (k + 1) cs h.1)
 
-pub free_as_was : (w v : Shown) (n m : Symbol) → v ≡ w → m ≡ n → has_name w.entries n ≡ false → has_name v.entries m ≡ false
-free_as_was w v n m same is h = ap (λ (u : Shown). has_name u.entries m) same ∙ ap (has_name w.entries) is ∙ h
+each_numbered : (P : Clause → Type 0) (k : ℕ) (cs : List Clause) → Each P cs → Each (λ (o : Owed). P o.clause) (numbered k cs)
+each_numbered P k [] h = tt
+each_numbered P k (c ∷ cs) h = (h.0, each_numbered P (k + 1) cs h.1)
 
-pub prepared_as_was : (w v : Shown) (d : Defun) → v ≡ w → IsPrepared w.entries d → IsPrepared v.entries d
-prepared_as_was w v d same h = subst (λ (u : Shown). IsPrepared u.entries d) (sym same) h
+-- clauses whose literals are known
+known_clauses : (D : Defs) (cs : List (List Term)) → Each (λ c. all_true (map (known D) c) ≡ true) cs → Each (KnownClause D) (map clause_of cs)
+known_clauses D [] h = tt
+known_clauses D (c ∷ cs) h = (each_true (known D) c h.0, known_clauses D cs h.1)
 
-pub follows_as_was : {E : Type 0} (r : Result RuledEnd E) (w v : Shown) → v ≡ w → IfOk r (Follows v) → IfOk r (Follows w)
-follows_as_was r w v same h = subst (λ u. IfOk r (Follows u)) same h
+-- what a definition owes speaks of the world
+pub owed_known : (w : Shown) (d : Defun) (o : Option Measure) → HasFunctions (function_of w.entries) → has_name w.entries d.name ≡ false → IsPrepared w.entries d → Ends d o
+    → Each (λ (x : Owed). KnownClause (function_of w.entries) x.clause) (owed_by d o)
+owed_known w d None functions free p ends = tt
+owed_known w d (Some m) functions free p ends =
+    each_numbered (KnownClause (function_of w.entries)) 1 (map clause_of (owed d m))
+    (known_clauses (function_of w.entries) (owed d m) (owed_is_known w d m functions (admissible w d m free p (λ _. ends.1)) ends.0))
 
--- the event of a definition whose parts are translated, in the world as it was
-pub translated_step : {E : Type 0} (r : Result RuledEnd E) (limits : Limits) (w v : Shown) (n : Symbol) (hints : Option Form) (a : Answer Defun) (d : Defun) → v ≡ w → a ≡ Ok d
-    → IfOk r (λ e. step_in e ≡ admitted_definition limits v d hints) → IfOk r (λ e. step_in e ≡ defined_step limits w n hints a)
-unfolding defined_step
-translated_step r limits w v n hints a d same is h =
-    subst (λ b. IfOk r (λ e. step_in e ≡ defined_step limits w n hints b)) (sym is)
-    (subst (λ u. IfOk r (λ e. step_in e ≡ admitted_definition limits u d hints)) same h)
+-- and where that is valid the world with its function is sound
+pub sound_definition : (w : Shown) (d : Defun) (o : Option Measure) → Sound w.entries → HasFunctions (function_of w.entries) → has_name w.entries d.name ≡ false → IsPrepared w.entries d → Ends d o
+    → Each (λ (x : Owed). Valid (function_of w.entries) x.clause.0) (owed_by d o) → Sound (with_function w.entries (function_in w (record { definition = d; measure = o })))
+sound_definition w d None sound functions free p ends valid = sound_plain w d sound functions free p ends
+sound_definition w d (Some m) sound functions free p ends valid =
+    sound_recursive w d m sound functions free p ends.0 ends.1 (unnumbered (λ (c : Clause). Valid (function_of w.entries) c.0) 1 (map clause_of (owed d m)) valid)
 
-pub untranslated_step : {E : Type 0} (r : Result RuledEnd E) (limits : Limits) (w : Shown) (n : Symbol) (hints : Option Form) (a : Answer Defun) (p : ℕ) (k : TransKind) → a ≡ refused_at p k
-    → IfOk r (λ e. step_in e ≡ refused_definition n [] (translation_text k)) → IfOk r (λ e. step_in e ≡ defined_step limits w n hints a)
-unfolding defined_step
-untranslated_step r limits w n hints a p k is h = subst (λ b. IfOk r (λ e. step_in e ≡ defined_step limits w n hints b)) (sym is) h
+-- one obligation more
+pub numbered_next : (os next : List Owed) (cs : List Clause) (i : ℕ) (c : Clause) (o : Owed) (all : List Owed) → i < length cs → c ≡ get_or cs i c → o ≡ record { heading = obligation_line (i + 1); clause = c }
+    → next ≡ os ++ o ∷ [] → os ++ numbered (i + 1) (drop i cs) ≡ all → next ++ numbered (i + 1 + 1) (drop (i + 1) cs) ≡ all
+numbered_next os next cs i c o all h is made grown told =
+    ap (λ xs. xs ++ rest) grown
+    ∙ append_assoc os (o ∷ []) rest
+    ∙ ap (λ x. os ++ x ∷ rest) made
+    ∙ ap (λ ds. os ++ numbered (i + 1) ds) (sym (at_place cs i c h is))
+    ∙ told
+  where
+    rest : List Owed
+    rest = numbered (i + 1 + 1) (drop (i + 1) cs)
 
--- the event of a definition that calls itself, by its measure
-pub measured_step : {E : Type 0} (r : Result RuledEnd E) (limits : Limits) (w : Shown) (d : Defun) (hints : Option Form) (m : Measure) → measure_of d ≡ Some m.0
-    → IfOk r (λ e. step_in e ≡ hinted_definition limits w d m (given_hints w hints)) → IfOk r (λ e. step_in e ≡ measured_definition limits w d hints (measure_of d))
-unfolding measured_definition
-measured_step r limits w d hints m is h = subst (λ o. IfOk r (λ e. step_in e ≡ measured_definition limits w d hints o)) (sym is) h
-
-pub unmeasured_step : {E : Type 0} (r : Result RuledEnd E) (limits : Limits) (w : Shown) (d : Defun) (hints : Option Form) (t : TerminateError) → (measure_of d ≡ None) × (unmeasured d ≡ t)
-    → IfOk r (λ e. step_in e ≡ refused_definition d.name [] (termination_text t)) → IfOk r (λ e. step_in e ≡ measured_definition limits w d hints (measure_of d))
-unfolding measured_definition
-unmeasured_step r limits w d hints t why h =
-    subst (λ o. IfOk r (λ e. step_in e ≡ measured_definition limits w d hints o)) (sym why.0)
-    (subst (λ (t : TerminateError). IfOk r (λ e. step_in e ≡ refused_definition d.name [] (termination_text t))) (sym why.1) h)
+pub numbered_all : (os : List Owed) (cs : List Clause) (i : ℕ) (all : List Owed) → length cs ≤ i → os ++ numbered (i + 1) (drop i cs) ≡ all → os ≡ all
+numbered_all os cs i all h told = sym (append-nil os) ∙ ap (λ ds. os ++ numbered (i + 1) ds) (sym (drop_all i cs h)) ∙ told

@@ -1,29 +1,75 @@
 -- What is known of the world that an event leaves.
-use Rattle.std.proofs.Common.{◌≡◌, ℕ, sym, subst, ap, List, [], ◌∷◌, ◌++◌, ◌∙◌, append-nil}
+use Rattle.std.proofs.Common.{◌≡◌, ℕ, Bool, true, false, cond, Option, Some, None, Result, Ok, Err, IfOk, OnErr, List, [], ◌∷◌, ◌++◌, map, refl, ap, sym, ◌∙◌, subst}
+use Rattle.ap_list.specs.Lists.{Each}
 use Rattle.ap_world.specs.declared.entry.Entry.{Entry}
 use Rattle.ap_world.specs.Sound.{HasFunctions}
 use Rattle.ap_world.specs.World.{Shown, added, function_of}
 use Rattle.ap_world.proofs.Adding.{has_functions-more}
-use Rattle.ap_events.specs.declared.end.RuledEnd.{RuledEnd}
-use Rattle.ap_events.specs.Ends.{without_index, world_in, Follows, Kept}
+use Rattle.ap_table.specs.declared.link.DropNote.{DropNote}
+use Rattle.ap_attempt.specs.Attempts.{RootedWalk}
+use Rattle.ap_strategy.specs.Goals.{Goal}
+use Rattle.ap_events.specs.declared.end.Outcome.{Outcome}
+use Rattle.ap_events.specs.declared.end.EventEnd.{EventEnd}
+use Rattle.ap_events.specs.Drops.{DividedWalks}
+use Rattle.ap_events.specs.Ends.{Told, passed, walked, walks_in, worlds_in, Done, refused, admitted, Did, text_in, next_in, drops_in, world_in, Kept, end_of}
 
--- a refused event leaves the world as it was, and any event leaves the functions that it has
-pub kept : (w : Shown) (e : RuledEnd) → Follows w e → Kept w (without_index e)
-kept w (RuledEnd.Admitted v text) h = tt
-kept w (RuledEnd.Refused v text) h = h
+-- the walks that are told are those that were made
+pub walks_told : (ws : List (RootedWalk Goal)) → walks_in (map walked ws) ≡ ws
+walks_told [] = refl
+walks_told (w ∷ ws) = ap (λ vs. w ∷ vs) (walks_told ws)
 
-pub functions_kept : (w : Shown) (e : RuledEnd) → HasFunctions (function_of w.entries) → Follows w e → HasFunctions (function_of (world_in (without_index e)).entries)
-functions_kept w (RuledEnd.Admitted v text) functions (es, is) =
-    subst (λ us. HasFunctions (function_of us)) (sym is) (has_functions-more w.entries es functions)
-functions_kept w (RuledEnd.Refused v text) functions is = subst (λ (u : Shown). HasFunctions (function_of u.entries)) (sym is) functions
+pub walks_told_first : (ws : List (RootedWalk Goal)) (v : Shown) → walks_in (map walked ws ++ passed v ∷ []) ≡ ws
+walks_told_first [] v = refl
+walks_told_first (w ∷ ws) v = ap (λ vs. w ∷ vs) (walks_told_first ws v)
 
--- with one entry more, or with another theory
-pub one_more : (w v : Shown) (e : Entry) → v ≡ added w e → (es : List Entry) × (v.entries ≡ w.entries ++ es)
-one_more w v e is = (e ∷ [], ap (λ (u : Shown). u.entries) is)
+-- an event that is done so
+pub did_refused : (w : Shown) (text : List ℕ) (walks : List (RootedWalk Goal)) (drops : List DropNote) → DividedWalks drops walks
+    → Did (refused text walks) w w (record { text = text; admitted = false; drops = drops })
+did_refused w text walks drops divided = record {
+  text = refl;
+  next = refl;
+  kept = λ _. refl;
+  drops = subst (DividedWalks drops) (sym (walks_told walks)) divided;
+}
 
-pub none_more : (w v : Shown) → v.entries ≡ w.entries → (es : List Entry) × (v.entries ≡ w.entries ++ es)
-none_more w v is = ([], is ∙ sym (append-nil w.entries))
+pub did_admitted : (w v : Shown) (text : List ℕ) (walks : List (RootedWalk Goal)) (drops : List DropNote) → DividedWalks drops walks
+    → Did (admitted v text walks) w v (record { text = text; admitted = true; drops = drops })
+did_admitted w v text walks drops divided = record {
+  text = refl;
+  next = refl;
+  kept = λ h. cc;
+  drops = subst (DividedWalks drops) (sym (walks_told_first walks v)) divided;
+}
 
--- a world with the same entries follows the same worlds
-pub still_follows : (w u v : Shown) (text : List ℕ) → v.entries ≡ u.entries → Follows w (RuledEnd.Admitted u text) → Follows w (RuledEnd.Admitted v text)
-still_follows w u v text same (es, is) = (es, same ∙ is)
+-- what holds in each world holds in one
+pub at_world : {E : Type 0} (r : Result Outcome E) (d : Done) (w : Shown) → IfOk r (λ e. (v : Shown) → Did d v v e) → IfOk r (Did d w w)
+at_world (Ok e) d w h = h w
+at_world (Err e) d w h = tt
+
+-- in a world that is as it was
+pub did_as_was : {E : Type 0} (r : Result Outcome E) (d : Done) (w u v : Shown) → u ≡ w → IfOk r (Did d u v) → IfOk r (Did d w v)
+did_as_was r d w u v same h = subst (λ x. IfOk r (Did d x v)) same h
+
+pub error_as_was : {E : Type 0} (r : Result Outcome E) (w u v : Shown) → u ≡ w → OnErr r (v ≡ u) → OnErr r (v ≡ w)
+error_as_was r w u v same h = subst (λ x. OnErr r (v ≡ x)) same h
+
+-- the parts of an end are those of the outcome
+pub end_text : (b : Bool) (w : Shown) (text : List ℕ) (drops : List DropNote) → text_in (end_of b w text drops) ≡ text
+end_text true w text drops = refl
+end_text false w text drops = refl
+
+pub end_next : (b : Bool) (w : Shown) (text : List ℕ) (drops : List DropNote) → next_in (end_of b w text drops) ≡ cond b (Some w) None
+end_next true w text drops = refl
+end_next false w text drops = refl
+
+pub end_drops : (b : Bool) (w : Shown) (text : List ℕ) (drops : List DropNote) → drops_in (end_of b w text drops) ≡ drops
+end_drops true w text drops = refl
+end_drops false w text drops = refl
+
+pub end_world : (b : Bool) (w : Shown) (text : List ℕ) (drops : List DropNote) → world_in (end_of b w text drops) ≡ w
+end_world true w text drops = refl
+end_world false w text drops = refl
+
+pub end_kept : (b : Bool) (w v : Shown) (text : List ℕ) (drops : List DropNote) → (b ≡ false → v ≡ w) → Kept w (end_of b v text drops)
+end_kept true w v text drops h = tt
+end_kept false w v text drops h = h refl

@@ -7,7 +7,7 @@ use Rattle.ap_value.specs.declared.symbol.Symbol.{Symbol}
 use Rattle.ap_value.specs.Values.{symbol_eq}
 use Rattle.ap_value.proofs.Equals.{symbol_eq-true, symbol_eq-same}
 use Rattle.ap_reader.specs.declared.form.Form.{Form}
-use Rattle.ap_events.specs.Definitions.{formal_in, formal_names_by, formal_names}
+use Rattle.ap_events.specs.Translating.{formal_in, formal_names_by, formal_names}
 use Rattle.ap_translate.specs.declared.fault.TransError.{TransError}
 use Rattle.ap_translate.specs.declared.fault.TransError.TheVariants as errors
 use Rattle.ap_translate.specs.Answers.{Answer, Refusal, Fails, each, ◌>>=◌}

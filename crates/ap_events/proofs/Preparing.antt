@@ -21,7 +21,7 @@ use Rattle.ap_translate.specs.Table.{translated}
 use Rattle.ap_translate.proofs.Fails.{then_fails}
 use Rattle.ap_admit.specs.Admission.{with_function}
 use Rattle.ap_events.specs.Shapes.{Defined}
-use Rattle.ap_events.specs.Definitions.{stub, prepared_definition, formal_names, component_forms, guard_forms, translated_all, translated_measure, translated_parts, translated_definition}
+use Rattle.ap_events.specs.Translating.{stub, prepared_definition, formal_names, component_forms, guard_forms, translated_all, translated_measure, translated_parts, translated_definition}
 use Rattle.ap_events.specs.Prepared.{IsPrepared}
 use Rattle.ap_events.proofs.Defining.{macro_functions}
 

@@ -1,10 +1,9 @@
 -- The rule classes of a theorem.
 use Rattle.std.specs.Prelude.{cond, List, [], ◌∷◌, map, Option, Some, None, codes}
 use Rattle.ap_reader.specs.declared.form.Form.{Form}
-use Rattle.ap_translate.specs.Parts.{items_in}
+use Rattle.ap_reader.specs.Tops.{items_in, is_keyword}
 use Rattle.ap_world.specs.declared.entry.RuleClass.{RuleClass}
 use Rattle.ap_world.specs.declared.entry.RuleClass.TheVariants as class
-use Rattle.ap_hints.specs.Forms.{is_keyword}
 
 abbrev pub class_of : Form → RuleClass
 class_of f =

@@ -1,30 +1,35 @@
--- What the event of a constant comes to.
-use Rattle.std.specs.Prelude.{ℕ, cond, List, Option, Some, None, Ok, Err, codes}
+-- The event of a constant.
+use Rattle.std.specs.Prelude.{ℕ, List, [], Option, Some, None, Ok, Err, codes}
 use Rattle.ap_value.specs.declared.symbol.Symbol.{Symbol}
 use Rattle.ap_value.specs.declared.value.Value.{Value}
 use Rattle.ap_world.specs.declared.entry.Entry.TheVariants as entry
-use Rattle.ap_world.specs.World.{Shown, has_name}
+use Rattle.ap_world.specs.World.{Shown, added, has_name}
 use Rattle.ap_reader.specs.declared.form.Form.{Form}
-use Rattle.ap_translate.specs.Answers.{Answer}
+use Rattle.ap_translate.specs.Answers as translation
 use Rattle.ap_translate.specs.Written.{written}
-use Rattle.ap_events.specs.Texts.{constant_line, refused_as, translation_text}
-use Rattle.ap_events.specs.Ends.{Step, refused, bad_event, admitted}
+use Rattle.ap_events.specs.declared.refusing.Refusal.{Refusal}
+use Rattle.ap_events.specs.Ends.{Done, admitted, refused_alone}
+use Rattle.ap_events.specs.Refusals.{Answer, unless}
+use Rattle.ap_events.specs.Texts.{title, said_line}
 
-abbrev pub added_constant : Shown → Symbol → Value → Step
-added_constant w n v = admitted w (entry.Constant n v) (constant_line n (codes " admitted"))
+abbrev pub constant_title : Symbol → List ℕ
+constant_title n = title (codes "DEFCONST") n
 
-abbrev pub refused_constant : Symbol → List ℕ → Step
-refused_constant n reason = refused (constant_line n (refused_as reason))
+-- its event has the last line alone
+abbrev pub valued_constant : Shown → Symbol → Answer Value → Done
+valued_constant w n (Ok v) = admitted (added w (entry.Constant n v)) (said_line (constant_title n) (codes " admitted")) []
+valued_constant w n (Err r) = refused_alone (constant_title n) r
 
-abbrev pub unless_taken : Shown → Symbol → Step → Step
-unless_taken w n step = cond (has_name w.entries n) (refused_constant n (codes "3 NameTaken")) step
+-- its name is looked up before its form is
+abbrev pub stated_constant : Shown → Symbol → Answer Value → Answer Value
+stated_constant w n value = unless (has_name w.entries n) Refusal.NameTaken value
 
--- a form that is none of a constant isn't the shape, which is looked at before the name
-unfoldable pub written_constant : Shown → Symbol → Symbol → Answer (Option Value) → Step
-written_constant w h n (Ok None) = bad_event h
-written_constant w h n (Ok (Some v)) = unless_taken w n (added_constant w n v)
-written_constant w h n (Err e) = unless_taken w n (refused_constant n (translation_text e.kind))
+-- a form that is none of a constant isn't the shape
+unfoldable pub written_constant : Shown → Symbol → translation.Answer (Option Value) → Done
+written_constant w n (Ok None) = refused_alone (codes "DEFCONST") Refusal.BadEvent
+written_constant w n (Ok (Some v)) = valued_constant w n (stated_constant w n (Ok v))
+written_constant w n (Err e) = valued_constant w n (stated_constant w n (Err (Refusal.Translation e.kind)))
 
-unfoldable pub constant_step : Shown → Symbol → Option (Symbol × Form) → Step
-constant_step w h None = bad_event h
-constant_step w h (Some p) = written_constant w h p.0 (written p.1)
+unfoldable pub constant_event : Shown → Option (Symbol × Form) → Done
+constant_event w None = refused_alone (codes "DEFCONST") Refusal.BadEvent
+constant_event w (Some p) = written_constant w p.0 (written p.1)

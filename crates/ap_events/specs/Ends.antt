@@ -1,61 +1,78 @@
--- What an event comes to: a text, and the next world where it is admitted.
-use Rattle.std.specs.Prelude.{◌≡◌, ℕ, List, ◌++◌, Option, Some, None}
-use Rattle.ap_value.specs.declared.symbol.Symbol.{Symbol}
-use Rattle.ap_world.specs.declared.entry.Entry.{Entry}
-use Rattle.ap_world.specs.World.{Shown, added}
+-- What an event comes to.
+use Rattle.std.specs.Prelude.{◌≡◌, ℕ, Bool, false, cond, List, [], ◌∷◌, ◌++◌, map, Option, Some, None}
+use Rattle.ap_world.specs.World.{Shown}
+use Rattle.ap_attempt.specs.Attempts.{RootedWalk}
+use Rattle.ap_strategy.specs.Goals.{Goal}
 use Rattle.ap_events.specs.declared.end.EventEnd.{EventEnd}
-use Rattle.ap_events.specs.declared.end.RuledEnd.{RuledEnd}
-use Rattle.ap_events.specs.Texts.{not_supported_text, bad_event_text, event_text, refused_as}
+use Rattle.ap_events.specs.declared.end.Outcome.{Outcome}
+use Rattle.ap_events.specs.declared.refusing.Refusal.{Refusal}
+use Rattle.ap_events.specs.Drops.{DividedWalks}
+use Rattle.ap_events.specs.Texts.{refused_line}
+use Rattle.ap_table.specs.declared.link.DropNote.{DropNote}
 
--- an event's text, and the world after it where it is admitted
-pub record Step : Type 0 where
+-- what an event tells on the way: a world that it passes through, or a walk of an attempt
+pub data Told : Type 0 where
+  passed : Shown → Told
+  walked : RootedWalk Goal → Told
+
+-- the worlds among what is told, and the walks, in their order
+abbrev pub worlds_in : List Told → List Shown
+worlds_in [] = []
+worlds_in (passed w ∷ ts) = w ∷ worlds_in ts
+worlds_in (walked a ∷ ts) = worlds_in ts
+
+abbrev pub walks_in : List Told → List (RootedWalk Goal)
+walks_in [] = []
+walks_in (passed w ∷ ts) = walks_in ts
+walks_in (walked a ∷ ts) = a ∷ walks_in ts
+
+-- an event that is done: its text; the world after it, unless it is refused; and what it tells, in order
+pub record Done : Type 0 where
   pub text : List ℕ
   pub next : Option Shown
+  pub told : List Told
 
-abbrev pub refused : List ℕ → Step
-refused text = record { text = text; next = None }
+abbrev pub refused : List ℕ → List (RootedWalk Goal) → Done
+refused text walks = record { text = text; next = None; told = map walked walks }
 
--- an event that isn't built, and one that isn't of its head's shape
-abbrev pub not_supported : Symbol → Step
-not_supported h = refused (not_supported_text h)
+-- the world after an admitted event is told behind its walks
+abbrev pub admitted : Shown → List ℕ → List (RootedWalk Goal) → Done
+admitted v text walks = record { text = text; next = Some v; told = map walked walks ++ passed v ∷ [] }
 
-abbrev pub bad_event : Symbol → Step
-bad_event h = refused (bad_event_text h)
+-- an event that is refused before it tells anything prints its last line alone
+abbrev pub refused_alone : List ℕ → Refusal → Done
+refused_alone title r = refused (refused_line title r) []
 
--- an event with a name that is refused for a reason, after other lines
-abbrev pub refused_event : List ℕ → Symbol → List ℕ → List ℕ → Step
-refused_event head n lines reason = refused (event_text head n lines (refused_as reason))
+-- What a call answered that did this event in a world w, and the world v that it left: the world is the next one, or as
+-- it was where the event is refused.
+pub record Did (d : Done) (w v : Shown) (o : Outcome) : Type 0 where
+  pub text : o.text ≡ d.text
+  pub next : d.next ≡ cond o.admitted (Some v) None
+  pub kept : o.admitted ≡ false → v ≡ w
+  pub drops : DividedWalks o.drops (walks_in d.told)
 
-abbrev pub admitted : Shown → Entry → List ℕ → Step
-admitted w e text = record { text = text; next = Some (added w e) }
-
--- as the program sees it
+-- the parts of an end
 abbrev pub text_in : EventEnd → List ℕ
-text_in (EventEnd.Admitted w text) = text
-text_in (EventEnd.Refused w text) = text
+text_in (EventEnd.Admitted w text drops) = text
+text_in (EventEnd.Refused w text drops) = text
 
 abbrev pub next_in : EventEnd → Option Shown
-next_in (EventEnd.Admitted w text) = Some w
-next_in (EventEnd.Refused w text) = None
+next_in (EventEnd.Admitted w text drops) = Some w
+next_in (EventEnd.Refused w text drops) = None
+
+abbrev pub drops_in : EventEnd → List DropNote
+drops_in (EventEnd.Admitted w text drops) = drops
+drops_in (EventEnd.Refused w text drops) = drops
 
 abbrev pub world_in : EventEnd → Shown
-world_in (EventEnd.Admitted w text) = w
-world_in (EventEnd.Refused w text) = w
+world_in (EventEnd.Admitted w text drops) = w
+world_in (EventEnd.Refused w text drops) = w
 
 -- the world that was handed in, where the event is refused
 abbrev pub Kept : Shown → EventEnd → Type 0
-Kept w (EventEnd.Admitted v text) = Unit {0}
-Kept w (EventEnd.Refused v text) = v ≡ w
+Kept w (EventEnd.Admitted v text drops) = Unit {0}
+Kept w (EventEnd.Refused v text drops) = v ≡ w
 
--- without the index of the world's rules
-abbrev pub without_index : RuledEnd → EventEnd
-without_index (RuledEnd.Admitted w text) = EventEnd.Admitted w text
-without_index (RuledEnd.Refused w text) = EventEnd.Refused w text
-
-abbrev pub step_in : RuledEnd → Step
-step_in e = record { text = text_in (without_index e); next = next_in (without_index e) }
-
--- the world that was handed in, where the event is refused; else one with entries more at its end, if any
-abbrev pub Follows : Shown → RuledEnd → Type 0
-Follows w (RuledEnd.Admitted v text) = (es : List Entry) × (v.entries ≡ w.entries ++ es)
-Follows w (RuledEnd.Refused v text) = v ≡ w
+-- an outcome with the world that was left
+abbrev pub end_of : Bool → Shown → List ℕ → List DropNote → EventEnd
+end_of admitted v text drops = cond admitted (EventEnd.Admitted v text drops) (EventEnd.Refused v text drops)

@@ -4,12 +4,17 @@ pub mod Changes
 pub mod Classes
 pub mod Constants
 pub mod Definitions
+pub mod Drops
 pub mod Ends
 pub mod Events
 pub mod Hinting
+pub mod Laws
 pub mod Limits
 pub mod Lines
 pub mod Prepared
+pub mod Proposals
+pub mod Refusals
 pub mod Shapes
 pub mod Texts
 pub mod Theorems
+pub mod Translating

@@ -8,7 +8,7 @@ use Rattle.ap_world.specs.Recursion.{cases_of}
 use Rattle.ap_world.specs.Sound.{known, speaks_of, components}
 use Rattle.ap_world.specs.World.{function_of}
 use Rattle.ap_admit.specs.Admission.{with_function}
-use Rattle.ap_events.specs.Definitions.{stub}
+use Rattle.ap_events.specs.Translating.{stub}
 
 -- it speaks of its formals, and of the world: its body also of the function itself
 pub record IsPrepared (W : List Entry) (d : Defun) : Type 0 where

@@ -4,15 +4,16 @@ use Rattle.std.specs.List.{list_all}
 use Rattle.ap_value.specs.declared.symbol.Symbol.{Symbol}
 use Rattle.ap_reader.specs.declared.form.Form.{Form}
 use Rattle.ap_reader.specs.declared.form.Body.TheOpen.{Body-F}
+use Rattle.ap_reader.specs.Tops.{Layer, layer_of, symbol_at, string_at, items_in, is_symbol, is_keyword}
 use Rattle.ap_events.specs.declared.shapes.Choices.{Choices}
 use Rattle.ap_events.specs.declared.shapes.Statement.{Statement}
 use Rattle.ap_events.specs.declared.shapes.Declared.{Declared}
 use Rattle.ap_events.specs.declared.shapes.Preamble.{Preamble}
 use Rattle.ap_events.specs.declared.shapes.Definition.{Definition}
 use Rattle.ap_events.specs.declared.shapes.Constant.{Constant}
-use Rattle.ap_translate.specs.Parts.{Layer, layer_of, symbol_in, items_in, is_symbol}
+use Rattle.ap_translate.specs.Parts.{symbol_in}
 use Rattle.ap_translate.specs.Names.{may_name, may_name_constant}
-use Rattle.ap_hints.specs.Forms.{symbol_at, is_keyword, is_nil, any_keyword, both, and_then}
+use Rattle.ap_hints.specs.Forms.{is_nil, any_keyword, both, and_then}
 
 -- the symbol at the head of a list, or of a dotted one
 abbrev pub first_symbol : List Form → Option Symbol
@@ -28,12 +29,8 @@ abbrev pub head_of : Form → Option Symbol
 head_of f = head_at (layer_of f)
 
 -- it is a string
-abbrev pub string_at : Layer → Bool
-string_at (Body-F.Str s) = true
-string_at l = false
-
 abbrev pub is_string : Form → Bool
-is_string f = string_at (layer_of f)
+is_string f = is_some (string_at (layer_of f))
 
 -- a name of a function or a theorem, and one of a constant
 abbrev pub name_by : (Symbol → Bool) → Option Symbol → Option Symbol

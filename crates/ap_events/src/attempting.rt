@@ -1,33 +1,47 @@
-ghost use Rattle.std.specs.Prelude.{◌≡◌, [], ◌∷◌, None, IfOk, IsTrue, true};
+//! Attempts on clauses.
+ghost use Rattle.std.specs.Prelude.{◌≡◌, ◌++◌, ◌+◌, ◌<◌, ◌≤◌, ◌^◌, [], IfOk, true};
+ghost use denote.Param.Send.{IsSend, IsSync};
 ghost use Rattle.ap_world.specs.Meaning.{Valid};
-ghost use Rattle.ap_world.specs.Sound.{known, HasFunctions, Sound};
+ghost use Rattle.ap_world.specs.Sound.{HasFunctions, Sound};
 ghost use Rattle.ap_world.specs.World.{are_distinct};
 ghost use Rattle.ap_names.specs.Names.{root};
+ghost use Rattle.ap_attempt.specs.Laws.{mark_count};
 ghost use Rattle.ap_kernel.specs.Reductions.{KnownClause};
 ghost use Rattle.ap_hints.specs.Known.{KnownHints};
 ghost use Rattle.ap_strategy.specs.Goals.{defs_of};
 ghost use Rattle.ap_strategy.specs.Steps.{IsGood};
-ghost use Rattle.ap_events.specs.Attempts.{first_rule, reason_in, tried_from, tried, clause_goal, tried_clause};
+ghost use Rattle.ap_events.specs.Attempts.{first_rule, unproved_text, tried_from, clause_goal, Tries};
+ghost use Rattle.ap_events.specs.Lines.{walks_text};
 
 use crate::limits::Limits;
 use crate::lines::{checkpoint_lines, walk_lines};
 use crate::prover::Proving;
-use ap_attempt::{Verdict, prove};
-use ap_clausify::flat;
+use ap_attempt::{DropNote, Gate, Verdict, prove};
 use ap_list::{Bytes, NoMemory, Seq};
 use ap_names::GoalName;
 use ap_strategy::{Acl2Step, Plan, Planned, Task, first_settings};
 use ap_term::{Clause, Term, copy_terms};
-use ap_walk::{Reason, Rule};
+use ap_value::Value;
+use ap_walk::{Rule, Walked};
 use std::alloc::Global;
 use std::marker::{Brand, PhantomData};
+use std::sync::Wait;
+use std::thread::Threads;
 
-/// An attempt: its lines, why it failed, if it did, and its checkpoints.
+/// Who works the attempts: so many workers, which pass a gate.
 #[derive(Drop)]
-pub struct Tried {
+pub(crate) struct Crew<'a, R, G> {
+    pub rt: &'a R,
+    pub workers: u32,
+    pub gate: &'a G,
+}
+
+/// What attempts came to: their lines, with the checkpoints of one that failed, and what was dropped in them.
+#[derive(Drop)]
+pub struct Trial {
     pub lines: Bytes,
-    pub failed: Option<Reason>,
-    pub checkpoints: Bytes,
+    pub verdict: Verdict,
+    pub drops: Seq<DropNote>,
 }
 
 /// The rule of an attempt's first walk.
@@ -41,36 +55,52 @@ fn first_rule(limits: &Limits) -> Rule
     }
 }
 
-/// Why an attempt failed, if it did.
-fn reason(verdict: Verdict) -> Option<Reason>
-    ensures { result ≡ reason_in verdict }
+/// The lines of an attempt: where it failed its checkpoints follow those of its walks.
+fn attempt_lines<J: Planned>(
+    alloc: Global,
+    verdict: Verdict,
+    walks: &[Walked<Task<'_, J>>],
+) -> Result<Bytes, NoMemory>
+    requires { mark_count walks.now + 1 < 2 ^ 32 }
+    ensures { IfOk result (λ text. text ≡ walks_text walks.now ++ unproved_text verdict walks.now) }
 {
-    match verdict {
-        Verdict::Qed => None,
-        Verdict::Failed(reason) => Some(reason),
+    let mut text = walk_lines(alloc, walks)?;
+    if let Verdict::Failed(_) = verdict {
+        text.extend(checkpoint_lines(alloc, walks)?.as_slice())?;
     }
+    Ok(text)
 }
+
+/// That a type may cross to another thread and be shared, as a fact of the caller's proof. Costs nothing.
+fn crosses<T: Send + Sync>()
+    ensures send { IsSend T.row }
+    ensures sync { IsSync T.row }
+{}
 
 /// Works the attempt that starts from a task. Where it doesn't fail, the task is good.
 #[tactic(auto, unfolding(crate::specs::Attempts::tried_from))]
-fn attempt_from<J: Planned>(
+fn attempt_from<J: Planned + Send + Sync, R: Threads + Wait + Sync, G: Gate + Sync>(
+    crew: &Crew<'_, R, G>,
     alloc: Global,
     limits: &Limits,
     root: Task<'_, J>,
-) -> Result<Tried, NoMemory>
-    ensures tried { IfOk result (λ t. t ≡ tried_from limits.now root.entry) }
-    ensures good { IfOk result (λ t. t.failed ≡ None → IsGood root.entry) }
+) -> Result<Trial, NoMemory>
+    ensures tried { IfOk result (Tries (tried_from limits.now root.entry)) }
+    ensures good { IfOk result (λ t. t.verdict ≡ Verdict.Qed → IsGood root.entry) }
+    ensures alone { IfOk result (λ t. crew.now.workers ≤ 1 → t.drops ≡ []) }
 {
+    crosses::<Term>();
+    crosses::<Value>();
     let prover = Proving {
         step: Acl2Step::new(root.plan),
     };
-    let done = prove(alloc, &prover, root, first_rule(limits))?;
-    let lines = walk_lines(alloc, done.walks.as_slice())?;
-    let checkpoints = checkpoint_lines(alloc, done.walks.as_slice())?;
-    Ok(Tried {
+    let rule = first_rule(limits);
+    let done = prove(crew.rt, alloc, &prover, root, rule, crew.workers, crew.gate)?;
+    let lines = attempt_lines(alloc, done.verdict, done.walks.as_slice())?;
+    Ok(Trial {
         lines,
-        failed: reason(done.verdict),
-        checkpoints,
+        verdict: done.verdict,
+        drops: done.drops,
     })
 }
 
@@ -113,21 +143,23 @@ fn clause_task<'a, J: Planned>(
 }
 
 /// Tries a clause, which is moved, by the brand's plan. Where it doesn't fail, the goal is good.
-fn attempt_as<J: Planned>(
+fn attempt_as<J: Planned + Send + Sync, R: Threads + Wait + Sync, G: Gate + Sync>(
+    crew: &Crew<'_, R, G>,
     alloc: Global,
     plan: &Plan,
     limits: &Limits,
     clause: Clause,
-) -> Result<Tried, NoMemory>
+) -> Result<Trial, NoMemory>
     requires brand { plan.now ≡ J.plan }
     requires functions { HasFunctions (defs_of plan.now) }
     requires known { KnownClause (defs_of plan.now) clause }
     requires hints { KnownHints plan.now.world.entries plan.now.hints }
-    ensures tried { IfOk result (λ t. t ≡ tried_clause limits.now plan.now clause) }
-    ensures good { IfOk result (λ t. t.failed ≡ None → IsGood (clause_goal plan.now clause)) }
+    ensures tried { IfOk result (Tries (tried_from limits.now (clause_goal plan.now clause))) }
+    ensures good { IfOk result (λ t. t.verdict ≡ Verdict.Qed → IsGood (clause_goal plan.now clause)) }
+    ensures alone { IfOk result (λ t. crew.now.workers ≤ 1 → t.drops ≡ []) }
 {
     let root: Task<'_, J> = clause_task(alloc, plan, clause)?;
-    attempt_from(alloc, limits, root)
+    attempt_from(crew, alloc, limits, root)
 }
 
 /// A plan's world is sound, and its names are distinct. Costs nothing.
@@ -142,38 +174,22 @@ fn is_sound(plan: &Plan)
 
 /// Tries to prove a clause of a plan's world, which is moved. Where it doesn't fail, the clause is valid. The brand of
 /// the attempt's tasks is picked here: it is the plan.
-fn attempt_moved(
+fn attempt_moved<R: Threads + Wait + Sync, G: Gate + Sync>(
+    crew: &Crew<'_, R, G>,
     alloc: Global,
     plan: &Plan,
     limits: &Limits,
     clause: Clause,
-) -> Result<Tried, NoMemory>
+) -> Result<Trial, NoMemory>
     requires functions { HasFunctions (defs_of plan.now) }
     requires known { KnownClause (defs_of plan.now) clause }
     requires hints { KnownHints plan.now.world.entries plan.now.hints }
-    ensures tried { IfOk result (λ t. t ≡ tried_clause limits.now plan.now clause) }
-    ensures valid { IfOk result (λ t. t.failed ≡ None → Valid (defs_of plan.now) clause.0) }
+    ensures tried { IfOk result (Tries (tried_from limits.now (clause_goal plan.now clause))) }
+    ensures valid { IfOk result (λ t. t.verdict ≡ Verdict.Qed → Valid (defs_of plan.now) clause.0) }
+    ensures alone { IfOk result (λ t. crew.now.workers ≤ 1 → t.drops ≡ []) }
 {
     is_sound(plan);
-    attempt_as::<Brand>(alloc, plan, limits, clause)
-}
-
-/// Tries to prove a term of a plan's world. Where it doesn't fail, the term is valid.
-pub(crate) fn attempt(
-    alloc: Global,
-    plan: &Plan,
-    limits: &Limits,
-    term: &Term,
-) -> Result<Tried, NoMemory>
-    requires functions { HasFunctions (defs_of plan.now) }
-    requires known { IsTrue (known (defs_of plan.now) term.now) }
-    requires hints { KnownHints plan.now.world.entries plan.now.hints }
-    ensures tried { IfOk result (λ t. t ≡ tried limits.now plan.now term.now) }
-    ensures valid { IfOk result (λ t. t.failed ≡ None → Valid (defs_of plan.now) (term.now ∷ [])) }
-{
-    is_sound(plan);
-    let clause = flat(alloc, term)?;
-    attempt_moved(alloc, plan, limits, clause)
+    attempt_as::<Brand, R, G>(crew, alloc, plan, limits, clause)
 }
 
 /// A copy of a clause.
@@ -184,18 +200,20 @@ fn copy_clause(alloc: Global, clause: &Clause) -> Result<Clause, NoMemory>
 }
 
 /// Tries to prove a clause of a plan's world. Where it doesn't fail, the clause is valid.
-pub(crate) fn attempt_clause(
+pub(crate) fn attempt_clause<R: Threads + Wait + Sync, G: Gate + Sync>(
+    crew: &Crew<'_, R, G>,
     alloc: Global,
     plan: &Plan,
     limits: &Limits,
     clause: &Clause,
-) -> Result<Tried, NoMemory>
+) -> Result<Trial, NoMemory>
     requires functions { HasFunctions (defs_of plan.now) }
     requires known { KnownClause (defs_of plan.now) clause.now }
     requires hints { KnownHints plan.now.world.entries plan.now.hints }
-    ensures tried { IfOk result (λ t. t ≡ tried_clause limits.now plan.now clause.now) }
-    ensures valid { IfOk result (λ t. t.failed ≡ None → Valid (defs_of plan.now) clause.now.0) }
+    ensures tried { IfOk result (Tries (tried_from limits.now (clause_goal plan.now clause.now))) }
+    ensures valid { IfOk result (λ t. t.verdict ≡ Verdict.Qed → Valid (defs_of plan.now) clause.now.0) }
+    ensures alone { IfOk result (λ t. crew.now.workers ≤ 1 → t.drops ≡ []) }
 {
     let clause = copy_clause(alloc, clause)?;
-    attempt_moved(alloc, plan, limits, clause)
+    attempt_moved(crew, alloc, plan, limits, clause)
 }

@@ -1,26 +1,26 @@
 //! Changes of the current theory: the event `in-theory`, and what `defund` and `defthmd` disable.
-ghost use Rattle.std.specs.Prelude.{◌≡◌, Some, None, IfOk, option_map};
-ghost use Rattle.ap_world.specs.World.{Shown};
-ghost use Rattle.ap_translate.specs.declared.fault.TransKind.TheVariants as kinds;
-ghost use Rattle.ap_events.specs.Texts.{theory_line, refused_as, translation_text};
-ghost use Rattle.ap_events.specs.Ends.{step_in, Follows};
+ghost use Rattle.std.specs.Prelude.{◌≡◌, [], IfOk, OnOk, OnErr, length, option_map, take};
+ghost use Rattle.ap_world.specs.Sound.{Sound};
 ghost use Rattle.ap_hints.specs.Changes.{as_changed, changed_theory};
-ghost use Rattle.ap_events.specs.Changes.{changes_of, theory_ended, without_name, disabled};
+ghost use Rattle.ap_events.specs.Changes.{changes_of, changed_event, theory_event};
+ghost use Rattle.ap_events.specs.Ends.{Did};
+ghost use Rattle.ap_events.specs.Proposals.{without_name};
 
-use crate::end::RuledEnd;
+use crate::end::{Outcome, refused_alone, without_drops};
+use crate::refusing::Refusal;
 use crate::texts;
-use ap_hints::{Changes, changed_runes, changed_theory, changes_by, items, runes_named};
-use ap_list::{Bytes, NoMemory};
-use ap_reader::Form;
+use ap_hints::{Changes, changed_runes, changed_theory, changes_by, runes_named};
+use ap_list::NoMemory;
+use ap_reader::{Form, items};
 use ap_rules::Ruled;
 use ap_translate::TransKind;
 use ap_value::Symbol;
-use ap_world::{Theory, World};
+use ap_world::{Theory, World, copy_theory};
 use std::alloc::Global;
 
 /// What an `in-theory` changes, or `None` where it isn't `(in-theory (enable R ..))`, or the same with
 /// `(disable R ..)` or `(e/d (R ..) (R ..))`. Whether each R is known isn't looked at.
-pub(crate) fn changes_in(form: &Form) -> Option<Changes<'_>>
+fn changes_in(form: &Form) -> Option<Changes<'_>>
     ensures { option_map as_changed result ≡ changes_of form.now }
 {
     match items(form) {
@@ -29,55 +29,43 @@ pub(crate) fn changes_in(form: &Form) -> Option<Changes<'_>>
     }
 }
 
-/// Makes a theory the current one.
-#[tactic(auto, using(crate::proofs::Ending::none_more), unfolding(crate::specs::Changes::theory_ended))]
-fn admitted(alloc: Global, w: Ruled, theory: Theory) -> Result<RuledEnd, NoMemory>
-    ensures step { IfOk result (λ e. step_in e ≡ theory_ended w (Some theory)) }
-    ensures follows { IfOk result (λ e. Follows w e) }
-{
-    let text = texts::theory_line(alloc, b" admitted")?;
-    let mut world = w;
-    world.set_theory(theory);
-    Ok(RuledEnd::Admitted(world, text))
-}
-
-/// What the event of a theory prints of which a name or a rune isn't known.
-fn unknown_text(alloc: Global) -> Result<Bytes, NoMemory>
-    ensures { IfOk result (λ text. text ≡ theory_line (refused_as (translation_text kinds.UnknownName))) }
-{
-    let reason = texts::translation(alloc, TransKind::UnknownName)?;
-    let said = texts::refused_as(alloc, reason.as_slice())?;
-    texts::theory_line(alloc, said.as_slice())
-}
-
-/// A theory of which a name or a rune isn't known.
-#[tactic(auto, unfolding(crate::specs::Changes::theory_ended))]
-fn unknown(alloc: Global, w: Ruled) -> Result<RuledEnd, NoMemory>
-    ensures step { IfOk result (λ e. step_in e ≡ theory_ended w None) }
-    ensures follows { IfOk result (λ e. Follows w e) }
-{
-    let text = unknown_text(alloc)?;
-    Ok(RuledEnd::Refused(w, text))
-}
-
 /// Ends the event of a theory, which is then the current one, or of one that isn't known.
-fn theory_ended(alloc: Global, w: Ruled, theory: Option<Theory>) -> Result<RuledEnd, NoMemory>
-    ensures step { IfOk result (λ e. step_in e ≡ theory_ended w theory) }
-    ensures follows { IfOk result (λ e. Follows w e) }
+#[tactic(auto, unfolding(crate::specs::Changes::changed_event))]
+fn changed_event(alloc: Global, w: &mut Ruled, theory: Option<Theory>) -> Result<Outcome, NoMemory>
+    ensures done { IfOk result (Did (changed_event w.old theory) w.old w.new) }
+    ensures alone { IfOk result (λ e. e.drops ≡ []) }
+    ensures error { OnErr result (w.new ≡ w.old) }
 {
-    match theory {
-        Some(theory) => admitted(alloc, w, theory),
-        None => unknown(alloc, w),
-    }
+    let Some(theory) = theory else {
+        let refusal = Refusal::Translation(TransKind::UnknownName);
+        return refused_alone(alloc, b"IN-THEORY", refusal);
+    };
+    let text = texts::said_line(alloc, b"IN-THEORY", b" admitted")?;
+    w.set_theory(theory);
+    Ok(without_drops(alloc, text, true))
 }
 
-/// Does the event `in-theory`, by what it changes.
-pub(crate) fn change(alloc: Global, w: Ruled, changes: &Changes<'_>) -> Result<RuledEnd, NoMemory>
-    ensures step { IfOk result (λ e. step_in e ≡ theory_ended w (changed_theory w (as_changed changes.now))) }
-    ensures follows { IfOk result (λ e. Follows w e) }
+/// Does the event of changes. Where memory is wanting the world is as it was.
+fn change(alloc: Global, w: &mut Ruled, changes: &Changes<'_>) -> Result<Outcome, NoMemory>
+    ensures done { IfOk result (Did (changed_event w.old (changed_theory w.old (as_changed changes.now))) w.old w.new) }
+    ensures alone { IfOk result (λ e. e.drops ≡ []) }
+    ensures error { OnErr result (w.new ≡ w.old) }
 {
     let theory = changed_theory(alloc, w.world(), changes)?;
-    theory_ended(alloc, w, theory)
+    changed_event(alloc, w, theory)
+}
+
+/// Does the event `in-theory`. Where memory is wanting the world is as it was.
+#[tactic(auto, unfolding(crate::specs::Changes::theory_event))]
+pub(crate) fn theory_event(alloc: Global, w: &mut Ruled, f: &Form) -> Result<Outcome, NoMemory>
+    ensures done { IfOk result (Did (theory_event w.old (changes_of f.now)) w.old w.new) }
+    ensures alone { IfOk result (λ e. e.drops ≡ []) }
+    ensures error { OnErr result (w.new ≡ w.old) }
+{
+    match changes_in(f) {
+        Some(changes) => change(alloc, w, &changes),
+        None => refused_alone(alloc, b"IN-THEORY", Refusal::BadEvent),
+    }
 }
 
 /// The current theory with a name's runes disabled; an unknown name has none.
@@ -91,27 +79,44 @@ fn theory_without(alloc: Global, w: &World, name: &Symbol) -> Result<Theory, NoM
     }
 }
 
-/// A world in which a name is disabled.
-fn without_name(alloc: Global, w: Ruled, name: &Symbol) -> Result<Ruled, NoMemory>
-    ensures { IfOk result (λ v. v ≡ without_name name.now w) }
-{
-    let theory = theory_without(alloc, w.world(), name)?;
-    let mut world = w;
-    world.set_theory(theory);
-    Ok(world)
+/// What a world goes back to: its first entries, by their number, and a theory.
+#[derive(Drop)]
+pub(crate) struct Before {
+    pub count: usize,
+    pub theory: Theory,
 }
 
-/// What an event comes to that disables the name that it made.
-#[tactic(auto, using(crate::proofs::Ending::still_follows))]
-pub(crate) fn disable(alloc: Global, name: &Symbol, end: RuledEnd) -> Result<RuledEnd, NoMemory>
-    ensures step { IfOk result (λ e. step_in e ≡ disabled name.now (step_in end)) }
-    ensures follows { IfOk result (λ e. (w : Shown) → Follows w end → Follows w e) }
+/// A world as it is now, to go back to.
+pub(crate) fn remember(alloc: Global, w: &Ruled) -> Result<Before, NoMemory>
+    ensures { IfOk result (λ b. (b.count ≡ length w.now.entries) × (b.theory ≡ w.now.theory)) }
 {
-    match end {
-        RuledEnd::Admitted(w, text) => {
-            let world = without_name(alloc, w, name)?;
-            Ok(RuledEnd::Admitted(world, text))
+    let world = w.world();
+    let theory = copy_theory(alloc, world.theory())?;
+    Ok(Before {
+        count: world.count(),
+        theory,
+    })
+}
+
+/// Disables a name. Where memory is wanting the world goes back.
+pub(crate) fn disable(
+    alloc: Global,
+    w: &mut Ruled,
+    name: &Symbol,
+    before: Before,
+) -> Result<(), NoMemory>
+    requires sound { Sound (take before.count w.old.entries) }
+    ensures ok { OnOk result (w.new ≡ without_name name.now w.old) }
+    ensures err { OnErr result (w.new ≡ record { entries = take before.count w.old.entries; theory = before.theory }) }
+{
+    match theory_without(alloc, w.world(), name) {
+        Ok(theory) => {
+            w.set_theory(theory);
+            Ok(())
         }
-        RuledEnd::Refused(w, text) => Ok(RuledEnd::Refused(w, text)),
+        Err(error) => {
+            w.back_to(before.count, before.theory);
+            Err(error)
+        }
     }
 }

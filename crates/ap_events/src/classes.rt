@@ -1,10 +1,9 @@
 ghost use Rattle.std.specs.Prelude.{◌≡◌, IfOk, map, option_map};
 ghost use Rattle.ap_events.specs.Classes.{class_of, classes_listed, classes_in};
-ghost use Rattle.ap_translate.specs.Parts.{items_in};
+ghost use Rattle.ap_reader.specs.Tops.{items_in};
 
-use ap_hints::{is_keyword, items};
 use ap_list::{NoMemory, Seq};
-use ap_reader::Form;
+use ap_reader::{Form, is_keyword, items};
 use ap_world::RuleClass;
 use std::alloc::Global;
 

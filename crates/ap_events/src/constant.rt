@@ -1,114 +1,109 @@
-ghost use Rattle.std.specs.Prelude.{◌≡◌, IfOk, false, codes};
+//! The event of a constant.
+ghost use Rattle.std.specs.Prelude.{◌≡◌, [], IfOk, OnOk, OnErr, false, option_map};
 ghost use Rattle.ap_world.specs.declared.entry.Entry.TheVariants as entry;
-ghost use Rattle.ap_world.specs.World.{has_name};
+ghost use Rattle.ap_world.specs.World.{added, has_name};
 ghost use Rattle.ap_translate.specs.Written.{written};
-ghost use Rattle.ap_events.specs.Texts.{constant_line, refused_as, translation_text};
-ghost use Rattle.ap_events.specs.Ends.{admitted, step_in, Follows};
-ghost use Rattle.ap_events.specs.Constants.{added_constant, refused_constant, unless_taken, written_constant};
+ghost use Rattle.ap_events.specs.Constants.{constant_title, valued_constant, stated_constant, written_constant, constant_event};
+ghost use Rattle.ap_events.specs.Ends.{Did};
+ghost use Rattle.ap_events.specs.Shapes.{constant_of};
 
-use crate::end::{RuledEnd, bad_event};
-use crate::shapes::Constant;
+use crate::end::{Outcome, refused_alone, without_drops};
+use crate::refusing::Refusal;
+use crate::shapes::{Constant, constant_in};
 use crate::taken::is_taken;
 use crate::texts;
-use ap_list::{Bytes, NoMemory};
+use ap_list::NoMemory;
+use ap_reader::Form;
 use ap_rules::Ruled;
-use ap_translate::{TransError, TransKind, constant_value};
+use ap_translate::{TransError, constant_value};
 use ap_value::{Symbol, Value, copy_symbol};
 use ap_world::AddError;
 use std::alloc::{AllocError, Global};
 
-/// What the event of a constant prints that is refused.
-fn refused_text(alloc: Global, name: &Symbol, reason: &[u8]) -> Result<Bytes, NoMemory>
-    ensures { IfOk result (λ text. text ≡ constant_line name.now (refused_as reason.now)) }
+/// Adds a constant whose name is free. Where memory is wanting the world is as it was.
+fn add_constant(alloc: Global, w: &mut Ruled, name: &Symbol, value: Value) -> Result<(), NoMemory>
+    requires free { has_name w.old.entries name.now ≡ false }
+    ensures ok { OnOk result (w.new ≡ added w.old (entry.Constant name.now value)) }
+    ensures err { OnErr result (w.new ≡ w.old) }
 {
-    let said = texts::refused_as(alloc, reason)?;
-    texts::constant_line(alloc, name, said.as_slice())
-}
-
-/// A constant that is refused, by the refusal's number and word.
-fn refused(alloc: Global, w: Ruled, name: &Symbol, reason: &[u8]) -> Result<RuledEnd, NoMemory>
-    ensures step { IfOk result (λ e. step_in e ≡ refused_constant name.now reason.now) }
-    ensures follows { IfOk result (λ e. Follows w e) }
-{
-    let text = refused_text(alloc, name, reason)?;
-    Ok(RuledEnd::Refused(w, text))
-}
-
-/// A constant that is to be added: its name, and what its event prints.
-#[derive(Drop)]
-struct Made {
-    name: Symbol,
-    text: Bytes,
-}
-
-fn make(alloc: Global, name: &Symbol) -> Result<Made, NoMemory>
-    ensures name { IfOk result (λ m. m.name ≡ name.now) }
-    ensures text { IfOk result (λ m. m.text ≡ constant_line name.now (codes " admitted")) }
-{
-    let text = texts::constant_line(alloc, name, b" admitted")?;
     let name = copy_symbol(alloc, name)?;
-    Ok(Made { name, text })
-}
-
-/// Adds a constant whose name is free.
-fn added(alloc: Global, w: Ruled, made: Made, value: Value) -> Result<RuledEnd, NoMemory>
-    requires free { has_name w.entries made.name ≡ false }
-    ensures step { IfOk result (λ e. step_in e ≡ admitted w (entry.Constant made.name value) made.text) }
-    ensures follows { IfOk result (λ e. Follows w e) }
-{
-    let Made { name, text } = made;
-    let mut world = w;
-    match world.add_constant(alloc, name, value) {
-        Ok(()) => Ok(RuledEnd::Admitted(world, text)),
+    match w.add_constant(alloc, name, value) {
+        Ok(()) => Ok(()),
         Err(AddError::NoMemory) => Err(AllocError),
         Err(AddError::NameTaken) => unreachable!(),
     }
 }
 
-/// Adds a constant, unless its name is taken.
-fn add(alloc: Global, w: Ruled, name: &Symbol, value: Value) -> Result<RuledEnd, NoMemory>
-    ensures step { IfOk result (λ e. step_in e ≡ unless_taken w name.now (added_constant w name.now value)) }
-    ensures follows { IfOk result (λ e. Follows w e) }
-{
-    if is_taken(&w, name) {
-        return refused(alloc, w, name, b"3 NameTaken");
-    }
-    let made = make(alloc, name)?;
-    added(alloc, w, made, value)
-}
-
-/// A constant whose form has no value, unless its name is taken.
-fn untranslated(
+/// Does the event of a constant whose name is free, by its title.
+fn admit(
     alloc: Global,
-    w: Ruled,
+    w: &mut Ruled,
+    title: &[u8],
     name: &Symbol,
-    kind: TransKind,
-) -> Result<RuledEnd, NoMemory>
-    ensures step { IfOk result (λ e. step_in e ≡ unless_taken w name.now (refused_constant name.now (translation_text kind))) }
-    ensures follows { IfOk result (λ e. Follows w e) }
+    value: Value,
+) -> Result<Outcome, NoMemory>
+    requires title { title.now ≡ constant_title name.now }
+    requires free { has_name w.old.entries name.now ≡ false }
+    ensures done { IfOk result (Did (valued_constant w.old name.now (Ok value)) w.old w.new) }
+    ensures alone { IfOk result (λ e. e.drops ≡ []) }
+    ensures error { OnErr result (w.new ≡ w.old) }
 {
-    if is_taken(&w, name) {
-        return refused(alloc, w, name, b"3 NameTaken");
-    }
-    let reason = texts::translation(alloc, kind)?;
-    refused(alloc, w, name, reason.as_slice())
+    let text = texts::said_line(alloc, title, b" admitted")?;
+    add_constant(alloc, w, name, value)?;
+    Ok(without_drops(alloc, text, true))
 }
 
-/// Does a constant's event, by what it states.
-#[tactic(auto, unfolding(crate::specs::Constants::written_constant))]
-pub(crate) fn constant(
+/// Does the event of a constant, by its value or by why it has none. A name that is taken is refused first.
+fn state(
     alloc: Global,
-    w: Ruled,
-    head: &Symbol,
+    w: &mut Ruled,
+    name: &Symbol,
+    value: Result<Value, Refusal>,
+) -> Result<Outcome, NoMemory>
+    ensures done { IfOk result (Did (valued_constant w.old name.now (stated_constant w.old name.now value)) w.old w.new) }
+    ensures alone { IfOk result (λ e. e.drops ≡ []) }
+    ensures error { OnErr result (w.new ≡ w.old) }
+{
+    let title = texts::title(alloc, b"DEFCONST", name)?;
+    if is_taken(w, name) {
+        return refused_alone(alloc, title.as_slice(), Refusal::NameTaken);
+    }
+    match value {
+        Ok(value) => admit(alloc, w, title.as_slice(), name, value),
+        Err(refusal) => refused_alone(alloc, title.as_slice(), refusal),
+    }
+}
+
+/// Does the event of a constant, by what it states.
+#[tactic(auto, unfolding(crate::specs::Constants::written_constant))]
+fn written_constant(
+    alloc: Global,
+    w: &mut Ruled,
     stated: &Constant<'_>,
-) -> Result<RuledEnd, NoMemory>
-    ensures step { IfOk result (λ e. step_in e ≡ written_constant w head.now stated.now.name.now (written stated.now.value.now)) }
-    ensures follows { IfOk result (λ e. Follows w e) }
+) -> Result<Outcome, NoMemory>
+    ensures done { IfOk result (Did (written_constant w.old stated.now.name.now (written stated.now.value.now)) w.old w.new) }
+    ensures alone { IfOk result (λ e. e.drops ≡ []) }
+    ensures error { OnErr result (w.new ≡ w.old) }
 {
     match constant_value(alloc, stated.value) {
-        Ok(Some(value)) => add(alloc, w, stated.name, value),
-        Ok(None) => bad_event(alloc, w, head),
+        Ok(Some(value)) => state(alloc, w, stated.name, Ok(value)),
+        Ok(None) => refused_alone(alloc, b"DEFCONST", Refusal::BadEvent),
         Err(TransError::NoMemory) => Err(AllocError),
-        Err(TransError::Fault { kind, .. }) => untranslated(alloc, w, stated.name, kind),
+        Err(TransError::Fault { kind, .. }) => {
+            state(alloc, w, stated.name, Err(Refusal::Translation(kind)))
+        }
+    }
+}
+
+/// Does a constant's event. Where memory is wanting the world is as it was.
+#[tactic(auto, unfolding(crate::specs::Constants::constant_event))]
+pub(crate) fn constant_event(alloc: Global, w: &mut Ruled, f: &Form) -> Result<Outcome, NoMemory>
+    ensures done { IfOk result (Did (constant_event w.old (constant_of f.now)) w.old w.new) }
+    ensures alone { IfOk result (λ e. e.drops ≡ []) }
+    ensures error { OnErr result (w.new ≡ w.old) }
+{
+    match constant_in(f) {
+        Some(stated) => written_constant(alloc, w, &stated),
+        None => refused_alone(alloc, b"DEFCONST", Refusal::BadEvent),
     }
 }

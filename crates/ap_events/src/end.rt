@@ -1,55 +1,67 @@
-ghost use Rattle.std.specs.Prelude.{◌≡◌, IfOk};
-ghost use Rattle.ap_events.specs.Ends.{not_supported, bad_event, without_index, step_in, Follows};
+ghost use Rattle.std.specs.Prelude.{◌≡◌, [], IfOk};
+ghost use Rattle.ap_world.specs.World.{Shown};
+ghost use Rattle.ap_events.specs.Ends.{Did, refused_alone, end_of};
 
+use crate::refusing::Refusal;
 use crate::texts;
-use ap_list::{Bytes, NoMemory};
-use ap_rules::Ruled;
-use ap_value::Symbol;
+use ap_attempt::DropNote;
+use ap_list::{Bytes, NoMemory, Seq};
 use ap_world::World;
 use std::alloc::Global;
 
-/// What an event comes to: the world after it, and what it printed. A refused event leaves the world as it
-/// was.
+/// What an event came to: what it printed, whether it is admitted, and which goals workers dropped in its attempts:
+/// attempt by attempt, and in each walk by walk.
+#[derive(Drop)]
+pub struct Outcome {
+    pub text: Bytes,
+    pub admitted: bool,
+    pub drops: Seq<DropNote>,
+}
+
+/// What an event in a world came to: the world after it, what it printed, and what was dropped. A refused event
+/// leaves the world as it was.
 #[derive(Drop)]
 pub enum EventEnd {
-    Admitted(World, Bytes),
-    Refused(World, Bytes),
+    Admitted(World, Bytes, Seq<DropNote>),
+    Refused(World, Bytes, Seq<DropNote>),
 }
 
-/// What an event in a world with the index of its rules comes to: the world after it, with its index, and
-/// what it printed.
-#[derive(Drop)]
-pub enum RuledEnd {
-    Admitted(Ruled, Bytes),
-    Refused(Ruled, Bytes),
-}
-
-impl RuledEnd {
-    /// The same without the index. Takes no memory.
-    pub fn into_end(self) -> EventEnd
-        ensures { result ≡ without_index self }
-    {
-        match self {
-            RuledEnd::Admitted(w, text) => EventEnd::Admitted(w.into_world(), text),
-            RuledEnd::Refused(w, text) => EventEnd::Refused(w.into_world(), text),
-        }
+/// An outcome with the world that was left.
+pub(crate) fn end_in(w: World, outcome: Outcome) -> EventEnd
+    ensures { result ≡ end_of outcome.admitted w outcome.text outcome.drops }
+{
+    let Outcome {
+        text,
+        admitted,
+        drops,
+    } = outcome;
+    if admitted {
+        EventEnd::Admitted(w, text, drops)
+    } else {
+        EventEnd::Refused(w, text, drops)
     }
 }
 
-/// An event that isn't built.
-pub(crate) fn not_supported(alloc: Global, w: Ruled, head: &Symbol) -> Result<RuledEnd, NoMemory>
-    ensures step { IfOk result (λ e. step_in e ≡ not_supported head.now) }
-    ensures follows { IfOk result (λ e. Follows w e) }
+/// An event without attempts.
+pub(crate) fn without_drops(alloc: Global, text: Bytes, admitted: bool) -> Outcome
+    ensures { result ≡ record { text = text; admitted = admitted; drops = [] } }
 {
-    let text = texts::not_supported(alloc, head)?;
-    Ok(RuledEnd::Refused(w, text))
+    Outcome {
+        text,
+        admitted,
+        drops: Seq::new(alloc),
+    }
 }
 
-/// An event that isn't of its head's shape.
-pub(crate) fn bad_event(alloc: Global, w: Ruled, head: &Symbol) -> Result<RuledEnd, NoMemory>
-    ensures step { IfOk result (λ e. step_in e ≡ bad_event head.now) }
-    ensures follows { IfOk result (λ e. Follows w e) }
+/// An event that is refused before it does anything: it prints its last line alone.
+pub(crate) fn refused_alone(
+    alloc: Global,
+    title: &[u8],
+    refusal: Refusal,
+) -> Result<Outcome, NoMemory>
+    ensures done { IfOk result (λ e. (w : Shown) → Did (refused_alone title.now refusal) w w e) }
+    ensures alone { IfOk result (λ e. e.drops ≡ []) }
 {
-    let text = texts::bad_event(alloc, head)?;
-    Ok(RuledEnd::Refused(w, text))
+    let text = texts::refused_line(alloc, title, refusal)?;
+    Ok(without_drops(alloc, text, false))
 }

@@ -1,221 +1,282 @@
-ghost use Rattle.std.specs.Prelude.{◌≡◌, IfOk};
+//! One event, by its head.
+ghost use Rattle.std.specs.Prelude.{◌≡◌, ◌≤◌, [], Some, None, cond, IfOk, OnErr, false};
 ghost use Rattle.ap_world.specs.Sound.{HasFunctions};
-ghost use Rattle.ap_world.specs.World.{function_of};
-ghost use Rattle.ap_value.specs.Values.{acl2};
-ghost use Rattle.ap_events.specs.Ends.{refused, bad_event, without_index, step_in, text_in, next_in, world_in, Kept, Follows};
-ghost use Rattle.ap_events.specs.Theorems.{theorem_step};
-ghost use Rattle.ap_events.specs.Definitions.{definition_step};
-ghost use Rattle.ap_events.specs.Constants.{constant_step};
-ghost use Rattle.ap_events.specs.Changes.{changes_of, theory_step};
-ghost use Rattle.ap_events.specs.Shapes.{as_stated, statement_of, as_defined, definition_of, constant_of};
-ghost use Rattle.ap_events.specs.Events.{disabled_statement, disabled_theorem, disabled_function, disabled_definition, named_event, event_of};
+ghost use Rattle.ap_world.specs.World.{Shown, function_of};
+ghost use Rattle.ap_term.specs.Printed.{symbol_text};
+ghost use Rattle.ap_events.specs.Drops.{DividedWalks};
+ghost use Rattle.ap_events.specs.Ends.{walks_in, text_in, next_in, drops_in, world_in, Kept, refused_alone, Did};
+ghost use Rattle.ap_events.specs.declared.refusing.Refusal.{Refusal};
+ghost use Rattle.ap_events.specs.Events.{kind_of, stated_event, theorem_event, defined_event, definition_event, event_by, headed_event, event_with, event_of};
+ghost use Rattle.ap_events.specs.Proposals.{proposed_theorem, proposed_definition, IsStated};
+ghost use Rattle.ap_events.specs.Shapes.{as_stated, statement_of, as_defined, definition_of};
 
-use crate::changes::{change, changes_in, disable};
-use crate::constant::constant;
-use crate::definition::define;
-use crate::end::{EventEnd, RuledEnd, bad_event, not_supported};
+use crate::attempting::Crew;
+use crate::changes::theory_event;
+use crate::constant::constant_event;
+use crate::definition::stated_definition;
+use crate::end::{EventEnd, Outcome, end_in, refused_alone};
 use crate::forms::head;
+use crate::kinds::{Kind, kind_of};
 use crate::limits::Limits;
-use crate::shapes::{Definition, Statement, constant_in, definition_in, theorem_in};
+use crate::proposing::{Asked, Proposal, proposed_event};
+use crate::refusing::Refusal;
+use crate::shapes::{Definition, Statement, definition_in, theorem_in};
 use crate::texts;
-use crate::theorem::state;
+use crate::theorem::stated_theorem;
+use ap_attempt::Gate;
 use ap_list::NoMemory;
 use ap_reader::Form;
 use ap_rules::Ruled;
-use ap_value::{Symbol, acl2, is_named};
+use ap_value::Symbol;
 use ap_world::World;
 use std::alloc::Global;
+use std::sync::Wait;
+use std::thread::Threads;
 
-#[tactic(auto, unfolding(crate::specs::Theorems::theorem_step))]
-fn theorem_event(
+/// The theorem that an event states, or why it is refused.
+fn proposed_theorem(
     alloc: Global,
-    w: Ruled,
-    head: &Symbol,
-    f: &Form,
-    limits: &Limits,
-) -> Result<RuledEnd, NoMemory>
-    requires functions { HasFunctions (function_of w.entries) }
-    ensures step { IfOk result (λ e. step_in e ≡ theorem_step limits.now w head.now (statement_of f.now)) }
-    ensures follows { IfOk result (λ e. Follows w e) }
+    w: &Ruled,
+    statement: &Statement<'_>,
+) -> Result<Result<Proposal, Refusal>, NoMemory>
+    requires functions { HasFunctions (function_of w.now.entries) }
+    ensures made { IfOk result (λ r. r ≡ proposed_theorem w.now (as_stated statement.now)) }
+    ensures stands { IfOk result (λ r. IfOk r (IsStated w.now)) }
 {
-    match theorem_in(f) {
-        Some(statement) => state(alloc, w, &statement, limits),
-        None => bad_event(alloc, w, head),
+    match stated_theorem(alloc, w, statement)? {
+        Ok(theorem) => Ok(Ok(Proposal::Theorem(theorem))),
+        Err(refusal) => Ok(Err(refusal)),
     }
 }
 
-#[tactic(auto, unfolding(crate::specs::Definitions::definition_step))]
-fn definition_event(
+/// The definition that an event states, or why it is refused.
+fn proposed_definition(
     alloc: Global,
-    w: Ruled,
-    head: &Symbol,
-    f: &Form,
-    limits: &Limits,
-) -> Result<RuledEnd, NoMemory>
-    requires functions { HasFunctions (function_of w.entries) }
-    ensures step { IfOk result (λ e. step_in e ≡ definition_step limits.now w head.now (definition_of f.now)) }
-    ensures follows { IfOk result (λ e. Follows w e) }
+    w: &mut Ruled,
+    definition: &Definition<'_>,
+) -> Result<Result<Proposal, Refusal>, NoMemory>
+    requires functions { HasFunctions (function_of w.old.entries) }
+    ensures same { w.new ≡ w.old }
+    ensures made { IfOk result (λ r. r ≡ proposed_definition w.old (as_defined definition.now)) }
+    ensures stands { IfOk result (λ r. IfOk r (IsStated w.old)) }
 {
-    match definition_in(f) {
-        Some(definition) => define(alloc, w, &definition, limits),
-        None => bad_event(alloc, w, head),
+    match stated_definition(alloc, w, definition)? {
+        Ok(terminating) => Ok(Ok(Proposal::Function(terminating))),
+        Err(refusal) => Ok(Err(refusal)),
     }
 }
 
-#[tactic(auto, unfolding(crate::specs::Constants::constant_step))]
-fn constant_event(alloc: Global, w: Ruled, head: &Symbol, f: &Form) -> Result<RuledEnd, NoMemory>
-    ensures step { IfOk result (λ e. step_in e ≡ constant_step w head.now (constant_of f.now)) }
-    ensures follows { IfOk result (λ e. Follows w e) }
-{
-    match constant_in(f) {
-        Some(stated) => constant(alloc, w, head, &stated),
-        None => bad_event(alloc, w, head),
-    }
-}
-
-/// An event that isn't of the shape of the head that it prints.
-fn bad_event_of(alloc: Global, w: Ruled, name: &[u8]) -> Result<RuledEnd, NoMemory>
-    ensures step { IfOk result (λ e. step_in e ≡ bad_event (acl2 name.now)) }
-    ensures follows { IfOk result (λ e. Follows w e) }
-{
-    let head = acl2(alloc, name)?;
-    bad_event(alloc, w, &head)
-}
-
-/// Does a theorem's event, and disables the theorem.
-fn disabled_statement(
+/// Does a theorem's event, by what it states.
+fn stated_event<R: Threads + Wait + Sync, G: Gate + Sync>(
+    crew: &Crew<'_, R, G>,
     alloc: Global,
-    w: Ruled,
+    w: &mut Ruled,
     statement: &Statement<'_>,
     limits: &Limits,
-) -> Result<RuledEnd, NoMemory>
-    requires functions { HasFunctions (function_of w.entries) }
-    ensures step { IfOk result (λ e. step_in e ≡ disabled_statement limits.now w (as_stated statement.now)) }
-    ensures follows { IfOk result (λ e. Follows w e) }
+    enabled: bool,
+) -> Result<Outcome, NoMemory>
+    requires functions { HasFunctions (function_of w.old.entries) }
+    ensures done { IfOk result (Did (stated_event limits.now w.old enabled (as_stated statement.now)) w.old w.new) }
+    ensures alone { IfOk result (λ e. crew.now.workers ≤ 1 → e.drops ≡ []) }
+    ensures error { OnErr result (w.new ≡ w.old) }
 {
-    let end = state(alloc, w, statement, limits)?;
-    disable(alloc, statement.name, end)
+    let title = texts::title(alloc, b"DEFTHM", statement.name)?;
+    let asked = Asked {
+        title: title.as_slice(),
+        hints: statement.choices.hints,
+        enabled,
+    };
+    let stated = proposed_theorem(alloc, w, statement)?;
+    proposed_event(crew, alloc, w, limits, &asked, stated)
 }
 
-#[tactic(auto, unfolding(crate::specs::Events::disabled_theorem))]
-fn disabled_theorem_event(
+/// Does the event of a theorem, which is enabled or not.
+#[tactic(auto, unfolding(crate::specs::Events::theorem_event))]
+fn theorem_event<R: Threads + Wait + Sync, G: Gate + Sync>(
+    crew: &Crew<'_, R, G>,
     alloc: Global,
-    w: Ruled,
+    w: &mut Ruled,
     f: &Form,
     limits: &Limits,
-) -> Result<RuledEnd, NoMemory>
-    requires functions { HasFunctions (function_of w.entries) }
-    ensures step { IfOk result (λ e. step_in e ≡ disabled_theorem limits.now w (statement_of f.now)) }
-    ensures follows { IfOk result (λ e. Follows w e) }
+    enabled: bool,
+) -> Result<Outcome, NoMemory>
+    requires functions { HasFunctions (function_of w.old.entries) }
+    ensures done { IfOk result (Did (theorem_event limits.now w.old enabled (statement_of f.now)) w.old w.new) }
+    ensures alone { IfOk result (λ e. crew.now.workers ≤ 1 → e.drops ≡ []) }
+    ensures error { OnErr result (w.new ≡ w.old) }
 {
     match theorem_in(f) {
-        Some(statement) => disabled_statement(alloc, w, &statement, limits),
-        None => bad_event_of(alloc, w, b"DEFTHM"),
+        Some(statement) => stated_event(crew, alloc, w, &statement, limits, enabled),
+        None => refused_alone(alloc, b"DEFTHM", Refusal::BadEvent),
     }
 }
 
-/// Does a definition's event, and disables the function.
-fn disabled_function(
+/// Does a definition's event, by what it defines.
+fn defined_event<R: Threads + Wait + Sync, G: Gate + Sync>(
+    crew: &Crew<'_, R, G>,
     alloc: Global,
-    w: Ruled,
+    w: &mut Ruled,
     definition: &Definition<'_>,
     limits: &Limits,
-) -> Result<RuledEnd, NoMemory>
-    requires functions { HasFunctions (function_of w.entries) }
-    ensures step { IfOk result (λ e. step_in e ≡ disabled_function limits.now w (as_defined definition.now)) }
-    ensures follows { IfOk result (λ e. Follows w e) }
+    enabled: bool,
+) -> Result<Outcome, NoMemory>
+    requires functions { HasFunctions (function_of w.old.entries) }
+    ensures done { IfOk result (Did (defined_event limits.now w.old enabled (as_defined definition.now)) w.old w.new) }
+    ensures alone { IfOk result (λ e. crew.now.workers ≤ 1 → e.drops ≡ []) }
+    ensures error { OnErr result (w.new ≡ w.old) }
 {
-    let end = define(alloc, w, definition, limits)?;
-    disable(alloc, definition.name, end)
+    let title = texts::title(alloc, b"DEFUN", definition.name)?;
+    let asked = Asked {
+        title: title.as_slice(),
+        hints: definition.xargs.hints,
+        enabled,
+    };
+    let stated = proposed_definition(alloc, w, definition)?;
+    proposed_event(crew, alloc, w, limits, &asked, stated)
 }
 
-#[tactic(auto, unfolding(crate::specs::Events::disabled_definition))]
-fn disabled_definition_event(
+/// Does the event of a function, which is enabled or not.
+#[tactic(auto, unfolding(crate::specs::Events::definition_event))]
+fn definition_event<R: Threads + Wait + Sync, G: Gate + Sync>(
+    crew: &Crew<'_, R, G>,
     alloc: Global,
-    w: Ruled,
+    w: &mut Ruled,
     f: &Form,
     limits: &Limits,
-) -> Result<RuledEnd, NoMemory>
-    requires functions { HasFunctions (function_of w.entries) }
-    ensures step { IfOk result (λ e. step_in e ≡ disabled_definition limits.now w (definition_of f.now)) }
-    ensures follows { IfOk result (λ e. Follows w e) }
+    enabled: bool,
+) -> Result<Outcome, NoMemory>
+    requires functions { HasFunctions (function_of w.old.entries) }
+    ensures done { IfOk result (Did (definition_event limits.now w.old enabled (definition_of f.now)) w.old w.new) }
+    ensures alone { IfOk result (λ e. crew.now.workers ≤ 1 → e.drops ≡ []) }
+    ensures error { OnErr result (w.new ≡ w.old) }
 {
     match definition_in(f) {
-        Some(definition) => disabled_function(alloc, w, &definition, limits),
-        None => bad_event_of(alloc, w, b"DEFUN"),
+        Some(definition) => defined_event(crew, alloc, w, &definition, limits, enabled),
+        None => refused_alone(alloc, b"DEFUN", Refusal::BadEvent),
     }
 }
 
-#[tactic(auto, unfolding(crate::specs::Changes::theory_step))]
-fn theory_event(alloc: Global, w: Ruled, head: &Symbol, f: &Form) -> Result<RuledEnd, NoMemory>
-    ensures step { IfOk result (λ e. step_in e ≡ theory_step w head.now (changes_of f.now)) }
-    ensures follows { IfOk result (λ e. Follows w e) }
-{
-    match changes_in(f) {
-        Some(changes) => change(alloc, w, &changes),
-        None => bad_event(alloc, w, head),
-    }
-}
-
-/// Does an event of this head.
-#[tactic(auto, unfolding(crate::specs::Events::named_event))]
-fn named(
+/// Does an event of a kind.
+#[tactic(auto, unfolding(crate::specs::Events::event_by))]
+fn event_by<R: Threads + Wait + Sync, G: Gate + Sync>(
+    crew: &Crew<'_, R, G>,
     alloc: Global,
-    w: Ruled,
-    head: &Symbol,
+    w: &mut Ruled,
     f: &Form,
     limits: &Limits,
-) -> Result<RuledEnd, NoMemory>
-    requires functions { HasFunctions (function_of w.entries) }
-    ensures step { IfOk result (λ e. step_in e ≡ named_event limits.now w f.now head.now) }
-    ensures follows { IfOk result (λ e. Follows w e) }
+    kind: Kind,
+) -> Result<Outcome, NoMemory>
+    requires functions { HasFunctions (function_of w.old.entries) }
+    ensures done { IfOk result (Did (event_by limits.now w.old f.now kind) w.old w.new) }
+    ensures alone { IfOk result (λ e. crew.now.workers ≤ 1 → e.drops ≡ []) }
+    ensures error { OnErr result (w.new ≡ w.old) }
 {
-    if is_named(head, b"DEFTHM") {
-        theorem_event(alloc, w, head, f, limits)
-    } else if is_named(head, b"DEFUN") {
-        definition_event(alloc, w, head, f, limits)
-    } else if is_named(head, b"DEFCONST") {
-        constant_event(alloc, w, head, f)
-    } else if is_named(head, b"DEFTHMD") {
-        disabled_theorem_event(alloc, w, f, limits)
-    } else if is_named(head, b"DEFUND") {
-        disabled_definition_event(alloc, w, f, limits)
-    } else if is_named(head, b"IN-THEORY") {
-        theory_event(alloc, w, head, f)
-    } else {
-        not_supported(alloc, w, head)
+    match kind {
+        Kind::Theorem => theorem_event(crew, alloc, w, f, limits, true),
+        Kind::DisabledTheorem => theorem_event(crew, alloc, w, f, limits, false),
+        Kind::Function => definition_event(crew, alloc, w, f, limits, true),
+        Kind::DisabledFunction => definition_event(crew, alloc, w, f, limits, false),
+        Kind::Constant => constant_event(alloc, w, f),
+        Kind::Theory => theory_event(alloc, w, f),
     }
 }
 
-/// Does an event in a world with the index of its rules, by the form that states it: `defthm`, `defthmd`,
-/// `defun`, `defund`, `defconst` or `in-theory`. Answers what it prints, and the world after it where it is
-/// admitted, else the world that was handed in. It costs what the event costs, whatever the world has already.
-/// The only error is want of memory.
-#[tactic(auto, using(crate::proofs::Ending::functions_kept, crate::proofs::Ending::kept), unfolding(crate::specs::Events::event_of, crate::specs::Events::headed_event))]
-pub fn work(alloc: Global, w: Ruled, f: &Form, limits: &Limits) -> Result<RuledEnd, NoMemory>
-    requires { HasFunctions (function_of w.entries) }
-    ensures text { IfOk result (λ e. text_in (without_index e) ≡ (event_of limits.now w f.now).text) }
-    ensures next { IfOk result (λ e. next_in (without_index e) ≡ (event_of limits.now w f.now).next) }
-    ensures refused { IfOk result (λ e. Kept w (without_index e)) }
-    ensures ground { IfOk result (λ e. HasFunctions (function_of (world_in (without_index e)).entries)) }
+/// An event that isn't built.
+fn unsupported(alloc: Global, head: &Symbol) -> Result<Outcome, NoMemory>
+    ensures done { IfOk result (λ e. (w : Shown) → Did (refused_alone (symbol_text head.now) Refusal.NotSupported) w w e) }
+    ensures alone { IfOk result (λ e. e.drops ≡ []) }
 {
-    let Some(head) = head(f) else {
-        let text = texts::no_head(alloc)?;
-        return Ok(RuledEnd::Refused(w, text));
-    };
-    named(alloc, w, head, f, limits)
+    let title = texts::printed(alloc, head)?;
+    refused_alone(alloc, title.as_slice(), Refusal::NotSupported)
 }
 
-/// Does an event in a world, as [`work`] does: the index of the world's rules is made first, and left out of
-/// the answer.
-pub fn event(alloc: Global, w: World, f: &Form, limits: &Limits) -> Result<EventEnd, NoMemory>
+/// Does an event, by the symbol at its head.
+#[tactic(auto, unfolding(crate::specs::Events::headed_event))]
+fn headed_event<R: Threads + Wait + Sync, G: Gate + Sync>(
+    crew: &Crew<'_, R, G>,
+    alloc: Global,
+    w: &mut Ruled,
+    f: &Form,
+    limits: &Limits,
+    head: &Symbol,
+) -> Result<Outcome, NoMemory>
+    requires functions { HasFunctions (function_of w.old.entries) }
+    ensures done { IfOk result (Did (headed_event limits.now w.old f.now head.now (kind_of head.now)) w.old w.new) }
+    ensures alone { IfOk result (λ e. crew.now.workers ≤ 1 → e.drops ≡ []) }
+    ensures error { OnErr result (w.new ≡ w.old) }
+{
+    match kind_of(head) {
+        Some(kind) => event_by(crew, alloc, w, f, limits, kind),
+        None => unsupported(alloc, head),
+    }
+}
+
+/// Does an event by a crew.
+#[tactic(auto, unfolding(crate::specs::Events::event_of, crate::specs::Events::event_with))]
+fn event_of<R: Threads + Wait + Sync, G: Gate + Sync>(
+    crew: &Crew<'_, R, G>,
+    alloc: Global,
+    w: &mut Ruled,
+    f: &Form,
+    limits: &Limits,
+) -> Result<Outcome, NoMemory>
+    requires functions { HasFunctions (function_of w.old.entries) }
+    ensures done { IfOk result (Did (event_of limits.now w.old f.now) w.old w.new) }
+    ensures alone { IfOk result (λ e. crew.now.workers ≤ 1 → e.drops ≡ []) }
+    ensures error { OnErr result (w.new ≡ w.old) }
+{
+    match head(f) {
+        Some(head) => headed_event(crew, alloc, w, f, limits, head),
+        None => refused_alone(alloc, b"FORM", Refusal::NotSupported),
+    }
+}
+
+/// Does an event in a world with the index of its rules, by the form that states it: `defthm`, `defthmd`, `defun`,
+/// `defund`, `defconst` or `in-theory`. Answers what it prints, whether it is admitted, and what was dropped in its
+/// attempts, which up to 64 workers make; with one worker no thread is started, and nothing is dropped. Where the event is
+/// admitted the world is the next one; where it is refused, or where memory is wanting, the world is as it was. It
+/// costs what the event costs, whatever the world has already. The only error is want of memory.
+pub fn work<R: Threads + Wait + Sync, G: Gate + Sync>(
+    rt: &R,
+    alloc: Global,
+    w: &mut Ruled,
+    f: &Form,
+    limits: &Limits,
+    workers: u32,
+    gate: &G,
+) -> Result<Outcome, NoMemory>
+    requires { HasFunctions (function_of w.old.entries) }
+    ensures text { IfOk result (λ e. e.text ≡ (event_of limits.now w.old f.now).text) }
+    ensures next { IfOk result (λ e. (event_of limits.now w.old f.now).next ≡ cond e.admitted (Some w.new) None) }
+    ensures refused { IfOk result (λ e. e.admitted ≡ false → w.new ≡ w.old) }
+    ensures drops { IfOk result (λ e. DividedWalks e.drops (walks_in (event_of limits.now w.old f.now).told)) }
+    ensures alone { IfOk result (λ e. workers ≤ 1 → e.drops ≡ []) }
+    ensures error { OnErr result (w.new ≡ w.old) }
+    ensures ground { HasFunctions (function_of w.new.entries) }
+{
+    let crew = Crew { rt, workers, gate };
+    event_of(&crew, alloc, w, f, limits)
+}
+
+/// Does an event in a world, as [`work`] does: the index of the world's rules is made first, and left out of the answer.
+pub fn event<R: Threads + Wait + Sync, G: Gate + Sync>(
+    rt: &R,
+    alloc: Global,
+    w: World,
+    f: &Form,
+    limits: &Limits,
+    workers: u32,
+    gate: &G,
+) -> Result<EventEnd, NoMemory>
     requires { HasFunctions (function_of w.entries) }
     ensures text { IfOk result (λ e. text_in e ≡ (event_of limits.now w f.now).text) }
     ensures next { IfOk result (λ e. next_in e ≡ (event_of limits.now w f.now).next) }
     ensures refused { IfOk result (λ e. Kept w e) }
+    ensures drops { IfOk result (λ e. DividedWalks (drops_in e) (walks_in (event_of limits.now w f.now).told)) }
+    ensures alone { IfOk result (λ e. workers ≤ 1 → drops_in e ≡ []) }
     ensures ground { IfOk result (λ e. HasFunctions (function_of (world_in e).entries)) }
 {
-    let ruled = Ruled::of(alloc, w)?;
-    let end = work(alloc, ruled, f, limits)?;
-    Ok(end.into_end())
+    let mut ruled = Ruled::of(alloc, w)?;
+    let outcome = work(rt, alloc, &mut ruled, f, limits, workers, gate)?;
+    Ok(end_in(ruled.into_world(), outcome))
 }

@@ -2,11 +2,11 @@
 ghost use Rattle.std.specs.Prelude.{◌≡◌, option_map, map};
 ghost use Rattle.std.specs.List.{list_all};
 ghost use Rattle.ap_events.specs.Shapes.{name_in, constant_name_in, are_keyed, given_once, is_class, are_classes, none_or, as_chosen, chosen_of, as_stated, statement_of, as_xargs, no_xargs, truth_in, xargs_of, is_declaration, in_list, xargs_by, xargs_lists, at_most_one, declared_in, as_before, before_body, as_defined, formals_in, defined_in, definition_of, as_constant, constant_of};
-ghost use Rattle.ap_translate.specs.Parts.{items_in};
+ghost use Rattle.ap_reader.specs.Tops.{items_in};
 
 use crate::forms::{are_symbols, is_string};
-use ap_hints::{is_any_keyword, is_keyword, is_nil, is_symbol, items, symbol};
-use ap_reader::Form;
+use ap_hints::{is_any_keyword, is_nil};
+use ap_reader::{Form, is_keyword, is_symbol, items, symbol};
 use ap_translate::{may_name, may_name_constant};
 use ap_value::Symbol;
 

@@ -12,13 +12,12 @@ ghost use Rattle.ap_translate.specs.Table.{translated};
 ghost use Rattle.ap_admit.specs.Admission.{with_function};
 ghost use Rattle.ap_events.specs.Shapes.{as_defined};
 ghost use Rattle.ap_events.specs.Prepared.{IsPrepared};
-ghost use Rattle.ap_events.specs.Definitions.{formal_in, formal_names, component_forms, guard_forms, translated_all, translated_measure, stub, prepared_definition, translated_parts, translated_definition};
+ghost use Rattle.ap_events.specs.Translating.{formal_in, formal_names, component_forms, guard_forms, translated_all, translated_measure, stub, prepared_definition, translated_parts, translated_definition};
 
 use crate::shapes::Definition;
-use ap_hints::{is_symbol, items, symbol};
 use ap_kernel::nil_term;
 use ap_list::{NoMemory, Seq};
-use ap_reader::Form;
+use ap_reader::{Form, is_symbol, items, symbol};
 use ap_rules::Ruled;
 use ap_term::{Term, copy_symbols};
 use ap_terminate::cases_of;

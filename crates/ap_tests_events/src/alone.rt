@@ -3,7 +3,9 @@
 use crate::working::worked_within;
 use ap_events::Bytes;
 use std::alloc::Global;
+use std::sync::Wait;
 use std::test::Fail;
+use std::thread::Threads;
 
 const FUNCTIONS: &str = r#"(defund p (x) x)
 (defund q (x) x)
@@ -39,17 +41,28 @@ IN-THEORY admitted
 ";
 
 /// Whether a theorem prints this behind the functions, with attempts of at most so many goals.
-fn prints_within(alloc: Global, theorem: &str, goals: u32, expected: &str) -> Result<bool, Fail> {
+fn prints_within<R: Threads + Wait + Sync>(
+    rt: &R,
+    alloc: Global,
+    theorem: &str,
+    goals: u32,
+    expected: &str,
+) -> Result<bool, Fail> {
     let text = format!(in alloc; "{FUNCTIONS}{theorem}")?;
     let wanted = format!(in alloc; "{FUNCTIONS_PRINTED}{expected}")?;
     let mut printed = Bytes::new(alloc);
-    worked_within(alloc, &text, goals, &mut printed)?;
+    worked_within(rt, alloc, &text, goals, &mut printed)?;
     Ok(printed.as_slice() == wanted.as_bytes())
 }
 
 /// The same with at most a hundred goals.
-fn prints(alloc: Global, theorem: &str, expected: &str) -> Result<bool, Fail> {
-    prints_within(alloc, theorem, 100, expected)
+fn prints<R: Threads + Wait + Sync>(
+    rt: &R,
+    alloc: Global,
+    theorem: &str,
+    expected: &str,
+) -> Result<bool, Fail> {
+    prints_within(rt, alloc, theorem, 100, expected)
 }
 
 const ELIMINATED: &str = "DEFTHM E1
@@ -67,6 +80,7 @@ fn the_first_variable_that_is_taken_apart_is_eliminated(rt: HostRuntime) -> Resu
     let alloc = rt.alloc();
     assert!(rt;
         prints(
+            &rt,
             alloc,
             "(defthm e1 (implies (p (car x)) (q (cdr x))))",
             ELIMINATED
@@ -89,6 +103,7 @@ fn a_hypothesis_that_it_is_a_cons_leaves_one_child(rt: HostRuntime) -> Result<()
     let alloc = rt.alloc();
     assert!(rt;
         prints(
+            &rt,
             alloc,
             "(defthm e2 (implies (and (consp x) (p (car x))) (q x)))",
             ELIMINATED_CONS
@@ -121,7 +136,7 @@ DEFTHM E3 refused 8.1 NoScheme
 fn a_name_that_is_taken_is_passed_over(rt: HostRuntime) -> Result<(), Fail> {
     let alloc = rt.alloc();
     let theorem = "(defthm e3 (implies (and (consp x) (p (car x))) (q (app (cdr x) x1))))";
-    assert!(rt; prints(alloc, theorem, ELIMINATED_NEW)?);
+    assert!(rt; prints(&rt, alloc, theorem, ELIMINATED_NEW)?);
     Ok(())
 }
 
@@ -135,7 +150,7 @@ DEFTHM F1 proved
 fn an_equation_is_used_in_the_left_side(rt: HostRuntime) -> Result<(), Fail> {
     let alloc = rt.alloc();
     let theorem = "(defthm f1 (implies (equal (p y) (q x)) (equal (r (p y)) (p x))))";
-    assert!(rt; prints(alloc, theorem, FERTILIZED_LEFT)?);
+    assert!(rt; prints(&rt, alloc, theorem, FERTILIZED_LEFT)?);
     Ok(())
 }
 
@@ -149,7 +164,7 @@ DEFTHM F2 proved
 fn an_equation_is_used_in_the_right_side_first(rt: HostRuntime) -> Result<(), Fail> {
     let alloc = rt.alloc();
     let theorem = "(defthm f2 (implies (equal (p y) (p x)) (equal (q (p y)) (q (p x)))))";
-    assert!(rt; prints(alloc, theorem, FERTILIZED_RIGHT)?);
+    assert!(rt; prints(&rt, alloc, theorem, FERTILIZED_RIGHT)?);
     Ok(())
 }
 
@@ -166,7 +181,7 @@ fn an_equation_with_a_constant_is_not_used(rt: HostRuntime) -> Result<(), Fail> 
     let alloc = rt.alloc();
     let theorem =
         "(defthm f3 (implies (equal (p x) 'a) (equal (r (p x)) (p y))) :rule-classes nil)";
-    assert!(rt; prints(alloc, theorem, NOT_FERTILIZED)?);
+    assert!(rt; prints(&rt, alloc, theorem, NOT_FERTILIZED)?);
     Ok(())
 }
 
@@ -184,7 +199,7 @@ DEFTHM G1 refused 8.1 NoScheme
 fn the_smallest_common_call_is_generalized_first(rt: HostRuntime) -> Result<(), Fail> {
     let alloc = rt.alloc();
     let theorem = "(defthm g1 (implies (p (app (app x y) z)) (q (app (app x y) z))))";
-    assert!(rt; prints(alloc, theorem, GENERALIZED)?);
+    assert!(rt; prints(&rt, alloc, theorem, GENERALIZED)?);
     Ok(())
 }
 
@@ -207,7 +222,7 @@ DEFTHM G2 refused 8.1 NoScheme
 fn a_call_that_is_a_truth_is_not_generalized(rt: HostRuntime) -> Result<(), Fail> {
     let alloc = rt.alloc();
     let theorem = "(defthm g2 (implies (p (true-listp x)) (q (true-listp x))))";
-    assert!(rt; prints(alloc, theorem, NOT_GENERALIZED)?);
+    assert!(rt; prints(&rt, alloc, theorem, NOT_GENERALIZED)?);
     Ok(())
 }
 
@@ -226,6 +241,7 @@ fn what_a_call_answers_restricts_its_variable(rt: HostRuntime) -> Result<(), Fai
     let alloc = rt.alloc();
     assert!(rt;
         prints_within(
+            &rt,
             alloc,
             "(defthm g3 (implies (p (dup x)) (q (dup x))))",
             3,
@@ -248,7 +264,7 @@ DEFTHM I1 refused 8.1 NoScheme
 fn a_part_that_says_nothing_of_the_rest_is_left_out(rt: HostRuntime) -> Result<(), Fail> {
     let alloc = rt.alloc();
     let theorem = "(defthm i1 (implies (and (p x) (q y)) (equal (cons x z) (p z))))";
-    assert!(rt; prints(alloc, theorem, LEFT_OUT)?);
+    assert!(rt; prints(&rt, alloc, theorem, LEFT_OUT)?);
     Ok(())
 }
 
@@ -263,6 +279,13 @@ DEFTHM I2 refused 8.1 NoScheme
 #[test]
 fn where_all_parts_are_irrelevant_none_is_left_out(rt: HostRuntime) -> Result<(), Fail> {
     let alloc = rt.alloc();
-    assert!(rt; prints(alloc, "(defthm i2 (implies (p x) (q y)))", ALL_IRRELEVANT)?);
+    assert!(rt;
+        prints(
+            &rt,
+            alloc,
+            "(defthm i2 (implies (p x) (q y)))",
+            ALL_IRRELEVANT
+        )?
+    );
     Ok(())
 }

@@ -75,7 +75,7 @@ fn linear_arithmetic_decides_with_linear_rules_and_at_most_32_polynomials(
 ) -> Result<(), Fail> {
     let alloc = rt.alloc();
     let mut printed = Bytes::new(alloc);
-    worked(alloc, EVENTS, &mut printed)?;
+    worked(&rt, alloc, EVENTS, &mut printed)?;
     assert_eq!(rt; printed.as_slice(), PRINTED.as_bytes());
     Ok(())
 }

@@ -52,7 +52,7 @@ GUARDED none";
 fn definitions_and_constants_are_admitted_and_found(rt: HostRuntime) -> Result<(), Fail> {
     let alloc = rt.alloc();
     let mut printed = Bytes::new(alloc);
-    let world = worked(alloc, EVENTS, &mut printed)?;
+    let world = worked(&rt, alloc, EVENTS, &mut printed)?;
     assert_eq!(rt; printed.as_slice(), PRINTED.as_bytes());
     for line in FUNCTIONS.lines() {
         let name = line.split(' ').next().unwrap_or("");

@@ -294,13 +294,13 @@ fn a_goal_has_the_hint_for_its_name_and_those_below_what_it_sets(
     rt: HostRuntime,
 ) -> Result<(), Fail> {
     let alloc = rt.alloc();
-    let printed = printed_by(alloc, CASES)?;
+    let printed = printed_by(&rt, alloc, CASES)?;
     assert_eq!(rt; printed.as_slice(), CASES_PRINTED.as_bytes());
-    let printed = printed_by(alloc, ENABLED)?;
+    let printed = printed_by(&rt, alloc, ENABLED)?;
     assert_eq!(rt; printed.as_slice(), ENABLED_PRINTED.as_bytes());
-    let printed = printed_by(alloc, OPENED)?;
+    let printed = printed_by(&rt, alloc, OPENED)?;
     assert_eq!(rt; printed.as_slice(), OPENED_PRINTED.as_bytes());
-    let printed = printed_by(alloc, USED)?;
+    let printed = printed_by(&rt, alloc, USED)?;
     assert_eq!(rt; printed.as_slice(), USED_PRINTED.as_bytes());
     Ok(())
 }
@@ -310,9 +310,9 @@ fn induction_is_forbidden_and_names_that_no_goal_has_are_refused(
     rt: HostRuntime,
 ) -> Result<(), Fail> {
     let alloc = rt.alloc();
-    let printed = printed_by(alloc, FORBIDDEN)?;
+    let printed = printed_by(&rt, alloc, FORBIDDEN)?;
     assert_eq!(rt; printed.as_slice(), FORBIDDEN_PRINTED.as_bytes());
-    let printed = printed_by(alloc, MISNAMED)?;
+    let printed = printed_by(&rt, alloc, MISNAMED)?;
     assert_eq!(rt; printed.as_slice(), MISNAMED_PRINTED.as_bytes());
     Ok(())
 }
@@ -320,7 +320,7 @@ fn induction_is_forbidden_and_names_that_no_goal_has_are_refused(
 #[test]
 fn each_key_of_a_hint_does_what_it_says(rt: HostRuntime) -> Result<(), Fail> {
     let alloc = rt.alloc();
-    let printed = printed_by(alloc, KEYS)?;
+    let printed = printed_by(&rt, alloc, KEYS)?;
     assert_eq!(rt; printed.as_slice(), KEYS_PRINTED.as_bytes());
     Ok(())
 }
@@ -328,7 +328,7 @@ fn each_key_of_a_hint_does_what_it_says(rt: HostRuntime) -> Result<(), Fail> {
 #[test]
 fn hints_that_are_wrong_are_refused_before_any_proof(rt: HostRuntime) -> Result<(), Fail> {
     let alloc = rt.alloc();
-    let printed = printed_by(alloc, REFUSED)?;
+    let printed = printed_by(&rt, alloc, REFUSED)?;
     assert_eq!(rt; printed.as_slice(), REFUSED_PRINTED.as_bytes());
     Ok(())
 }
@@ -336,7 +336,7 @@ fn hints_that_are_wrong_are_refused_before_any_proof(rt: HostRuntime) -> Result<
 #[test]
 fn hints_of_a_function_hold_for_what_it_owes(rt: HostRuntime) -> Result<(), Fail> {
     let alloc = rt.alloc();
-    let printed = printed_by(alloc, OWED)?;
+    let printed = printed_by(&rt, alloc, OWED)?;
     assert_eq!(rt; printed.as_slice(), OWED_PRINTED.as_bytes());
     Ok(())
 }

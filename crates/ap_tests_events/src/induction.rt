@@ -67,7 +67,7 @@ fn functions_on_lists_are_admitted_and_theorems_about_them_inducted(
 ) -> Result<(), Fail> {
     let alloc = rt.alloc();
     let mut printed = Bytes::new(alloc);
-    let world = worked(alloc, EVENTS, &mut printed)?;
+    let world = worked(&rt, alloc, EVENTS, &mut printed)?;
     assert_eq!(rt; printed.as_slice(), PRINTED.as_bytes());
     for line in FUNCTIONS.lines() {
         let name = line.split(' ').next().unwrap_or("");

@@ -103,21 +103,21 @@ DEFTHM RB refused 8.1 NoScheme
 
 #[test]
 fn a_proof_goes_through_each_process_and_a_second_induction(rt: HostRuntime) -> Result<(), Fail> {
-    let printed = printed_by(rt.alloc(), REVERSED)?;
+    let printed = printed_by(&rt, rt.alloc(), REVERSED)?;
     assert_eq!(rt; printed.as_slice(), REVERSED_PRINTED.as_bytes());
     Ok(())
 }
 
 #[test]
 fn elimination_makes_way_for_the_induction_hypothesis(rt: HostRuntime) -> Result<(), Fail> {
-    let printed = printed_by(rt.alloc(), ANNIHILATED)?;
+    let printed = printed_by(&rt, rt.alloc(), ANNIHILATED)?;
     assert_eq!(rt; printed.as_slice(), ANNIHILATED_PRINTED.as_bytes());
     Ok(())
 }
 
 #[test]
 fn what_is_below_a_checkpoint_is_none(rt: HostRuntime) -> Result<(), Fail> {
-    let printed = printed_by(rt.alloc(), UNTRUE)?;
+    let printed = printed_by(&rt, rt.alloc(), UNTRUE)?;
     assert_eq!(rt; printed.as_slice(), UNTRUE_PRINTED.as_bytes());
     Ok(())
 }

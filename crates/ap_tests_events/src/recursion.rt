@@ -101,7 +101,7 @@ fn functions_that_call_themselves_are_admitted_by_their_measure(
 ) -> Result<(), Fail> {
     let alloc = rt.alloc();
     let mut printed = Bytes::new(alloc);
-    let world = worked(alloc, EVENTS, &mut printed)?;
+    let world = worked(&rt, alloc, EVENTS, &mut printed)?;
     assert_eq!(rt; printed.as_slice(), PRINTED.as_bytes());
     for line in FUNCTIONS.lines() {
         let name = line.split(' ').next().unwrap_or("");

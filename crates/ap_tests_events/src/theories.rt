@@ -1,9 +1,8 @@
-ghost use Rattle.std.specs.Prelude.{◌≡◌, IfOk};
+ghost use Rattle.std.specs.Prelude.{IfOk};
 ghost use Rattle.ap_world.specs.Sound.{HasFunctions};
 ghost use Rattle.ap_world.specs.World.{function_of};
-ghost use Rattle.ap_events.specs.Ends.{without_index, world_in};
 
-use ap_events::{Bytes, Form, Limits, NoMemory, Ruled, RuledEnd, work};
+use ap_events::{Bytes, Form, Limits, NoGate, NoMemory, Ruled, work};
 use ap_ground::ground_world;
 use ap_ground::laws::ground_has_its_functions;
 use ap_reader::forms;
@@ -11,7 +10,9 @@ use ap_rules::by_head;
 use ap_value::acl2;
 use ap_world::RuneKind;
 use std::alloc::{AllocError, Global};
+use std::sync::Wait;
 use std::test::Fail;
+use std::thread::Threads;
 
 /// Theorems whose hypotheses say what they conclude, so that they are proved whatever is enabled.
 const EVENTS: &str = r#"(in-theory (disable iff))
@@ -90,49 +91,22 @@ const DISABLED: &str = "(Definition IFF)
 (Linear LESS)
 ";
 
-/// What an event comes to, whether or not it is admitted.
-fn parts(end: RuledEnd) -> (Ruled, Bytes)
-    ensures { result.0 ≡ world_in (without_index end) }
-{
-    match end {
-        RuledEnd::Admitted(next, text) => (next, text),
-        RuledEnd::Refused(same, text) => (same, text),
-    }
-}
-
-/// Does an event in a world, and adds what it prints. Answers the world behind it.
-fn after(
+/// Does the events of a text one after another, past refused ones.
+fn all_events<R: Threads + Wait + Sync>(
+    rt: &R,
     alloc: Global,
-    w: Ruled,
-    form: &Form,
-    limits: &Limits,
-    printed: &mut Bytes,
-) -> Result<Ruled, NoMemory>
-    requires { HasFunctions (function_of w.entries) }
-    ensures { IfOk result (λ v. HasFunctions (function_of v.entries)) }
-{
-    let (world, text) = parts(work(alloc, w, form, limits)?);
-    printed.extend(text.as_slice())?;
-    Ok(world)
-}
-
-/// Does the events of a text one after another, past refused ones. Answers the last world.
-fn all_events(
-    alloc: Global,
-    w: Ruled,
+    w: &mut Ruled,
     list: &[Form],
     limits: &Limits,
     printed: &mut Bytes,
-) -> Result<Ruled, NoMemory>
-    requires { HasFunctions (function_of w.entries) }
+) -> Result<(), NoMemory>
+    requires { HasFunctions (function_of w.old.entries) }
 {
-    match list {
-        [] => Ok(w),
-        [form, rest @ ..] => {
-            let next = after(alloc, w, form, limits, printed)?;
-            all_events(alloc, next, rest, limits, printed)
-        }
+    for form in list {
+        let outcome = work(rt, alloc, w, form, limits, 1, &NoGate)?;
+        printed.extend(outcome.text.as_slice())?;
     }
+    Ok(())
 }
 
 /// The world that every book begins with, and the index of its rules.
@@ -145,15 +119,20 @@ fn first_world(alloc: Global) -> Result<Ruled, NoMemory>
 }
 
 /// The world behind the events, where they print what is wanted.
-fn worked(alloc: Global, printed: &mut Bytes) -> Result<Ruled, NoMemory> {
+fn worked<R: Threads + Wait + Sync>(
+    rt: &R,
+    alloc: Global,
+    printed: &mut Bytes,
+) -> Result<Ruled, NoMemory> {
     let Some(limits) = Limits::new(10000, 10) else {
         return Err(AllocError);
     };
     let Ok(list) = forms(alloc, EVENTS.as_bytes()) else {
         return Err(AllocError);
     };
-    let world = first_world(alloc)?;
-    all_events(alloc, world, list.as_slice(), &limits, printed)
+    let mut world = first_world(alloc)?;
+    all_events(rt, alloc, &mut world, list.as_slice(), &limits, printed)?;
+    Ok(world)
 }
 
 /// A line on a head: the theorems of its rules, newest first.
@@ -199,7 +178,7 @@ fn theorems_give_their_rules_and_names_are_enabled_and_disabled(
 ) -> Result<(), Fail> {
     let alloc = rt.alloc();
     let mut printed = Bytes::new(alloc);
-    let world = worked(alloc, &mut printed)?;
+    let world = worked(&rt, alloc, &mut printed)?;
     assert_eq!(rt; printed.as_slice(), PRINTED.as_bytes());
     for line in RULES.lines() {
         let head = line.split(' ').next().unwrap_or("");

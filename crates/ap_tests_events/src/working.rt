@@ -4,26 +4,29 @@ ghost use Rattle.ap_world.specs.Sound.{HasFunctions};
 ghost use Rattle.ap_world.specs.World.{function_of};
 ghost use Rattle.ap_events.specs.Ends.{world_in};
 
-use ap_events::{Bytes, EventEnd, Form, Limits, NoMemory, World, event};
+use ap_events::{Bytes, EventEnd, Form, Limits, NoGate, NoMemory, World, event};
 use ap_ground::ground_world;
 use ap_ground::laws::ground_has_its_functions;
 use ap_reader::forms;
 use ap_value::acl2;
 use std::alloc::{AllocError, Global};
+use std::sync::Wait;
 use std::test::Fail;
+use std::thread::Threads;
 
 /// What an event comes to, whether or not it is admitted.
 fn parts(end: EventEnd) -> (World, Bytes)
     ensures { result.0 ≡ world_in end }
 {
     match end {
-        EventEnd::Admitted(next, text) => (next, text),
-        EventEnd::Refused(same, text) => (same, text),
+        EventEnd::Admitted(next, text, _) => (next, text),
+        EventEnd::Refused(same, text, _) => (same, text),
     }
 }
 
 /// Does an event in a world, and adds what it prints. Answers the world behind it.
-fn after(
+fn after<R: Threads + Wait + Sync>(
+    rt: &R,
     alloc: Global,
     w: World,
     form: &Form,
@@ -33,13 +36,14 @@ fn after(
     requires { HasFunctions (function_of w.entries) }
     ensures { IfOk result (λ v. HasFunctions (function_of v.entries)) }
 {
-    let (world, text) = parts(event(alloc, w, form, limits)?);
+    let (world, text) = parts(event(rt, alloc, w, form, limits, 1, &NoGate)?);
     printed.extend(text.as_slice())?;
     Ok(world)
 }
 
 /// Does the events of a text one after another, past refused ones. Answers the last world.
-fn all_events(
+fn all_events<R: Threads + Wait + Sync>(
+    rt: &R,
     alloc: Global,
     w: World,
     list: &[Form],
@@ -51,8 +55,8 @@ fn all_events(
     match list {
         [] => Ok(w),
         [form, rest @ ..] => {
-            let next = after(alloc, w, form, limits, printed)?;
-            all_events(alloc, next, rest, limits, printed)
+            let next = after(rt, alloc, w, form, limits, printed)?;
+            all_events(rt, alloc, next, rest, limits, printed)
         }
     }
 }
@@ -66,7 +70,8 @@ fn first_world(alloc: Global) -> Result<World, NoMemory>
 }
 
 /// The world behind a text's events, and what they print, with attempts of at most so many goals.
-pub(crate) fn worked_within(
+pub(crate) fn worked_within<R: Threads + Wait + Sync>(
+    rt: &R,
     alloc: Global,
     text: &str,
     goals: u32,
@@ -79,18 +84,27 @@ pub(crate) fn worked_within(
         return Err(AllocError);
     };
     let world = first_world(alloc)?;
-    all_events(alloc, world, list.as_slice(), &limits, printed)
+    all_events(rt, alloc, world, list.as_slice(), &limits, printed)
 }
 
 /// The same with at most ten goals.
-pub(crate) fn worked(alloc: Global, text: &str, printed: &mut Bytes) -> Result<World, NoMemory> {
-    worked_within(alloc, text, 10, printed)
+pub(crate) fn worked<R: Threads + Wait + Sync>(
+    rt: &R,
+    alloc: Global,
+    text: &str,
+    printed: &mut Bytes,
+) -> Result<World, NoMemory> {
+    worked_within(rt, alloc, text, 10, printed)
 }
 
 /// What a text's events print, with attempts of at most a hundred goals.
-pub(crate) fn printed_by(alloc: Global, text: &str) -> Result<Bytes, NoMemory> {
+pub(crate) fn printed_by<R: Threads + Wait + Sync>(
+    rt: &R,
+    alloc: Global,
+    text: &str,
+) -> Result<Bytes, NoMemory> {
     let mut printed = Bytes::new(alloc);
-    worked_within(alloc, text, 100, &mut printed)?;
+    worked_within(rt, alloc, text, 100, &mut printed)?;
     Ok(printed)
 }
 

@@ -1,6 +1,25 @@
-use Rattle.std.proofs.Common.{rules, ◌≡◌, false}
+use Rattle.std.proofs.Common.{map, string_bytes, sym, subst}
+use Rattle.ap_events.specs.Ends.{walks_in}
+use Rattle.ap_events.specs.Drops.{DividedWalks}
+use Rattle.acl2p.specs.Command.{command_of}
+use Rattle.acl2p.specs.Session.{session, reads_in}
+use Rattle.acl2p.proofs.Soundness.{session_sound}
+use Rattle.acl2p.proofs.Starting.{start_has}
+use Rattle.ap_events.proofs.Telling.{notes_none}
 use Rattle.acl2p.proofs.certifier.certify.Goals as goal
-use Rattle.acl2p.proofs.certifier.certify.Goals.{in-Some, in-None}
 
-pub returns-clause-part : goal.returns-clause-part
-returns-clause-part g c = elim c.match-command_in.branch [ in-Some w ↦ search rules | in-None w ↦ search rules ]
+pub returns-in_default-clause-all_sound : goal.returns-in_default-clause-all_sound
+returns-in_default-clause-all_sound g c =
+    session_sound c.events_are_sound.ensures c.ground_is_sound.ensures (command_of (map string_bytes c.args.words.now)) (reads_in c.no_report.result.books)
+
+pub returns-in_default-clause-drops : goal.returns-in_default-clause-drops
+returns-in_default-clause-drops g c =
+    let told = (session (command_of (map string_bytes c.args.words.now)) (reads_in c.no_report.result.books)).told in
+    subst (λ notes. DividedWalks notes (walks_in told)) (sym c.no_report.ensures.drops) (notes_none told)
+
+pub returns-in-Some-clause-all_sound : goal.returns-in-Some-clause-all_sound
+returns-in-Some-clause-all_sound g c =
+    session_sound c.events_are_sound.ensures c.ground_is_sound.ensures (command_of (map string_bytes c.args.words.now)) (reads_in c.certify_command.result.books)
+
+pub certify_command-requires-clause-functions : goal.certify_command-requires-clause-functions
+certify_command-requires-clause-functions g c κs within = start_has c.in-Ok.world c.in-Ok.ensures

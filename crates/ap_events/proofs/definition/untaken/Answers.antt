@@ -1,33 +1,15 @@
-use Rattle.std.proofs.Common.{Err, ap, subst, ◌∙◌}
-use Rattle.ap_translate.specs.Answers.{Gives}
-use Rattle.ap_events.specs.Shapes.{as_defined}
-use Rattle.ap_events.specs.Definitions.{translated_definition}
-use Rattle.ap_events.proofs.Defining.{functions_as_were, free_as_was, prepared_as_was, follows_as_was, translated_step, untranslated_step}
+use Rattle.std.proofs.Common.{◌≡◌, Ok, IfOk, subst, ap, ◌∙◌}
+use Rattle.ap_world.specs.World.{has_name}
+use Rattle.ap_world.specs.declared.entry.Defun.{Defun}
+use Rattle.ap_events.specs.Prepared.{IsPrepared}
+use Rattle.ap_events.proofs.Standing.{is_definition}
 use Rattle.ap_events.proofs.definition.untaken.Goals as goal
 
-pub admitted-requires-clause-functions : goal.admitted-requires-clause-functions
-admitted-requires-clause-functions c = functions_as_were c.args.w c.translated.new.w c.translated.ensures.same c.requires.functions
-
-pub admitted-requires-clause-free : goal.admitted-requires-clause-free
-admitted-requires-clause-free c =
-    free_as_was c.args.w c.translated.new.w c.args.definition.now.name.now c.in-Ok.d.name c.translated.ensures.same c.in-Ok.ensures.name c.requires.free
-
-pub admitted-requires-clause-prepared : goal.admitted-requires-clause-prepared
-admitted-requires-clause-prepared c = prepared_as_was c.args.w c.translated.new.w c.in-Ok.d c.translated.ensures.same c.in-Ok.ensures.prepared
-
-pub returns-in-Ok-clause-step : goal.returns-in-Ok-clause-step
-returns-in-Ok-clause-step c =
-    translated_step c.admitted.result c.args.limits.now c.args.w c.translated.new.w c.args.definition.now.name.now _ _ c.in-Ok.d c.translated.ensures.same c.in-Ok.ensures.made
-    c.admitted.ensures.step
-
-pub returns-in-Ok-clause-follows : goal.returns-in-Ok-clause-follows
-returns-in-Ok-clause-follows c = follows_as_was c.admitted.result c.args.w c.translated.new.w c.translated.ensures.same c.admitted.ensures.follows
-
-pub returns-in-Err-Fault-clause-step : goal.returns-in-Err-Fault-clause-step
-returns-in-Err-Fault-clause-step c =
-    untranslated_step c.untranslated.result c.args.limits.now c.args.w c.args.definition.now.name.now _ _ _ c.in-Err-Fault.kind
-    (subst (λ r. Gives r (translated_definition c.args.w.entries (as_defined c.args.definition.now))) (c.in-Err-Fault.is ∙ ap Err c.in-Err-Fault.field-0-is) c.translated.ensures.made)
-    c.untranslated.ensures.step
-
-pub returns-in-Err-Fault-clause-follows : goal.returns-in-Err-Fault-clause-follows
-returns-in-Err-Fault-clause-follows c = follows_as_was c.untranslated.result c.args.w c.translated.new.w c.translated.ensures.same c.untranslated.ensures.follows
+pub returns-in-Ok-clause-stands : goal.returns-in-Ok-clause-stands
+returns-in-Ok-clause-stands c =
+    let W = c.args.w.now.entries in
+    let given : c.translated.result ≡ Ok c.in-Ok.d = subst (λ a. IfOk a (λ v. c.translated.result ≡ Ok v)) c.in-Ok.is c.in_ok-d.ensures.same in
+    is_definition c.with_measure.result c.args.w.now c.in-Ok.d
+    (ap (has_name W) (subst (λ a. IfOk a (λ (d : Defun). d.name ≡ c.args.definition.now.name.now)) given c.translated.ensures.name) ∙ c.requires.free)
+    (subst (λ a. IfOk a (IsPrepared W)) given c.translated.ensures.prepared)
+    c.with_measure.ensures.same c.with_measure.ensures.ends

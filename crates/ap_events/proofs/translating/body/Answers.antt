@@ -4,7 +4,7 @@ use Rattle.ap_world.specs.Sound.{known}
 use Rattle.ap_world.specs.World.{Shown, function_of}
 use Rattle.ap_translate.specs.Answers.{Gives}
 use Rattle.ap_translate.specs.Table.{translated}
-use Rattle.ap_events.specs.Definitions.{stub}
+use Rattle.ap_events.specs.Translating.{stub}
 use Rattle.ap_events.proofs.Preparing.{sound_back, back_again, macros_more}
 use Rattle.ap_events.proofs.translating.body.Goals as goal
 

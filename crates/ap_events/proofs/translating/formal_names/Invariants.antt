@@ -1,7 +1,7 @@
 use Rattle.std.proofs.Common.{◌≡◌, true, [], drop}
 use Rattle.ap_list.specs.Lists.{is_distinct}
 use Rattle.ap_value.specs.Values.{symbol_eq}
-use Rattle.ap_events.specs.Definitions.{formal_names}
+use Rattle.ap_events.specs.Translating.{formal_names}
 use Rattle.ap_events.proofs.translating.formal_names.Given as goal
 
 -- what is left tells, and the formals so far are distinct

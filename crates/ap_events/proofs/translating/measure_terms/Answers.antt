@@ -4,7 +4,7 @@ use Rattle.ap_world.specs.Sound.{known}
 use Rattle.ap_world.specs.World.{Shown, function_of}
 use Rattle.ap_translate.specs.Answers.{Gives}
 use Rattle.ap_translate.specs.Laws.{HasMacroFunctions}
-use Rattle.ap_events.specs.Definitions.{translated_all}
+use Rattle.ap_events.specs.Translating.{translated_all}
 use Rattle.ap_events.proofs.Defining.{macro_functions}
 use Rattle.ap_events.proofs.translating.measure_terms.Goals as goal
 

@@ -6,7 +6,7 @@ use Rattle.ap_world.specs.World.{Shown, function_of}
 use Rattle.ap_translate.specs.Answers.{Fails}
 use Rattle.ap_translate.proofs.Fails.{gives_err}
 use Rattle.ap_events.specs.Shapes.{as_defined}
-use Rattle.ap_events.specs.Definitions.{prepared_definition, translated_measure}
+use Rattle.ap_events.specs.Translating.{prepared_definition, translated_measure}
 use Rattle.ap_events.specs.Prepared.{IsPrepared}
 use Rattle.ap_events.proofs.Preparing.{guard_fails, body_fails, measure_fails, parts_given, when_given, is_prepared}
 use Rattle.ap_events.proofs.translating.parts.Goals as goal

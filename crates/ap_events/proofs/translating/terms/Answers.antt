@@ -3,7 +3,7 @@ use Rattle.ap_world.specs.Sound.{known, speaks_of}
 use Rattle.ap_world.specs.World.{function_of}
 use Rattle.ap_translate.specs.Table.{translated}
 use Rattle.ap_translate.proofs.Fails.{gives_err}
-use Rattle.ap_events.specs.Definitions.{translated_all}
+use Rattle.ap_events.specs.Translating.{translated_all}
 use Rattle.ap_events.proofs.Formals.{after_none, after_next, after_fails, after_all, each_next}
 use Rattle.ap_events.proofs.translating.terms.Goals as goal
 

@@ -2,7 +2,7 @@ use Rattle.std.proofs.Common.{◌≡◌, true, drop}
 use Rattle.ap_list.specs.Lists.{Each}
 use Rattle.ap_world.specs.Sound.{known, speaks_of}
 use Rattle.ap_world.specs.World.{function_of}
-use Rattle.ap_events.specs.Definitions.{translated_all}
+use Rattle.ap_events.specs.Translating.{translated_all}
 use Rattle.ap_events.proofs.Formals.{after}
 use Rattle.ap_events.proofs.translating.terms.Given as goal
 

@@ -1,0 +1,54 @@
+#!/bin/bash
+# many_workers.sh [RUNS]: wall time of acl2p with 1, 2 and 4 workers, the medians of so many runs (default 5), on books
+# whose one theorem, an exclusive or of eight variables in two groupings, is split by a hint into 16 and into 64 cases of
+# equal work, and on a book of 1,000 small theorems. Prints a line for each book: the times in milliseconds, and the
+# ratios to one worker. Run it on a machine that does nothing else, with four processors free.
+here=$(cd "$(dirname "$0")/.." && pwd)
+acl2p=${ACL2P:-$here/crates/acl2p/out/acl2p}
+[ -x "$acl2p" ] || { echo "many_workers: no program at $acl2p; build it by ../acl2p" >&2; exit 1; }
+folder=$(mktemp -d)
+trap 'rm -rf "$folder"' EXIT
+cd "$folder" || exit 1
+python3 - <<'END'
+from itertools import product
+XOR = '(defun xo (p q) (if p (if q nil t) (if q t nil)))'
+names = list("abcdefgh")
+
+def right(vs):
+    return vs[0] if len(vs) == 1 else f"(xo {vs[0]} {right(vs[1:])})"
+
+def left(vs):
+    return vs[0] if len(vs) == 1 else f"(xo {left(vs[:-1])} {vs[-1]})"
+
+def wide(file, split):
+    signs = list(product([True, False], repeat=split))[:-1]  # the case in which none holds is the last one
+    cases = " ".join("(and " + " ".join(v if s else f"(not {v})" for v, s in zip(names, sign)) + ")" for sign in signs)
+    with open(file, "w") as out:
+        out.write('(in-package "ACL2")\n' + XOR + "\n")
+        out.write(f'(defthm wide (iff {right(names)} {left(names)}) :hints (("Goal" :cases ({cases}))) :rule-classes nil)\n')
+
+wide("wide16.lisp", 4)
+wide("wide64.lisp", 6)
+with open("small.lisp", "w") as out:
+    out.write('(in-package "ACL2")\n(defun app (x y) (if (consp x) (cons (car x) (app (cdr x) y)) y))\n')
+    for i in range(1000):
+        out.write(f"(defthm s{i} (equal (car (cons x y{i})) x) :rule-classes nil)\n")
+END
+runs=${1:-5}
+python3 - "$acl2p" "$runs" <<'END'
+import statistics, subprocess, sys, time
+program, runs = sys.argv[1], int(sys.argv[2])
+for book in ("wide16", "wide64", "small"):
+    times, texts = {1: [], 2: [], 4: []}, set()
+    for _ in range(runs):
+        for workers in times:
+            began = time.perf_counter()
+            done = subprocess.run([program, "--workers", str(workers), book], capture_output=True)
+            times[workers].append((time.perf_counter() - began) * 1000)
+            texts.add((done.returncode, done.stdout))
+    assert len(texts) == 1, f"{book}: the bytes differ"
+    status = next(iter(texts))[0]
+    middle = {w: statistics.median(t) for w, t in times.items()}
+    print(f"{book}: status {status}; " + ", ".join(f"{w} workers {m:.0f} ms" for w, m in middle.items())
+          + f"; ratios {middle[1] / middle[2]:.2f} with 2, {middle[1] / middle[4]:.2f} with 4")
+END

@@ -1,0 +1,256 @@
+-- The books of a session, one after another.
+use Rattle.std.proofs.Common.{◌≡◌, ◌∙◌, ◌⊎◌, ◌≤◌, ◌<◌, ℕ, zero, suc, Bool, true, false, ◌&&◌, List, [], ◌∷◌, ◌++◌, length, get_or, map, Option, Some, refl, ap, sym, subst, inl, inr, arith}
+use Rattle.std.specs.Prelude.{IfSome}
+use Rattle.ap_outside.specs.Files.{Files, told_at}
+use Rattle.ap_outside.specs.Books.{answer_of}
+use Rattle.ap_outside.specs.Gains.{Gained, GainedPart}
+use Rattle.ap_outside.proofs.Gains.{gained_nothing, gained_more, part_first, part_next, part_all}
+use Rattle.ap_books.specs.declared.admitter.BookSeen.{BookSeen}
+use Rattle.ap_events.specs.declared.limits.Limits.{Limits}
+use Rattle.ap_table.specs.declared.link.DropNote.{DropNote}
+use Rattle.ap_events.specs.Ends.{Told, walks_in}
+use Rattle.ap_events.specs.Drops.{DividedWalks}
+use Rattle.ap_world.specs.World.{Shown}
+use Rattle.acl2p.specs.declared.fault.Fault.{Fault}
+use Rattle.acl2p.specs.declared.fault.Fault.TheVariants as faults
+use Rattle.acl2p.specs.declared.report.Status.TheVariants.{ReadFault, WriteFault}
+use Rattle.acl2p.specs.Command.{Command}
+use Rattle.acl2p.specs.Working.{start}
+use Rattle.acl2p.specs.Admitting.{AdmittingSeen, notes_in, IsTold, Led}
+use Rattle.acl2p.specs.Session.{Session, begun, read_body, book_text, then_book, books_of, reads_in, worked_books, Worked, Kept, Passed, IsNext, Listed, file_name, session, traced, output, fault_status, is_done}
+use Rattle.ap_events.proofs.Telling.{notes_more, notes_none, told_left, told_right}
+
+none_read : (limits : Limits) (s : Session) (names : List (List ℕ)) → books_of limits s names [] ≡ s
+none_read limits s [] = refl
+none_read limits s (n ∷ ns) = refl
+
+-- one book more
+then_one : (limits : Limits) (s : Session) (names : List (List ℕ)) (books : List BookSeen) (name : List ℕ) (book : BookSeen)
+    → length books < length names → name ≡ get_or names (length books) name
+    → books_of limits s names (reads_in (books ++ book ∷ [])) ≡ then_book limits (books_of limits s names (reads_in books)) name book.read
+then_one limits s [] books name book h is = absurd (omega arith)
+then_one limits s (n ∷ ns) [] name book h is =
+    none_read limits (then_book limits s n book.read) ns ∙ ap (λ m. then_book limits s m book.read) (sym is)
+then_one limits s (n ∷ ns) (b ∷ bs) name book h is = then_one limits (then_book limits s n b.read) ns bs name book (omega arith) is
+
+next_listed : (files : Option Files) (names : List (List ℕ)) (books : List BookSeen) (name : List ℕ) (book : BookSeen)
+    → length books < length names → name ≡ get_or names (length books) name → Listed files names books
+    → book.name.0 ≡ name → IfSome (told_at files (file_name name)) (λ found. book.read ≡ answer_of found)
+    → Listed files names (books ++ book ∷ [])
+next_listed files [] books name book h is l e t = absurd (omega arith)
+next_listed files (n ∷ ns) [] name book h is l e t = (e ∙ is, subst (λ m. IfSome (told_at files (file_name m)) (λ found. book.read ≡ answer_of found)) is t, tt)
+next_listed files (n ∷ ns) (b ∷ bs) name book h is l e t = (l.0, l.1, next_listed files ns bs name book (omega arith) is l.2 e t)
+
+-- the names of the books that are listed, where they are as many as the words name
+pub all_listed : (files : Option Files) (names : List (List ℕ)) (books : List BookSeen) → length names ≤ length books → Listed files names books → map (λ b. b.name.0) books ≡ names
+all_listed files [] [] h l = refl
+all_listed files (n ∷ ns) [] h l = absurd (omega arith)
+all_listed files [] (b ∷ bs) h l = absurd l
+all_listed files (n ∷ ns) (b ∷ bs) h l =
+    ap (λ m. m ∷ map (λ c. c.name.0) bs) l.0 ∙ ap (λ ms. n ∷ ms) (all_listed files ns bs (omega arith) l.2)
+
+-- the last of a list
+pub last_one : (books : List BookSeen) (book d : BookSeen) → get_or (books ++ book ∷ []) (length books) d ≡ book
+last_one [] book d = refl
+last_one (b ∷ bs) book d = last_one bs book d
+
+-- the book that was listed last
+pub indexed : (files : Option Files) (name : List ℕ) (books new : List BookSeen) (next : IsNext files name books new) (now : List BookSeen) (i : ℕ) (book : BookSeen)
+    → now ≡ new → i ≡ length books → book ≡ get_or now i book → book ≡ next.book
+indexed files name books new next now i book e k is =
+    is ∙ ap (λ xs. get_or xs i book) (e ∙ next.listed) ∙ ap (λ j. get_or (books ++ next.book ∷ []) j book) k ∙ last_one books next.book book
+
+-- a name of the words at its place
+pub named_at : {A : Type 0} (f : A → List ℕ) (xs : List A) (i : ℕ) (x : A) → i < length xs → x ≡ get_or xs i x → f x ≡ get_or (map f xs) i (f x)
+named_at f [] i x h is = absurd (omega arith)
+named_at f (y ∷ ys) zero x h is = ap f is
+named_at f (y ∷ ys) (suc i) x h is = named_at f ys i x (omega arith) is
+
+pub named_length : {A : Type 0} (f : A → List ℕ) (xs : List A) → length (map f xs) ≡ length xs
+named_length f [] = refl
+named_length f (x ∷ xs) = ap suc (named_length f xs)
+
+-- the books so far
+pub record SoFar (from now : Option (List ℕ)) (files : Option Files) (names : List (List ℕ)) (a b : AdmittingSeen) (books : List BookSeen) (all : Bool) : Type 0 where
+  pub worked : Worked from now (worked_books a names books) all b
+  pub kept : Kept (worked_books a names books) a b
+  pub limits : b.working.limits ≡ a.working.limits
+  pub workers : b.workers ≡ a.workers
+  pub listed : Listed files names books
+
+-- no book
+pub so_far_none : (from : Option (List ℕ)) (files : Option Files) (names : List (List ℕ)) (a : AdmittingSeen) → a.working.world ≡ start → notes_in a ≡ [] → SoFar from from files names a a [] true
+so_far_none from files names a w n =
+    let is = sym (none_read a.working.limits begun names) in
+    record {
+      worked = subst (λ s. Worked from from s true a) is (record { text = gained_nothing from; certified = refl; last = sym w });
+      kept = subst (λ s. Kept s a a) is (record { passed = inl w; drops = n; alone = λ one. n });
+      limits = refl;
+      workers = refl;
+      listed = tt;
+    }
+
+-- the session with one book more
+then_listed : (a : AdmittingSeen) (names : List (List ℕ)) (books : List BookSeen) (name : List ℕ) (book : BookSeen)
+    → length books < length names → name ≡ get_or names (length books) name → book.name.0 ≡ name
+    → worked_books a names (books ++ book ∷ []) ≡ then_book a.working.limits (worked_books a names books) book.name.0 book.read
+then_listed a names books name book h is e =
+    then_one a.working.limits begun names books name book h is ∙ ap (λ n. then_book a.working.limits (worked_books a names books) n book.read) (sym e)
+
+-- what is kept over one book
+then_kept : (s : Session) (a b c : AdmittingSeen) (name : List ℕ) (book : BookSeen) (limits : Limits) → limits ≡ b.working.limits → b.workers ≡ a.workers → Kept s a b
+    → Led b c (read_body b.working.limits book.read).log → Kept (then_book limits s name book.read) a c
+then_kept s a b c name book limits e w k l = record {
+  passed = to k.passed led.world;
+  drops = subst (λ ns. DividedWalks ns (walks_in (s.told ++ log))) (sym led.notes.behind)
+      (notes_more (notes_in b) led.notes.more s.told log k.drops led.notes.divided);
+  alone = λ one. led.notes.behind ∙ none one;
+}
+  where
+    log : List Told
+    log = (read_body limits book.read).log
+
+    led : Led b c log
+    led = subst (λ (m : Limits). Led b c (read_body m book.read).log) (sym e) l
+
+    none : a.workers ≤ 1 → notes_in b ++ led.notes.more ≡ []
+    none one =
+        let p : notes_in b ≡ [] = k.alone one in
+        let q : led.notes.more ≡ [] = led.notes.alone (subst (λ n. n ≤ 1) (sym w) one) in
+        rw (p, q) refl
+
+    to : Passed s b.working.world → (c.working.world ≡ b.working.world) ⊎ ((c.working.world ≡ start) ⊎ IsTold log c.working.world) → (c.working.world ≡ start) ⊎ IsTold (s.told ++ log) c.working.world
+    to p (inr (inl q)) = inl q
+    to p (inr (inr q)) = inr (told_right s.told log c.working.world q)
+    to (inl p) (inl q) = inl (q ∙ p)
+    to (inr p) (inl q) = inr (subst (λ v. IsTold (s.told ++ log) v) (sym q) (told_left s.told log b.working.world p))
+
+-- a book that was worked whole
+pub so_far_more : (from mid now : Option (List ℕ)) (files : Option Files) (names : List (List ℕ)) (a b c : AdmittingSeen) (books new : List BookSeen) (all good : Bool) (name : List ℕ) (book : BookSeen)
+    → length books < length names → name ≡ get_or names (length books) name → (next : IsNext files name books new) → book ≡ next.book
+    → SoFar from mid files names a b books all
+    → Gained mid now (book_text book.name.0 (read_body b.working.limits book.read)) → (read_body b.working.limits book.read).certified ≡ good → (read_body b.working.limits book.read).state ≡ c.working
+    → Led b c (read_body b.working.limits book.read).log → SoFar from now files names a c new (all && good)
+so_far_more from mid now files names a b c books new all good name book h is next same so gained certified last led =
+    let named = ap (λ (k : BookSeen). k.name.0) same ∙ next.named in
+    let s = worked_books a names books in
+    let body = read_body a.working.limits book.read in
+    let limits = so.limits in
+    let list : new ≡ books ++ book ∷ [] = next.listed ∙ ap (λ k. books ++ k ∷ []) (sym same) in
+    let to : worked_books a names new ≡ then_book a.working.limits s book.name.0 book.read =
+    ap (worked_books a names) list ∙ then_listed a names books name book h is named in
+    record {
+      worked = subst (λ t. Worked from now t (all && good) c) (sym to) (record {
+        text = gained_more from mid now s.text (book_text book.name.0 body) so.worked.text
+            (subst (λ (m : Limits). Gained mid now (book_text book.name.0 (read_body m book.read))) limits gained);
+        certified = both so.worked.certified (subst (λ (m : Limits). (read_body m book.read).certified ≡ good) limits certified);
+        last = ap (λ w. w.world) (subst (λ (m : Limits). (read_body m book.read).state ≡ c.working) limits last);
+      });
+      kept = subst (λ t. Kept t a c) (sym to) (then_kept s a b c book.name.0 book a.working.limits (sym limits) so.workers so.kept led);
+      limits = led.limits ∙ limits;
+      workers = led.notes.workers ∙ so.workers;
+      listed = subst (λ l. Listed files names l) (sym list)
+          (next_listed files names books name book h is so.listed named (subst (λ (k : BookSeen). IfSome (told_at files (file_name name)) (λ found. k.read ≡ answer_of found)) (sym same) next.told));
+    }
+  where
+    both : {p q r t : Bool} → p ≡ r → q ≡ t → (p && q) ≡ (r && t)
+    both e f = cc
+
+-- where a fault cut it off
+pub record CutOff (from now : Option (List ℕ)) (files : Option Files) (names : List (List ℕ)) (a c : AdmittingSeen) (books : List BookSeen) : Type 0 where
+  pub part : GainedPart from now (worked_books a names books).text
+  pub kept : Kept (worked_books a names books) a c
+  pub listed : Listed files names books
+
+-- within a book
+pub cut_within : (from mid now : Option (List ℕ)) (files : Option Files) (names : List (List ℕ)) (a b c : AdmittingSeen) (books new : List BookSeen) (all : Bool) (name : List ℕ) (book : BookSeen)
+    → length books < length names → name ≡ get_or names (length books) name → (next : IsNext files name books new) → book ≡ next.book
+    → SoFar from mid files names a b books all
+    → GainedPart mid now (book_text book.name.0 (read_body b.working.limits book.read))
+    → Led b c (read_body b.working.limits book.read).log → CutOff from now files names a c new
+cut_within from mid now files names a b c books new all name book h is next same so part led =
+    let named = ap (λ (k : BookSeen). k.name.0) same ∙ next.named in
+    let s = worked_books a names books in
+    let body = read_body a.working.limits book.read in
+    let limits = so.limits in
+    let list : new ≡ books ++ book ∷ [] = next.listed ∙ ap (λ k. books ++ k ∷ []) (sym same) in
+    let to : worked_books a names new ≡ then_book a.working.limits s book.name.0 book.read =
+    ap (worked_books a names) list ∙ then_listed a names books name book h is named in
+    record {
+      part = subst (λ (t : Session). GainedPart from now t.text) (sym to)
+          (part_next from mid now s.text (book_text book.name.0 body) so.worked.text
+          (subst (λ (m : Limits). GainedPart mid now (book_text book.name.0 (read_body m book.read))) limits part));
+      kept = subst (λ t. Kept t a c) (sym to) (then_kept s a b c book.name.0 book a.working.limits (sym limits) so.workers so.kept led);
+      listed = subst (λ l. Listed files names l) (sym list)
+          (next_listed files names books name book h is so.listed named (subst (λ (k : BookSeen). IfSome (told_at files (file_name name)) (λ found. k.read ≡ answer_of found)) (sym same) next.told));
+    }
+
+-- between two books
+pub cut_between : (from now : Option (List ℕ)) (files : Option Files) (names : List (List ℕ)) (a b : AdmittingSeen) (books new : List BookSeen) (all : Bool)
+    → new ≡ books → SoFar from now files names a b books all → CutOff from now files names a b new
+cut_between from now files names a b books new all e so =
+    subst (λ l. CutOff from now files names a b l) (sym e) (record {
+      part = part_all from now (worked_books a names books).text so.worked.text;
+      kept = so.kept;
+      listed = so.listed;
+    })
+
+-- the session of a command, by what was worked
+command_session : (c : Command) (a : AdmittingSeen) (books new : List BookSeen) → a.working.limits ≡ c.limits → new ≡ books
+    → worked_books a c.books books ≡ session (Some c) (reads_in new)
+command_session c a books new l e =
+    ap (λ m. books_of m begun c.books (reads_in books)) l ∙ ap (λ bs. books_of c.limits begun c.books (reads_in bs)) (sym e)
+
+pub command_text : (from mid now : Option (List ℕ)) (c : Command) (a : AdmittingSeen) (books new : List BookSeen) (drops : List DropNote) → a.working.limits ≡ c.limits → new ≡ books
+    → Gained from mid (worked_books a c.books books).text → Gained mid now (traced (Some c) drops) → Gained from now (output (Some c) (session (Some c) (reads_in new)) drops)
+command_text from mid now c a books new drops l e gained told =
+    subst (λ (s : Session). Gained from now (output (Some c) s drops)) (command_session c a books new l e)
+    (gained_more from mid now (worked_books a c.books books).text (traced (Some c) drops) gained told)
+
+pub command_part : (from mid now : Option (List ℕ)) (c : Command) (a : AdmittingSeen) (books new : List BookSeen) (drops : List DropNote) → a.working.limits ≡ c.limits → new ≡ books
+    → Gained from mid (worked_books a c.books books).text → GainedPart mid now (traced (Some c) drops) → GainedPart from now (output (Some c) (session (Some c) (reads_in new)) drops)
+command_part from mid now c a books new drops l e gained part =
+    subst (λ (s : Session). GainedPart from now (output (Some c) s drops)) (command_session c a books new l e)
+    (part_next from mid now (worked_books a c.books books).text (traced (Some c) drops) gained part)
+
+pub command_cut : (from now : Option (List ℕ)) (c : Command) (a : AdmittingSeen) (books new : List BookSeen) (drops : List DropNote) → a.working.limits ≡ c.limits → new ≡ books
+    → GainedPart from now (worked_books a c.books books).text → GainedPart from now (output (Some c) (session (Some c) (reads_in new)) drops)
+command_cut from now c a books new drops l e part =
+    subst (λ (s : Session). GainedPart from now (output (Some c) s drops)) (command_session c a books new l e)
+    (part_first from now (worked_books a c.books books).text (traced (Some c) drops) part)
+
+pub command_whole : (from now : Option (List ℕ)) (c : Command) (a : AdmittingSeen) (books new : List BookSeen) → a.working.limits ≡ c.limits → new ≡ books
+    → Gained from now (worked_books a c.books books).text → Gained from now (session (Some c) (reads_in new)).text
+command_whole from now c a books new l e gained = subst (λ (s : Session). Gained from now s.text) (command_session c a books new l e) gained
+
+-- what a session tells of drops: all that was noted, or nothing
+pub command_drops : (c : Command) (a b : AdmittingSeen) (books new : List BookSeen) (drops : List DropNote) → a.working.limits ≡ c.limits → new ≡ books
+    → DividedWalks (notes_in b) (walks_in (worked_books a c.books books).told) → (drops ≡ notes_in b) ⊎ (drops ≡ []) → DividedWalks drops (walks_in (session (Some c) (reads_in new)).told)
+command_drops c a b books new drops l e h k = subst (λ (s : Session). DividedWalks drops (walks_in s.told)) (command_session c a books new l e) (go k)
+  where
+    go : (drops ≡ notes_in b) ⊎ (drops ≡ []) → DividedWalks drops (walks_in (worked_books a c.books books).told)
+    go (inl p) = subst (λ ns. DividedWalks ns (walks_in (worked_books a c.books books).told)) (sym p) h
+    go (inr p) = subst (λ ns. DividedWalks ns (walks_in (worked_books a c.books books).told)) (sym p) (notes_none (worked_books a c.books books).told)
+
+-- a fault of reading alone gives its status
+pub only_read : (fault : Fault) → fault_status fault ≡ ReadFault → fault ≡ faults.Read
+only_read faults.Read e = refl
+only_read faults.Write e = absurd cc
+only_read faults.NoMemory e = absurd cc
+
+pub only_write : (fault : Fault) → fault_status fault ≡ WriteFault → fault ≡ faults.Write
+only_write faults.Read e = absurd cc
+only_write faults.Write e = refl
+only_write faults.NoMemory e = absurd cc
+
+-- by a fault no session ends by itself
+pub not_done : (fault : Fault) → is_done (fault_status fault) ≡ false
+not_done faults.Read = refl
+not_done faults.Write = refl
+not_done faults.NoMemory = refl
+
+-- the world that a session was left in
+pub command_passed : (c : Command) (a : AdmittingSeen) (books new : List BookSeen) (w v : Shown) → a.working.limits ≡ c.limits → new ≡ books → v ≡ w
+    → Passed (worked_books a c.books books) w → Passed (session (Some c) (reads_in new)) v
+command_passed c a books new w v l e same h =
+    subst (λ (s : Session). Passed s v) (command_session c a books new l e) (subst (Passed (worked_books a c.books books)) (sym same) h)

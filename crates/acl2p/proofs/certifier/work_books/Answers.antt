@@ -1,0 +1,121 @@
+use Rattle.std.proofs.Common.{◌≡◌, ◌∙◌, ◌<◌, ◌+◌, length, get_or, map, string_bytes, true, refl, ap, sym, subst, arith, length-append, [], ◌∷◌}
+use Rattle.std.proofs.lemmas.Result.{err_from_is_err_and}
+use Rattle.acl2p.specs.Session.{IsNext}
+use Rattle.acl2p.proofs.Sessions.{SoFar, so_far_none, so_far_more, cut_between, cut_within, indexed, named_at, named_length, all_listed}
+use Rattle.acl2p.proofs.certifier.work_books.Goals as goal
+
+pub loop-name-init : goal.loop-name-init
+loop-name-init g c =
+    let content = g.S.Sink.content in
+    let names = map string_bytes c.args.names.now in
+    record {
+      count = ap length c.requires.unread;
+      so_far = subst (λ (books : _). SoFar (content c.args.sink.now) (content c.args.sink.now) (g.L.Library.files c.args.library.now) names c.args.admitting.now c.args.admitting.now books true) (sym c.requires.unread)
+          (so_far_none (content c.args.sink.now) (g.L.Library.files c.args.library.now) names c.args.admitting.now c.requires.begun c.requires.unnoted);
+      files = refl;
+      reads = omega arith;
+      stores = refl;
+      puts = omega arith;
+    }
+
+pub loop-name-preserved : goal.loop-name-preserved
+loop-name-preserved g c =
+    let content = g.S.Sink.content in
+    let files = g.L.Library.files c.args.library.now in
+    let names = map string_bytes c.args.names.now in
+    let books = c.loop-name.books in
+    let new = c.read_next.new.books in
+    let i = c.loop-name.name-index in
+    let name = string_bytes c.name-item.result in
+    let inv = c.loop-name.invariant in
+    let next : IsNext files name books new = subst (λ (fs : _). IsNext fs name books new) inv.files c.in_ok-read_next.ensures.ok in
+    let within : length books < length names = omega (arith, named_length string_bytes c.args.names.now, inv.count) in
+    let at : name ≡ get_or names (length books) name =
+    subst (λ k. name ≡ get_or names k name) (sym inv.count) (named_at string_bytes c.args.names.now i c.name-item.result (omega arith) c.name-item.is) in
+    let book = c.index-as_slice-place.result in
+    let same = indexed files name books new next c.as_slice.result.now c.len-place.result book c.as_slice.ensures c.len-place.ensures c.index-as_slice-place.is in
+    record {
+      count = ap length next.listed ∙ length-append books (next.book ∷ []) ∙ ap (λ k. k + 1) inv.count;
+      so_far = subst (λ (all : _). SoFar (content c.args.sink.now) (content c.work_book.new.sink) files names c.args.admitting.now c.work_book.new.admitting new all) (sym c.both-certified.ensures)
+          (so_far_more (content c.args.sink.now) (content c.loop-name.sink) (content c.work_book.new.sink) files names c.args.admitting.now c.loop-name.admitting c.work_book.new.admitting books new c.loop-name.certified c.in_ok-good.good name book
+          within at next same inv.so_far c.in_ok-good.ensures.text c.in_ok-good.ensures.certified c.in_ok-good.ensures.state c.in_ok-good.ensures.led);
+      files = c.in_ok-read_next.ensures.files ∙ inv.files;
+      reads = let before = inv.reads in let after = c.in_ok-read_next.ensures.later in omega arith;
+      stores = c.in_ok-read_next.ensures.stores ∙ inv.stores;
+      puts = let before = inv.puts in let after = c.in_ok-good.ensures.later in omega arith;
+    }
+
+pub returns-in_err-read_next-clause-part : goal.returns-in_err-read_next-clause-part
+returns-in_err-read_next-clause-part g c =
+    let content = g.S.Sink.content in
+    let p = err_from_is_err_and c.from_residual.result c.from_residual.ensures.1 in
+    rw p.1 (cut_between (content c.args.sink.now) (content c.loop-name.sink) (g.L.Library.files c.args.library.now) (map string_bytes c.args.names.now) c.args.admitting.now c.loop-name.admitting
+    c.loop-name.books c.read_next.new.books c.loop-name.certified c.in_err-read_next.ensures.err c.loop-name.invariant.so_far).part
+
+pub returns-in_err-read_next-clause-kept : goal.returns-in_err-read_next-clause-kept
+returns-in_err-read_next-clause-kept g c =
+    let content = g.S.Sink.content in
+    (cut_between (content c.args.sink.now) (content c.loop-name.sink) (g.L.Library.files c.args.library.now) (map string_bytes c.args.names.now) c.args.admitting.now c.loop-name.admitting
+    c.loop-name.books c.read_next.new.books c.loop-name.certified c.in_err-read_next.ensures.err c.loop-name.invariant.so_far).kept
+
+pub returns-in_err-good-clause-part : goal.returns-in_err-good-clause-part
+returns-in_err-good-clause-part g c =
+    let content = g.S.Sink.content in
+    let files = g.L.Library.files c.args.library.now in
+    let names = map string_bytes c.args.names.now in
+    let books = c.loop-name.books in
+    let new = c.read_next.new.books in
+    let i = c.loop-name.name-index in
+    let name = string_bytes c.name-item.result in
+    let inv = c.loop-name.invariant in
+    let next : IsNext files name books new = subst (λ (fs : _). IsNext fs name books new) inv.files c.in_ok-read_next.ensures.ok in
+    let within : length books < length names = omega (arith, named_length string_bytes c.args.names.now, inv.count) in
+    let at : name ≡ get_or names (length books) name =
+    subst (λ k. name ≡ get_or names k name) (sym inv.count) (named_at string_bytes c.args.names.now i c.name-item.result (omega arith) c.name-item.is) in
+    let book = c.index-as_slice-place.result in
+    let same = indexed files name books new next c.as_slice.result.now c.len-place.result book c.as_slice.ensures c.len-place.ensures c.index-as_slice-place.is in
+    let p = err_from_is_err_and c.from_residual-in_err-good.result c.from_residual-in_err-good.ensures.1 in
+    rw p.1 (cut_within (content c.args.sink.now) (content c.loop-name.sink) (content c.work_book.new.sink) files names c.args.admitting.now c.loop-name.admitting c.work_book.new.admitting books new c.loop-name.certified name book
+    within at next same inv.so_far c.in_err-good.ensures.part c.in_err-good.ensures.led).part
+
+pub returns-in_err-good-clause-kept : goal.returns-in_err-good-clause-kept
+returns-in_err-good-clause-kept g c =
+    let content = g.S.Sink.content in
+    let files = g.L.Library.files c.args.library.now in
+    let names = map string_bytes c.args.names.now in
+    let books = c.loop-name.books in
+    let new = c.read_next.new.books in
+    let i = c.loop-name.name-index in
+    let name = string_bytes c.name-item.result in
+    let inv = c.loop-name.invariant in
+    let next : IsNext files name books new = subst (λ (fs : _). IsNext fs name books new) inv.files c.in_ok-read_next.ensures.ok in
+    let within : length books < length names = omega (arith, named_length string_bytes c.args.names.now, inv.count) in
+    let at : name ≡ get_or names (length books) name =
+    subst (λ k. name ≡ get_or names k name) (sym inv.count) (named_at string_bytes c.args.names.now i c.name-item.result (omega arith) c.name-item.is) in
+    let book = c.index-as_slice-place.result in
+    let same = indexed files name books new next c.as_slice.result.now c.len-place.result book c.as_slice.ensures c.len-place.ensures c.index-as_slice-place.is in
+    (cut_within (content c.args.sink.now) (content c.loop-name.sink) (content c.work_book.new.sink) files names c.args.admitting.now c.loop-name.admitting c.work_book.new.admitting books new c.loop-name.certified name book
+    within at next same inv.so_far c.in_err-good.ensures.part c.in_err-good.ensures.led).kept
+
+pub returns-in_err-good-clause-books : goal.returns-in_err-good-clause-books
+returns-in_err-good-clause-books g c =
+    let content = g.S.Sink.content in
+    let files = g.L.Library.files c.args.library.now in
+    let names = map string_bytes c.args.names.now in
+    let books = c.loop-name.books in
+    let new = c.read_next.new.books in
+    let i = c.loop-name.name-index in
+    let name = string_bytes c.name-item.result in
+    let inv = c.loop-name.invariant in
+    let next : IsNext files name books new = subst (λ (fs : _). IsNext fs name books new) inv.files c.in_ok-read_next.ensures.ok in
+    let within : length books < length names = omega (arith, named_length string_bytes c.args.names.now, inv.count) in
+    let at : name ≡ get_or names (length books) name =
+    subst (λ k. name ≡ get_or names k name) (sym inv.count) (named_at string_bytes c.args.names.now i c.name-item.result (omega arith) c.name-item.is) in
+    let book = c.index-as_slice-place.result in
+    let same = indexed files name books new next c.as_slice.result.now c.len-place.result book c.as_slice.ensures c.len-place.ensures c.index-as_slice-place.is in
+    (cut_within (content c.args.sink.now) (content c.loop-name.sink) (content c.work_book.new.sink) files names c.args.admitting.now c.loop-name.admitting c.work_book.new.admitting books new c.loop-name.certified name book
+    within at next same inv.so_far c.in_err-good.ensures.part c.in_err-good.ensures.led).listed
+
+pub returns-clause-all : goal.returns-clause-all
+returns-clause-all g c =
+    all_listed (g.L.Library.files c.args.library.now) (map string_bytes c.args.names.now) c.loop-name.books (omega (arith, named_length string_bytes c.args.names.now, c.loop-name.invariant.count)) c.loop-name.invariant.so_far.listed

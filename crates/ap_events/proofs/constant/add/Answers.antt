@@ -1,6 +1,0 @@
-use Rattle.std.proofs.Common.{sym, ◌∙◌}
-use Rattle.ap_events.proofs.Refusing.{held_refused}
-use Rattle.ap_events.proofs.constant.add.Goals as goal
-
-pub returns-then-is_taken-clause-step : goal.returns-then-is_taken-clause-step
-returns-then-is_taken-clause-step c = held_refused _ _ _ _ (sym c.is_taken.ensures ∙ c.if-is_taken.true) c.refused.ensures.step

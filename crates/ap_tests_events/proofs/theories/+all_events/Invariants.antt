@@ -1,5 +1,0 @@
-use Rattle.std.proofs.Common.{length}
-use Rattle.ap_tests_events.proofs.theories.+all_events.Given as goal
-
-abbrev pub decreases-all_events : goal.decreases-all_events
-decreases-all_events l = length l.list.now
