@@ -122,6 +122,16 @@
   (implies (natp n) (<= n (sum-to n)))
   :rule-classes :linear)
 
+; Two constants of one sum: ACL2 adds them by itself, and acl2p by these rules.
+(defthm plus-and-minus-one
+  (equal (+ -1 (+ 1 x)) (fix x)))
+
+(defthm minus-one-twice
+  (equal (+ -1 (+ -1 x)) (+ -2 x)))
+
+(defthm minus-two-and-one
+  (equal (+ -2 (+ 1 x)) (+ -1 x)))
+
 ; Even and odd.
 (defun even (n)
   (if (zp n) t (if (equal n 1) nil (even (- n 2)))))

@@ -57,7 +57,8 @@
       (cons (list 'push (ifix x)) nil))))
 
 (defthm run-app
-  (equal (run (app a b) env stack) (run b env (run a env stack))))
+  (equal (run (app a b) env stack) (run b env (run a env stack)))
+  :hints (("Goal" :induct (run a env stack))))
 
 ; The induction goes by both parts of the expression, the second on the stack that the first leaves.
 (defun by-parts (x env stack)

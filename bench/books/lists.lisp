@@ -77,11 +77,17 @@
 
 (defthm len-front
   (implies (and (natp n) (<= n (len x)))
-           (equal (len (front n x)) n)))
+           (equal (len (front n x)) n))
+  :hints (("Goal" :induct (front n x))))
 
 (defthm len-behind
   (implies (and (natp n) (<= n (len x)))
-           (equal (len (behind n x)) (- (len x) n))))
+           (equal (len (behind n x)) (- (len x) n)))
+  :hints (("Goal" :induct (behind n x))))
+
+; Two constants of a sum.
+(defthm plus-and-minus-one
+  (equal (+ -1 (+ 1 x)) (fix x)))
 
 (defthm front-of-len
   (implies (true-listp x) (equal (front (len x) x) x)))
@@ -97,7 +103,7 @@
   (sub x x))
 
 (defthm mem-of-sub
-  (implies (and (sub x y) (mem a x)) (mem a y)))
+  (implies (and (mem a x) (sub x y)) (mem a y)))
 
 (defthm sub-transitive
   (implies (and (sub x y) (sub y z)) (sub x z)))

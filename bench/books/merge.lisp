@@ -64,7 +64,8 @@
 
 (defthm how-often-halved-and-other-half
   (implies (consp x)
-           (equal (+ (how-often a (halved x)) (how-often a (halved (cdr x)))) (how-often a x))))
+           (equal (+ (how-often a (halved x)) (how-often a (halved (cdr x)))) (how-often a x)))
+  :rule-classes :linear)
 
 (defthm how-often-merge-sort
   (equal (how-often a (merge-sort x)) (how-often a x)))
@@ -74,7 +75,8 @@
 
 (defthm len-halved-and-other-half
   (implies (consp x)
-           (equal (+ (len (halved x)) (len (halved (cdr x)))) (len x))))
+           (equal (+ (len (halved x)) (len (halved (cdr x)))) (len x)))
+  :rule-classes :linear)
 
 (defthm len-merge-sort
   (equal (len (merge-sort x)) (len x)))

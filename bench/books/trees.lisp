@@ -69,13 +69,6 @@
 (defthm fringe-mirror
   (equal (fringe (mirror x)) (rev (fringe x))))
 
-; The same with an accumulator.
-(defun fringe-onto (x a)
-  (if (consp x) (fringe-onto (car x) (fringe-onto (cdr x) a)) (cons x a)))
-
-(defthm fringe-onto-is-fringe
-  (equal (fringe-onto x a) (app (fringe x) a)))
-
 (defun leaf-of (a x)
   (if (consp x) (or (leaf-of a (car x)) (leaf-of a (cdr x))) (equal a x)))
 
