@@ -25,19 +25,24 @@
 (defthm rev-rev
   (implies (true-listp x) (equal (rev (rev x)) x)))
 
-; A function that doesn't call itself is opened wherever it comes, so a rule about it never finds it. Disabled, it stays
-; closed, and the rule is used.
-(defun palindrome (x)
-  (equal (rev x) x))
+; The arguments of a call are rewritten before the rules about the call are tried, and where no rule applies a definition
+; is opened. So as long as TWICE is enabled `(len (twice x))` becomes `(len (app x x))`, and a rule about it finds
+; nothing. Disabled, TWICE stays closed, and the rule is used: the last proof needs no other one.
+(defthm len-app
+  (equal (len (app x y)) (+ (len x) (len y))))
 
-(defthm palindrome-of-both
-  (implies (true-listp x) (palindrome (app x (rev x)))))
+(defun twice (x)
+  (app x x))
 
-(in-theory (disable palindrome))
+(defthm len-twice
+  (equal (len (twice x)) (* 2 (len x))))
 
-(defthm palindrome-of-both-again
-  (implies (true-listp y) (or (palindrome (app y (rev y))) (consp z)))
-  :rule-classes nil)
+(in-theory (disable twice))
+
+(defthm len-twice-twice
+  (equal (len (twice (twice x))) (* 4 (len x)))
+  :rule-classes nil
+  :hints (("Goal" :in-theory (disable len-app))))
 
 ; Two rules that undo each other would lead round and round, so one of them is disabled, and enabled where it is wanted.
 (defthmd app-to-the-left

@@ -122,8 +122,10 @@
          (cons (value-of x env) stack)))
 
 ; A value stays the same where a variable that isn't in the expression changes.
+(defun either (p q) (if p p q))
+
 (defun occurs (v x)
-  (if (consp x) (or (occurs v (left x)) (occurs v (right x))) (equal v x)))
+  (if (consp x) (either (occurs v (left x)) (occurs v (right x))) (equal v x)))
 
 (defthm value-of-other-variable
   (implies (not (occurs v x))

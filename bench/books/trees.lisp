@@ -69,8 +69,12 @@
 (defthm fringe-mirror
   (equal (fringe (mirror x)) (rev (fringe x))))
 
+; In acl2p no call of a function itself may stand in a test, and so within `and` and `or` only in the last place.
+(defun both (p q) (if p q nil))
+(defun either (p q) (if p p q))
+
 (defun leaf-of (a x)
-  (if (consp x) (or (leaf-of a (car x)) (leaf-of a (cdr x))) (equal a x)))
+  (if (consp x) (either (leaf-of a (car x)) (leaf-of a (cdr x))) (equal a x)))
 
 (defun mem (a x)
   (if (consp x) (or (equal a (car x)) (mem a (cdr x))) nil))
@@ -115,18 +119,17 @@
     (node a nil nil)))
 
 (defun below (x b)
-  (if (consp x) (and (< (key x) b) (below (left x) b) (below (right x) b)) t))
+  (if (consp x) (and (< (key x) b) (both (below (left x) b) (below (right x) b))) t))
 
 (defun above (x b)
-  (if (consp x) (and (< b (key x)) (above (left x) b) (above (right x) b)) t))
+  (if (consp x) (and (< b (key x)) (both (above (left x) b) (above (right x) b))) t))
 
 (defun search-tree (x)
   (if (consp x)
       (and (integerp (key x))
            (below (left x) (key x))
            (above (right x) (key x))
-           (search-tree (left x))
-           (search-tree (right x)))
+           (both (search-tree (left x)) (search-tree (right x))))
     t))
 
 (defun has (a x)
@@ -135,7 +138,7 @@
     nil))
 
 (defun somewhere (a x)
-  (if (consp x) (or (equal a (key x)) (somewhere a (left x)) (somewhere a (right x))) nil))
+  (if (consp x) (or (equal a (key x)) (either (somewhere a (left x)) (somewhere a (right x)))) nil))
 
 (defthm below-put
   (implies (and (below x b) (< a b)) (below (put a x) b)))
