@@ -36,6 +36,18 @@
 (defthm plus-is-sum
   (equal (plus x y) (+ (nfix x) (nfix y))))
 
+; ACL2 begins without this rule of products, and acl2p with it.
+(defthm swap-factors
+  (equal (* x (* y z)) (* y (* x z)))
+  :hints (("Goal" :use ((:instance associativity-of-*)
+                        (:instance associativity-of-* (x y) (y x)))
+                  :in-theory (disable associativity-of-*))))
+
+; A product is taken apart at its right factor alone.
+(defthm product-of-sum
+  (equal (* (+ x y) z) (+ (* x z) (* y z)))
+  :hints (("Goal" :use ((:instance commutativity-of-* (x (+ x y)) (y z))))))
+
 ; Multiplication by recursion.
 (defun times (x y)
   (if (zp x) 0 (+ (nfix y) (times (- x 1) y))))
@@ -50,10 +62,6 @@
   (implies (and (natp x) (natp y))
            (equal (times x (+ 1 y)) (+ x (times x y)))))
 
-(defthm times-over-sum
-  (implies (and (natp x) (natp y) (natp z))
-           (equal (times x (+ y z)) (+ (times x y) (times x z)))))
-
 (defthm times-is-product
   (implies (and (natp x) (natp y)) (equal (times x y) (* x y))))
 
@@ -61,13 +69,6 @@
   (implies (and (natp x) (natp y))
            (equal (times x y) (times y x)))
   :rule-classes nil)
-
-; ACL2 begins without this rule of products, and acl2p with it.
-(defthm swap-factors
-  (equal (* x (* y z)) (* y (* x z)))
-  :hints (("Goal" :use ((:instance associativity-of-*)
-                        (:instance associativity-of-* (x y) (y x)))
-                  :in-theory (disable associativity-of-*))))
 
 ; Powers.
 (defun power (b e)
@@ -86,10 +87,6 @@
 (defthm power-of-zero
   (implies (not (zp e)) (equal (power 0 e) 0)))
 
-(defthm power-of-product
-  (implies (and (integerp a) (integerp b))
-           (equal (power (* a b) e) (* (power a e) (power b e)))))
-
 ; Sums over the numbers up to n.
 (defun sum-to (n)
   (if (zp n) 0 (+ n (sum-to (- n 1)))))
@@ -104,37 +101,27 @@
 (defthm sum-of-odds-is-square
   (implies (natp n) (equal (sum-of-odds n) (* n n))))
 
-(defun sum-of-squares (n)
-  (if (zp n) 0 (+ (* n n) (sum-of-squares (- n 1)))))
-
-(defthm six-sum-of-squares
-  (implies (natp n)
-           (equal (* 6 (sum-of-squares n)) (* n (+ 1 n) (+ 1 (* 2 n))))))
-
-(defun sum-of-cubes (n)
-  (if (zp n) 0 (+ (* n n n) (sum-of-cubes (- n 1)))))
-
-(defthm four-sum-of-cubes
-  (implies (natp n)
-           (equal (* 4 (sum-of-cubes n)) (* n n (+ 1 n) (+ 1 n)))))
-
 (defthm sum-to-not-below
   (implies (natp n) (<= n (sum-to n)))
   :rule-classes :linear)
 
+; Even and odd.
+(defun even (n)
+  (if (zp n) t (if (equal n 1) nil (even (- n 2)))))
+
+(defthm even-of-next
+  (implies (natp n) (equal (even (+ 1 n)) (not (even n))))
+  :hints (("Goal" :induct (even n))))
+
 ; Two constants of one sum: ACL2 adds them by itself, and acl2p by these rules.
 (defthm plus-and-minus-one
-  (equal (+ -1 (+ 1 x)) (fix x)))
+  (implies (integerp x) (equal (+ -1 (+ 1 x)) x)))
 
 (defthm minus-one-twice
   (equal (+ -1 (+ -1 x)) (+ -2 x)))
 
 (defthm minus-two-and-one
   (equal (+ -2 (+ 1 x)) (+ -1 x)))
-
-; Even and odd.
-(defun even (n)
-  (if (zp n) t (if (equal n 1) nil (even (- n 2)))))
 
 ; An induction from n to n - 1, for what EVEN and HALF say of a sum of two n.
 (defun down (n)
@@ -143,9 +130,6 @@
 (defthm even-of-double
   (implies (natp n) (even (+ n n)))
   :hints (("Goal" :induct (down n))))
-
-(defthm even-of-next
-  (implies (natp n) (equal (even (+ 1 n)) (not (even n)))))
 
 (defthm even-of-sum
   (implies (and (natp m) (natp n) (even m))
@@ -159,45 +143,7 @@
   (implies (natp n) (equal (half (+ n n)) n))
   :hints (("Goal" :induct (down n))))
 
-(defthm half-below
-  (implies (and (natp n) (< 0 n)) (< (half n) n))
-  :rule-classes :linear)
-
 (defthm half-of-even
   (implies (and (natp n) (even n)) (equal (+ (half n) (half n)) n))
-  :rule-classes :linear)
-
-(defthm half-of-odd
-  (implies (and (natp n) (not (even n))) (equal (+ 1 (half n) (half n)) n))
-  :rule-classes :linear)
-
-; The digits of a number in base two, by a recursion that needs that the half is less.
-(defun bits (n)
-  (declare (xargs :measure (nfix n)))
-  (if (zp n) nil (cons (if (even n) 0 1) (bits (half n)))))
-
-(defun number-of (bits)
-  (if (consp bits) (+ (car bits) (number-of (cdr bits)) (number-of (cdr bits))) 0))
-
-(defthm number-of-bits
-  (implies (natp n) (equal (number-of (bits n)) n)))
-
-; Fibonacci's numbers, by two recursive calls and with an accumulator.
-(defun fib (n)
-  (if (zp n) 0 (if (equal n 1) 1 (+ (fib (- n 1)) (fib (- n 2))))))
-
-(defun fib-from (n a b)
-  (if (zp n) a (fib-from (- n 1) b (+ a b))))
-
-(defun down-and-up (n k)
-  (if (zp n) k (down-and-up (- n 1) (+ 1 k))))
-
-(defthm fib-from-is-fib
-  (implies (and (natp n) (natp k))
-           (equal (fib-from n (fib k) (fib (+ 1 k))) (fib (+ n k))))
-  :hints (("Goal" :induct (down-and-up n k)))
-  :rule-classes nil)
-
-(defthm fib-from-start
-  (implies (natp n) (equal (fib-from n 0 1) (fib n)))
-  :hints (("Goal" :use ((:instance fib-from-is-fib (k 0))))))
+  :rule-classes :linear
+  :hints (("Goal" :induct (half n))))

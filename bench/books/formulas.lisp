@@ -116,15 +116,6 @@
             (not (and p12 p22)) (not (and p12 p32)) (not (and p22 p32))))
   :rule-classes nil)
 
-(defthm pigeons-4
-  (not (and (or p11 p12 p13) (or p21 p22 p23) (or p31 p32 p33) (or p41 p42 p43) (not (and p11 p21))
-            (not (and p11 p31)) (not (and p11 p41)) (not (and p21 p31)) (not (and p21 p41))
-            (not (and p31 p41)) (not (and p12 p22)) (not (and p12 p32)) (not (and p12 p42))
-            (not (and p22 p32)) (not (and p22 p42)) (not (and p32 p42)) (not (and p13 p23))
-            (not (and p13 p33)) (not (and p13 p43)) (not (and p23 p33)) (not (and p23 p43))
-            (not (and p33 p43))))
-  :rule-classes nil)
-
 ; Two numbers of so many bits have the same sum in either order: each bit of it, and the last carry.
 (defun sum-bit (a b c)
   (xr a (xr b c)))
@@ -134,19 +125,6 @@
 
 (defthm adder-1
   (and (iff (sum-bit a0 b0 c0) (sum-bit b0 a0 c0)) (iff (carry a0 b0 c0) (carry b0 a0 c0)))
-  :rule-classes nil)
-
-(defthm adder-2
-  (and (iff (sum-bit a0 b0 c0) (sum-bit b0 a0 c0))
-       (iff (sum-bit a1 b1 (carry a0 b0 c0)) (sum-bit b1 a1 (carry b0 a0 c0)))
-       (iff (carry a1 b1 (carry a0 b0 c0)) (carry b1 a1 (carry b0 a0 c0))))
-  :rule-classes nil)
-
-(defthm adder-3
-  (and (iff (sum-bit a0 b0 c0) (sum-bit b0 a0 c0))
-       (iff (sum-bit a1 b1 (carry a0 b0 c0)) (sum-bit b1 a1 (carry b0 a0 c0)))
-       (iff (sum-bit a2 b2 (carry a1 b1 (carry a0 b0 c0))) (sum-bit b2 a2 (carry b1 a1 (carry b0 a0 c0))))
-       (iff (carry a2 b2 (carry a1 b1 (carry a0 b0 c0))) (carry b2 a2 (carry b1 a1 (carry b0 a0 c0)))))
   :rule-classes nil)
 
 ; A choice by so many conditions, of the same thing in each case.

@@ -73,10 +73,3 @@
 (defthm insert-below
   (implies (and (ordered (cons a x)) (true-listp x))
            (equal (insert a x) (cons a x))))
-
-(defthm insertion-sort-of-ordered
-  (implies (and (ordered x) (true-listp x))
-           (equal (insertion-sort x) x)))
-
-(defthm insertion-sort-twice
-  (equal (insertion-sort (insertion-sort x)) (insertion-sort x)))

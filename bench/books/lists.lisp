@@ -87,7 +87,7 @@
 
 ; Two constants of a sum.
 (defthm plus-and-minus-one
-  (equal (+ -1 (+ 1 x)) (fix x)))
+  (implies (integerp x) (equal (+ -1 (+ 1 x)) x)))
 
 (defthm front-of-len
   (implies (true-listp x) (equal (front (len x) x) x)))
@@ -130,7 +130,8 @@
   (iff (mem a (without b x)) (and (mem a x) (not (equal a b)))))
 
 (defthm without-twice
-  (equal (without a (without a x)) (without a x)))
+  (equal (without a (without a x)) (without a x))
+  :hints (("Goal" :do-not '(generalize))))
 
 (defthm without-swap
   (equal (without a (without b x)) (without b (without a x)))
@@ -172,11 +173,13 @@
 
 (defthm firsts-of-pairs
   (implies (and (true-listp x) (equal (len x) (len y)))
-           (equal (firsts (pairs x y)) x)))
+           (equal (firsts (pairs x y)) x))
+  :hints (("Goal" :induct (pairs x y))))
 
 (defthm seconds-of-pairs
   (implies (and (true-listp y) (equal (len x) (len y)))
-           (equal (seconds (pairs x y)) y)))
+           (equal (seconds (pairs x y)) y))
+  :hints (("Goal" :induct (pairs x y))))
 
 (defthm len-pairs
   (equal (len (pairs x y)) (min (len x) (len y))))

