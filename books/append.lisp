@@ -1,3 +1,4 @@
+; Induction: what the lines of a proof by induction are, one induction within another, and going back to the whole.
 (in-package "ACL2")
 
 ; Proved by induction. The first line that it prints of the proof is `Goal push *1`: nothing else applies, so the goal is

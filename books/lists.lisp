@@ -1,3 +1,4 @@
+; Functions that call themselves: a measure that is chosen, one that is given, and what linear arithmetic does for them.
 (in-package "ACL2")
 
 ; A function that calls itself. Its measure is chosen, `(ACL2-COUNT X)`, and `Obligation 1` shows that it falls at the

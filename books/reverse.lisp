@@ -1,3 +1,4 @@
+; The waterfall: what is tried on a goal that simplification leaves as it was.
 (in-package "ACL2")
 
 (defun app (x y)
