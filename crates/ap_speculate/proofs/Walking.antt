@@ -1,6 +1,7 @@
 -- The walk of a list of tasks that is left, one visit after another.
-use Rattle.std.proofs.Common.{◌≡◌, ◌≢◌, ℕ, ◌+◌, ◌<◌, List, [], ◌∷◌, ◌++◌, length, reverse, refl, sym, ◌∙◌, ap, append_assoc, append-nil, arith, length-append}
+use Rattle.std.proofs.Common.{◌≡◌, ◌≢◌, ℕ, ◌+◌, ◌<◌, List, [], ◌∷◌, ◌++◌, length, reverse, refl, sym, ◌∙◌, ap, append_assoc, append-nil, arith, length-append, Option, Some, None}
 use Rattle.std.proofs.lemmas.List.{reverse-append}
+use Rattle.std.specs.Prelude.{IfSome}
 use Rattle.ap_list.specs.Lists.{Each}
 use Rattle.ap_walk.specs.declared.act.Stepped.{Stepped}
 use Rattle.ap_walk.specs.declared.rule.Tally.{Tally}
@@ -31,6 +32,24 @@ module _ {T : Type 0} (rule : Rule) (t : Tally) (m : Visit T) (alone : List (Vis
 pub join_append : {A B : Type 0} (f : A → List B) (xs ys : List A) → join_each f (xs ++ ys) ≡ join_each f xs ++ join_each f ys
 join_append f [] ys = refl
 join_append f (x ∷ xs) ys = ap (λ l. f x ++ l) (join_append f xs ys) ∙ sym (append_assoc (f x) (join_each f xs) (join_each f ys))
+
+-- what stands last in a list of one
+the_one : {T : Type 0} (rest : List T) (x y : T) → rest ++ x ∷ [] ≡ y ∷ [] → x ≡ y
+the_one [] x y h = cc
+the_one (z ∷ rest) x y h = absurd (let l = ap (λ l. length l) h in omega (arith, length-append rest (x ∷ [])))
+
+module _ {T : Type 0} (step : T → Stepped T) where
+  -- a step that was taken before is that of the one task that is left
+  abbrev pub IsFirst : T → List T → Option (Stepped T) → Type 0
+  IsFirst task left first = IfSome first (λ s. (left ≡ task ∷ []) × (s ≡ step task))
+
+  pub first_is_next : (first : Option (Stepped T)) (task next : T) (left rest : List T) → IsFirst task left first → left ≡ rest ++ next ∷ [] → IfSome first (λ s. s ≡ step next)
+  first_is_next None task next left rest is split = tt
+  first_is_next (Some s) task next left rest is split = is.1 ∙ ap step (sym (the_one rest next task (sym split ∙ is.0)))
+
+  pub first_of_one : (first : Option (Stepped T)) (task : T) (none left : List T) → IfSome first (λ s. s ≡ step task) → none ≡ [] → left ≡ none ++ task ∷ [] → IsFirst task left first
+  first_of_one None task none left is nothing pushed = tt
+  first_of_one (Some s) task none left is nothing pushed = (pushed ∙ ap (λ l. l ++ task ∷ []) nothing, is)
 
 module _ {T : Type 0} (step : T → Stepped T) (depth : T → ℕ) where
   -- all marks of the tasks that are left, of which the next one stands last

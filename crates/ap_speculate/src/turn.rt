@@ -4,7 +4,7 @@ ghost use Rattle.ap_walk.specs.Visits.{out_children};
 
 use crate::board::{Board, Shared};
 use crate::gate::Gate;
-use crate::job::{JobEnd, look_at_job, run_job};
+use crate::job::{JobEnd, look_at_job, run_stepped};
 use ap_table::{Claim, GoalTable, Grown, Job};
 use ap_walk::{NoMemory, Out, Step, Stepped};
 use std::alloc::{AllocError, Global};
@@ -23,34 +23,30 @@ fn splits<T>(stepped: &Stepped<T>) -> bool
     }
 }
 
-/// The step of a job's task, where the job's node is to be expanded: it splits into two tasks or more, and fewer than
-/// three families are above the node. The only error is want of memory.
-fn expansion<S: Step>(
-    alloc: Global,
-    step: &S,
-    job: &Job<S::Task>,
-) -> Result<Option<Stepped<S::Task>>, NoMemory>
-    ensures { IfOk result (λ o. IfSome o (λ s. (s ≡ S.step_of job.now.task) × (2 ≤ length (out_children s.out)))) }
+/// Whether a job's node is to be expanded, by its task's step: the task splits into two tasks or more, and fewer than
+/// three families are above the node.
+fn expands<T>(job: &Job<T>, stepped: &Stepped<T>) -> bool
+    ensures { IsTrue result → 2 ≤ length (out_children stepped.now.out) }
 {
-    let stepped = step.step(alloc, &job.task)?;
-    if job.seats.len() >= MOST_FAMILIES || !splits(&stepped) {
-        return Ok(None);
-    }
-    Ok(Some(stepped))
+    job.seats.len() < MOST_FAMILIES && splits(stepped)
 }
 
-/// Walks a claimed job, and puts the walk or drops the job. A job that the table refuses is given up.
+/// Walks a claimed job, whose task's step may have been taken before, and puts the walk or drops the job. A job that the
+/// table refuses is given up.
 fn walk_claimed<S: Step, B: Board<S>, G: Gate, R: Wait>(
     rt: &R,
     alloc: Global,
     step: &S,
     board: &mut B,
     job: Job<S::Task>,
+    first: Option<Stepped<S::Task>>,
     worker: u32,
     gate: &G,
-) -> Result<(), NoMemory> {
+) -> Result<(), NoMemory>
+    requires { IfSome first (λ s. s ≡ S.step_of job.task) }
+{
     let mut job = job;
-    match run_job(rt, alloc, step, &mut job, worker, gate)? {
+    match run_stepped(rt, alloc, step, &mut job, first, worker, gate)? {
         JobEnd::Done(walked) => board.put(step, job, walked),
         JobEnd::Dropped(license) => board.put_drop(step, job, license),
     };
@@ -73,12 +69,13 @@ pub(crate) fn work_claimed<S: Step, B: Board<S>, G: Gate, R: Wait>(
         board.put_drop(step, job, license);
         return Ok(());
     }
-    let Some(stepped) = expansion(alloc, step, &job)? else {
-        return walk_claimed(rt, alloc, step, board, job, worker, gate);
-    };
+    let stepped = step.step(alloc, &job.task)?;
+    if !expands(&job, &stepped) {
+        return walk_claimed(rt, alloc, step, board, job, Some(stepped), worker, gate);
+    }
     match board.expand(alloc, step, job, stepped) {
         Grown::Family { .. } => Ok(()),
-        Grown::Stranger(job, _) => walk_claimed(rt, alloc, step, board, job, worker, gate),
+        Grown::Stranger(job, _) => walk_claimed(rt, alloc, step, board, job, None, worker, gate),
         Grown::NoMemory(..) => Err(AllocError),
     }
 }

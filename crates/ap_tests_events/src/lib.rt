@@ -18,4 +18,6 @@ mod recursion;
 #[cfg(test)]
 mod theories;
 #[cfg(test)]
+mod together;
+#[cfg(test)]
 mod working;

@@ -15,7 +15,7 @@ use std::test::Fail;
 use std::thread::Threads;
 
 /// What an event comes to, whether or not it is admitted.
-fn parts(end: EventEnd) -> (World, Bytes)
+pub(crate) fn parts(end: EventEnd) -> (World, Bytes)
     ensures { result.0 ≡ world_in end }
 {
     match end {
@@ -25,7 +25,7 @@ fn parts(end: EventEnd) -> (World, Bytes)
 }
 
 /// Does an event in a world, and adds what it prints. Answers the world behind it.
-fn after<R: Threads + Wait + Sync>(
+pub(crate) fn after<R: Threads + Wait + Sync>(
     rt: &R,
     alloc: Global,
     w: World,
@@ -62,7 +62,7 @@ fn all_events<R: Threads + Wait + Sync>(
 }
 
 /// The world that every book begins with.
-fn first_world(alloc: Global) -> Result<World, NoMemory>
+pub(crate) fn first_world(alloc: Global) -> Result<World, NoMemory>
     ensures { IfOk result (λ w. HasFunctions (function_of w.entries)) }
 {
     ground_has_its_functions();

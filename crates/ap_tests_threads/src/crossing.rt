@@ -182,6 +182,7 @@ fn two_goals_are_worked_at_a_time(rt: HostRuntime) -> Result<(), Fail> {
     for _ in 0..20 {
         let gate = Holding::new();
         assert!(rt; waterfall_by_two::<Brand, _>(&rt, rt.alloc(), &plan, &gate)? == 6);
+        assert!(rt; gate.has_held());
         assert!(rt; !gate.is_used_up());
     }
     Ok(())

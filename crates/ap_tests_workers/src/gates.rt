@@ -43,6 +43,7 @@ const MOST_TURNS: u32 = 10_000;
 /// that is so, and 1 then.
 #[derive(Drop)]
 pub struct Holding {
+    third_came: AtomicU64,
     second_is_done: AtomicU64,
     used_up: AtomicU64,
 }
@@ -51,9 +52,15 @@ impl Holding {
     /// A gate that nobody has passed.
     pub fn new() -> Holding {
         Holding {
+            third_came: AtomicU64::new(0),
             second_is_done: AtomicU64::new(0),
             used_up: AtomicU64::new(0),
         }
+    }
+
+    /// Whether the third child came to the gate.
+    pub fn has_held(&self) -> bool {
+        self.third_came.load(SeqCst) == 1
     }
 
     /// Whether all turns were used up.
@@ -78,6 +85,7 @@ impl Gate for Holding {
         match place {
             Place::Begin => {
                 if goal == b"Subgoal 3".as_slice() {
+                    self.third_came.store(1, SeqCst);
                     self.hold();
                 }
             }

@@ -6,7 +6,7 @@ use Rattle.ap_walk.proofs.Bounds.{zero_open}
 use Rattle.ap_speculate.specs.Jobs.{Both, Stays, LookedOn}
 use Rattle.ap_speculate.proofs.Pairs.{both_same, both_as}
 use Rattle.ap_speculate.proofs.Seats.{LookedBy, stays_same, no_look, by_stays, by_on, looked_more, looked_less}
-use Rattle.ap_speculate.proofs.Walking.{Visited, all_to_come, goes_on, ends_there, ends_all, one_less, one_longer}
+use Rattle.ap_speculate.proofs.Walking.{IsFirst, Visited, first_of_one, first_is_next, all_to_come, goes_on, ends_there, ends_all, one_less, one_longer}
 use Rattle.ap_speculate.proofs.job.walk.Given.{Over}
 use Rattle.ap_speculate.proofs.job.walk.Goals as goal
 use Rattle.ap_speculate.proofs.job.walk.Goals.{After-look_at_all, In_ok-visit}
@@ -45,6 +45,7 @@ loop-task-init g c = record {
       c.in_ok-push.ensures.items;
   some = inr (let l = ap (λ s. length s) c.in_ok-push.ensures.items in omega (arith, length-append c.new-left.result.items (c.args.task ∷ [])));
   seats = subst (λ l. Both (LookedBy (length l)) c.args.seats.now c.args.seats.now) (sym c.new.ensures) (both_same (LookedBy 0) no_look c.args.seats.now);
+  first = first_of_one g.S.Step.step_of c.args.first c.args.task c.new-left.result.items c.push.new.self.items c.requires c.new-left.ensures.items c.in_ok-push.ensures.items;
 }
 
 pub returns-in-Some-look_at_all-clause-stays : goal.returns-in-Some-look_at_all-clause-stays
@@ -87,6 +88,7 @@ loop-task-preserved g c =
       to_come = goes_on g.S.Step.step_of g.S.Step.depth g.met.S.Step.deeper (visited g v) c.leave.new.left.items c.in-Through.is c.in_ok-leave.ensures;
       some = inl (omega arith);
       seats = seats_looked g v;
+      first = subst (IsFirst g.S.Step.step_of c.args.task c.leave.new.left.items) (sym c.take.ensures.after) tt;
     }
 
 pub returns-clause-stays : goal.returns-clause-stays

@@ -5,7 +5,7 @@ use Rattle.ap_walk.specs.Tallies.{IsOpen}
 use Rattle.ap_walk.specs.Walks.{before, cut, full}
 use Rattle.ap_speculate.specs.Jobs.{Both}
 use Rattle.ap_speculate.proofs.Seats.{LookedBy}
-use Rattle.ap_speculate.proofs.Walking.{marks_left}
+use Rattle.ap_speculate.proofs.Walking.{IsFirst, marks_left}
 use Rattle.ap_speculate.proofs.job.walk.Given as goal
 
 abbrev pub invariant-loop-task : goal.invariant-loop-task
@@ -15,6 +15,7 @@ invariant-loop-task g l = record {
   to_come : before l.so_far.marks (cut l.rule l.so_far.tally (marks_left g.S.Step.step_of g.S.Step.depth l.left.items)) ≡ full g.S.Step.step_of g.S.Step.depth l.rule l.fn.task;
   some : (0 < length l.so_far.marks) ⊎ (0 < length l.left.items);
   seats : Both (LookedBy (length l.so_far.marks)) l.fn.seats l.seats;
+  first : IsFirst g.S.Step.step_of l.fn.task l.left.items l.taken;
 }
 
 abbrev pub decreases-loop-task : goal.decreases-loop-task
