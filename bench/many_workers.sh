@@ -1,18 +1,20 @@
 #!/bin/bash
 # many_workers.sh [RUNS]: wall time of acl2p with 1, 2 and 4 workers, the medians of so many runs (default 5), on books
 # whose one theorem, an exclusive or of eight variables in two groupings, is split by a hint into 16 and into 64 cases of
-# equal work, and on a book of 1,000 small theorems. Prints a line for each book: the times in milliseconds, and the
-# ratios to one worker. Run it on a machine that does nothing else, with four processors free.
+# equal work, beside the one in which none holds, which is nothing; and on a book of 1,000 small theorems. Prints a line
+# for each book: the times in milliseconds, and the ratios to one worker. VARIABLES=N has N variables (2 to 8) in place of
+# eight: with each more a case takes about four times as long. Run it on a machine that does nothing else, with four
+# processors free.
 here=$(cd "$(dirname "$0")/.." && pwd)
 acl2p=${ACL2P:-$here/crates/acl2p/out/acl2p}
 [ -x "$acl2p" ] || { echo "many_workers: no program at $acl2p; build it by ../acl2p" >&2; exit 1; }
 folder=$(mktemp -d)
 trap 'rm -rf "$folder"' EXIT
 cd "$folder" || exit 1
-python3 - <<'END'
-from itertools import product
+python3 - "${VARIABLES:-8}" <<'END'
+import sys
 XOR = '(defun xo (p q) (if p (if q nil t) (if q t nil)))'
-names = list("abcdefgh")
+names = list("abcdefgh")[:int(sys.argv[1])]
 
 def right(vs):
     return vs[0] if len(vs) == 1 else f"(xo {vs[0]} {right(vs[1:])})"
@@ -21,14 +23,14 @@ def left(vs):
     return vs[0] if len(vs) == 1 else f"(xo {left(vs[:-1])} {vs[-1]})"
 
 def wide(file, split):
-    signs = list(product([True, False], repeat=split))[:-1]  # the case in which none holds is the last one
-    cases = " ".join("(and " + " ".join(v if s else f"(not {v})" for v, s in zip(names, sign)) + ")" for sign in signs)
+    cases = " ".join(f"(equal k {i})" for i in range(split))
     with open(file, "w") as out:
         out.write('(in-package "ACL2")\n' + XOR + "\n")
-        out.write(f'(defthm wide (iff {right(names)} {left(names)}) :hints (("Goal" :cases ({cases}))) :rule-classes nil)\n')
+        out.write(f'(defthm wide (implies (or {cases}) (iff {right(names)} {left(names)}))'
+                  f' :hints (("Goal" :cases ({cases}))) :rule-classes nil)\n')
 
-wide("wide16.lisp", 4)
-wide("wide64.lisp", 6)
+wide("wide16.lisp", 16)
+wide("wide64.lisp", 64)
 with open("small.lisp", "w") as out:
     out.write('(in-package "ACL2")\n(defun app (x y) (if (consp x) (cons (car x) (app (cdr x) y)) y))\n')
     for i in range(1000):
