@@ -1,8 +1,11 @@
--- The command's words: for now they name exactly one book, behind the options `--workers N`, `--steps N`, `--goals N` and
--- `--trace` where these are given, in any order.
-use Rattle.std.specs.Prelude.{ℕ, ◌+◌, ◌*◌, ◌-◌, Bool, true, false, cond, not, ◌&&◌, ◌||◌, nat_eq, nat_le, List, [], ◌∷◌, length, map, Option, Some, None, unwrap_or, codes, string_bytes}
+-- The command's words: the names of books, behind the options `--workers N`, `--steps N`, `--goals N` and `--trace` where
+-- these are given, in any order.
+use Rattle.std.specs.Prelude.{ℕ, ◌+◌, ◌*◌, ◌-◌, Bool, true, false, cond, not, ◌&&◌, nat_eq, nat_le, List, [], ◌∷◌, map, Option, Some, None, unwrap_or, Result, Ok, Err, codes, string_bytes}
 use Rattle.std.specs.List.{list_all}
 use Rattle.ap_value.specs.Values.{bytes_eq}
+use Rattle.ap_value.specs.declared.symbol.BookName.{BookName}
+use Rattle.ap_books.specs.declared.planning.PlanError.{PlanError}
+use Rattle.ap_books.specs.Plan.{is_between, plan_of}
 use Rattle.ap_events.specs.declared.limits.Limits.{Limits}
 use Rattle.ap_events.specs.Limits.{limits_of}
 use Rattle.acl2p.specs.declared.command.Command as commands
@@ -12,34 +15,8 @@ use Rattle.acl2p.specs.declared.command.Flag.{Flag}
 use Rattle.acl2p.specs.declared.command.Flag.TheVariants.{Number, Trace}
 use Rattle.acl2p.specs.declared.command.Options.{Options}
 
--- between two codes, both among them
-abbrev pub is_between : ℕ → ℕ → ℕ → Bool
-is_between low high b = nat_le low b && nat_le b high
-
-abbrev pub is_letter : ℕ → Bool
-is_letter b = is_between 97 122 b || is_between 65 90 b
-
 abbrev pub is_digit : ℕ → Bool
 is_digit b = is_between 48 57 b
-
--- a letter, a digit, a hyphen (45) or an underscore (95)
-abbrev pub is_name_byte : ℕ → Bool
-is_name_byte b = is_letter b || is_digit b || nat_eq b 45 || nat_eq b 95
-
--- a book's name doesn't begin with a hyphen
-abbrev pub begins_well : List ℕ → Bool
-begins_well [] = false
-begins_well (b ∷ bs) = not (nat_eq b 45)
-
--- a book's name: 1 to 64 such bytes
-abbrev pub is_book_name : List ℕ → Bool
-is_book_name w = begins_well w && nat_le (length w) 64 && list_all is_name_byte w
-
--- the books that a command may name: so far exactly one
-abbrev pub are_books : List (List ℕ) → Bool
-are_books [] = false
-are_books (w ∷ []) = is_book_name w
-are_books (w ∷ v ∷ ws) = false
 
 -- a number is decimal digits without a sign or a leading zero
 abbrev pub leads : List ℕ → Bool
@@ -113,9 +90,9 @@ abbrev pub command_by : Options → List (List ℕ) → Option Limits → Option
 command_by p ws None = None
 command_by p ws (Some limits) = Some (record { books = ws; limits = limits; workers = unwrap_or p.workers 1; trace = p.trace })
 
--- behind these options the books
+-- behind these options the words that are to name books
 abbrev pub books_command : Options → List (List ℕ) → Option Command
-books_command p ws = cond (are_books ws) (command_by p ws (limits_in p)) None
+books_command p ws = command_by p ws (limits_in p)
 
 abbrev pub go_on : Option Options → (Options → Option Command) → Option Command
 go_on None more = None
@@ -132,14 +109,28 @@ first_word None p w v ws next later = books_command p (w ∷ v ∷ ws)
 first_word (Some Trace) p w v ws next later = go_on (with_trace p) next
 first_word (Some (Number c)) p w v ws next later = go_on (with_number p c v) later
 
--- options, each at most once, and then books
+-- options, each at most once, and then words that are to name books
 abbrev pub command_from : List (List ℕ) → Options → Option Command
 command_from [] p = None
 command_from (w ∷ []) p = last_word (flag_of w) p w
 command_from (w ∷ v ∷ ws) p = first_word (flag_of w) p w v ws (command_from (v ∷ ws)) (command_from ws)
 
+-- these name books: a name at least
+abbrev pub are_some : Result (List BookName) PlanError → Bool
+are_some (Err e) = false
+are_some (Ok []) = false
+are_some (Ok (n ∷ ns)) = true
+
+-- words that name books, 1 to 64 of them, each once
+abbrev pub are_books : List (List ℕ) → Bool
+are_books ws = are_some (plan_of ws)
+
+abbrev pub where_books : Option Command → Option Command
+where_books None = None
+where_books (Some c) = cond (are_books c.books) (Some c) None
+
 abbrev pub command_of : List (List ℕ) → Option Command
-command_of ws = command_from ws no_options
+command_of ws = where_books (command_from ws no_options)
 
 -- the books that the words name
 abbrev pub books_in : Option Command → List (List ℕ)

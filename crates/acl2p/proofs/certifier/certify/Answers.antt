@@ -17,9 +17,18 @@ returns-in_default-clause-drops g c =
     let told = (session (command_of (map string_bytes c.args.words.now)) (reads_in c.no_report.result.books)).told in
     subst (λ notes. DividedWalks notes (walks_in told)) (sym c.no_report.ensures.drops) (notes_none told)
 
-pub returns-in-Some-clause-all_sound : goal.returns-in-Some-clause-all_sound
-returns-in-Some-clause-all_sound g c =
+pub returns-in-Ok-Some-clause-all_sound : goal.returns-in-Ok-Some-clause-all_sound
+returns-in-Ok-Some-clause-all_sound g c =
     session_sound c.events_are_sound.ensures c.ground_is_sound.ensures (command_of (map string_bytes c.args.words.now)) (reads_in c.certify_command.result.books)
 
 pub certify_command-requires-clause-functions : goal.certify_command-requires-clause-functions
 certify_command-requires-clause-functions g c κs within = start_has c.in-Ok.world c.in-Ok.ensures
+
+pub returns-in-Err-clause-all_sound : goal.returns-in-Err-clause-all_sound
+returns-in-Err-clause-all_sound g c =
+    session_sound c.events_are_sound.ensures c.ground_is_sound.ensures (command_of (map string_bytes c.args.words.now)) (reads_in c.no_report-in-Err.result.books)
+
+pub returns-in-Err-clause-drops : goal.returns-in-Err-clause-drops
+returns-in-Err-clause-drops g c =
+    let told = (session (command_of (map string_bytes c.args.words.now)) (reads_in c.no_report-in-Err.result.books)).told in
+    subst (λ notes. DividedWalks notes (walks_in told)) (sym c.no_report-in-Err.ensures.drops) (notes_none told)
