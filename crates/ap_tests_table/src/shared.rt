@@ -1,9 +1,9 @@
 //! The goal table under its lock, on one thread.
 
-use crate::tables::looked;
+use crate::tables::{family_of, looked, splits};
 use crate::trees::{Tree, Trees};
 use ap_table::*;
-use ap_walk::{End, NoMemory, Out, Rule, Step, serial};
+use ap_walk::{End, NoMemory, Rule, Seq, Step, Walked, serial};
 use std::alloc::Global;
 use std::process::Abort;
 use std::sync::Wait;
@@ -32,21 +32,11 @@ pub(crate) fn expand_root(
     job: Job<Tree>,
 ) -> Result<(), NoMemory> {
     let stepped = Trees.step(alloc, &job.task)?;
-    let Out::Split(children) = &stepped.out else {
-        panic!(rt; "a task that doesn't split");
-    };
-    if children.len() < 2 {
-        panic!(rt; "a task that splits into fewer than two");
+    if !splits(&stepped) {
+        panic!(rt; "a task that doesn't split into two or more");
     }
-    let Grown::Family {
-        family,
-        first,
-        count,
-    } = table.expand(rt, alloc, &Trees, job, stepped)
-    else {
-        panic!(rt; "no family");
-    };
-    assert_eq!(rt; (family, first, count), (0, 1, 3));
+    let grown = table.expand(rt, alloc, &Trees, job, stepped);
+    assert_eq!(rt; family_of(grown), Some((0, 1, 3)));
     Ok(())
 }
 
@@ -67,34 +57,81 @@ pub(crate) fn put(
     }
 }
 
-#[test]
-fn the_state_is_what_the_calls_left(rt: HostRuntime) -> Result<(), NoMemory> {
-    let alloc = rt.alloc();
-    let table = begin(alloc, &Trees, Tree::Three, RULE)?;
-    let root = claim(&rt, &table, 0);
-    expand_root(&rt, alloc, &table, root)?;
-    let a = claim(&rt, &table, 1);
-    let b = claim(&rt, &table, 2);
-    let c = claim(&rt, &table, 3);
-    let Claim::Nothing = table.claim(&rt) else {
+/// Puts the serial walk of a job's task, which is kept.
+pub(crate) fn put_kept(
+    rt: &(impl Abort + Wait),
+    alloc: Global,
+    table: &GoalTable<Trees>,
+    job: Job<Tree>,
+) -> Result<(), NoMemory> {
+    assert!(rt; put(rt, alloc, table, job)?);
+    Ok(())
+}
+
+/// Claims three nodes, behind which none is free.
+pub(crate) fn claim_three(
+    rt: &(impl Abort + Wait),
+    table: &GoalTable<Trees>,
+) -> (Job<Tree>, Job<Tree>, Job<Tree>) {
+    let a = claim(rt, table, 1);
+    let b = claim(rt, table, 2);
+    let c = claim(rt, table, 3);
+    let Claim::Nothing = table.claim(rt) else {
         panic!(rt; "a node is free");
     };
-    assert!(rt; put(&rt, alloc, &table, a)?);
-    assert!(rt; put(&rt, alloc, &table, c)?);
+    (a, b, c)
+}
+
+/// Asks to drop a job's node by the root's children, where none of them has a stop. Answers the job.
+pub(crate) fn drop_refused(
+    rt: &(impl Abort + Wait),
+    table: &GoalTable<Trees>,
+    job: Job<Tree>,
+) -> Job<Tree> {
     let license = License {
         family: 0,
         index: 1,
     };
-    let Taken::Stranger(b) = table.put_drop(&rt, &Trees, b, license) else {
+    let Taken::Stranger(job) = table.put_drop(rt, &Trees, job, license) else {
         panic!(rt; "it was dropped");
     };
-    assert!(rt; put(&rt, alloc, &table, b)?);
-    let state = table.into_state();
-    assert_eq!(rt; state.history().len(), 10);
+    job
+}
+
+/// Expands the root, and puts the first of its children, then the last, then the one between, which isn't dropped.
+fn put_three(
+    rt: &(impl Abort + Wait),
+    alloc: Global,
+    table: &GoalTable<Trees>,
+) -> Result<(), NoMemory> {
+    expand_root(rt, alloc, table, claim(rt, table, 0))?;
+    let (a, b, c) = claim_three(rt, table);
+    put_kept(rt, alloc, table, a)?;
+    put_kept(rt, alloc, table, c)?;
+    let b = drop_refused(rt, table, b);
+    put_kept(rt, alloc, table, b)
+}
+
+/// What a table ends with, whose root is done.
+fn finished(
+    rt: &impl Abort,
+    alloc: Global,
+    state: TableState<Trees>,
+) -> Result<(Walked<Tree>, Seq<DropNote>), NoMemory> {
     if !state.root_done(&Trees, &Tree::Three, RULE) {
         panic!(rt; "the root isn't done");
     }
-    let (walked, notes) = state.finish(alloc, &Trees)?;
+    state.finish(alloc, &Trees)
+}
+
+#[test]
+fn the_state_is_what_the_calls_left(rt: HostRuntime) -> Result<(), NoMemory> {
+    let alloc = rt.alloc();
+    let table = begin(alloc, &Trees, Tree::Three, RULE)?;
+    put_three(&rt, alloc, &table)?;
+    let state = table.into_state();
+    assert_eq!(rt; state.history().len(), 10);
+    let (walked, notes) = finished(&rt, alloc, state)?;
     assert_eq!(rt; (walked.marks.len(), walked.end), (4, End::Revert));
     assert_eq!(rt; notes.len(), 0);
     Ok(())

@@ -1,12 +1,13 @@
 //! The rows of the goal table, on one thread.
-ghost use Rattle.std.specs.Prelude.{◌≡◌, ◌≤◌, IfOk, IfSome};
+ghost use Rattle.std.specs.Prelude.{◌≡◌, ◌≤◌, IfOk, IfSome, IsTrue, length};
 ghost use Rattle.ap_list.specs.Lists.{Each};
+ghost use Rattle.ap_walk.specs.Visits.{out_children};
 ghost use Rattle.ap_word.specs.Seats.{seat_view};
 ghost use Rattle.ap_table.specs.Seated.{HasLooked};
 
 use crate::trees::{Tree, Trees};
 use ap_table::*;
-use ap_walk::{End, Mark, NoMemory, Out, Rule, Seq, Step, Walked, serial};
+use ap_walk::{End, Mark, NoMemory, Out, Rule, Seq, Step, Stepped, Walked, serial};
 use std::alloc::Global;
 use std::mem;
 use std::process::Abort;
@@ -27,6 +28,28 @@ fn claim(rt: &impl Abort, table: &mut TableState<Trees>, node: u32) -> Job<Tree>
     job
 }
 
+/// Whether a task splits into two or more.
+pub(crate) fn splits(stepped: &Stepped<Tree>) -> bool
+    ensures { IsTrue result → 2 ≤ length (out_children stepped.now.out) }
+{
+    match &stepped.out {
+        Out::Split(children) => children.len() >= 2,
+        _ => false,
+    }
+}
+
+/// The family of a node that was expanded: its number, that of its first node, and how many these are.
+pub(crate) fn family_of(grown: Grown<Tree>) -> Option<(u32, u32, u32)> {
+    match grown {
+        Grown::Family {
+            family,
+            first,
+            count,
+        } => Some((family, first, count)),
+        _ => None,
+    }
+}
+
 /// Expands a node into its children, whose numbers begin with this one.
 fn expand(
     rt: &impl Abort,
@@ -36,21 +59,11 @@ fn expand(
     wanted: (u32, u32, u32),
 ) -> Result<(), NoMemory> {
     let stepped = Trees.step(alloc, &job.task)?;
-    let Out::Split(children) = &stepped.out else {
-        panic!(rt; "a task that doesn't split");
-    };
-    if children.len() < 2 {
-        panic!(rt; "a task that splits into fewer than two");
+    if !splits(&stepped) {
+        panic!(rt; "a task that doesn't split into two or more");
     }
-    let Grown::Family {
-        family,
-        first,
-        count,
-    } = table.expand_step(alloc, &Trees, job, stepped)
-    else {
-        panic!(rt; "no family");
-    };
-    assert_eq!(rt; (family, first, count), wanted);
+    let grown = table.expand_step(alloc, &Trees, job, stepped);
+    assert_eq!(rt; family_of(grown), Some(wanted));
     Ok(())
 }
 
@@ -140,6 +153,19 @@ fn put_kept(
     Ok(())
 }
 
+/// Puts the serial walk of a job's task, which isn't taken. Answers the job.
+fn put_refused(
+    rt: &impl Abort,
+    alloc: Global,
+    table: &mut TableState<Trees>,
+    job: Job<Tree>,
+) -> Result<Job<Tree>, NoMemory> {
+    let Taken::Stranger(job) = put(rt, alloc, table, job)? else {
+        panic!(rt; "it was put");
+    };
+    Ok(job)
+}
+
 /// Drops a job's node by the family of the root's children and this place, which is kept.
 fn drop_kept(rt: &impl Abort, table: &mut TableState<Trees>, job: Job<Tree>, index: u32) {
     let taken = table.drop_step(&Trees, job, License { family: 0, index });
@@ -189,6 +215,37 @@ fn begun(
     Ok(table)
 }
 
+/// What a table ends with, whose root is done.
+fn finished(
+    rt: &impl Abort,
+    alloc: Global,
+    table: TableState<Trees>,
+    root: Tree,
+) -> Result<(Walked<Tree>, Seq<DropNote>), NoMemory> {
+    if !table.root_done(&Trees, &root, RULE) {
+        panic!(rt; "the root isn't done");
+    }
+    table.finish(alloc, &Trees)
+}
+
+/// Compares the marks and the notes that a table ends with, whose walk pushes two and reverts.
+fn expect_end(
+    rt: &impl Abort,
+    alloc: Global,
+    table: TableState<Trees>,
+    marks: &[(Tree, u32)],
+    dropped: &[(u32, u32, u32)],
+) -> Result<(), NoMemory> {
+    let Some((root, _)) = marks.first() else {
+        panic!(rt; "no marks are expected");
+    };
+    let (walked, notes) = finished(rt, alloc, table, *root)?;
+    expect_marks(rt, walked.marks.as_slice(), marks);
+    assert_eq!(rt; (walked.tally.pushes, walked.end), (2, End::Revert));
+    expect_notes(rt, notes.as_slice(), dropped);
+    Ok(())
+}
+
 const THREE: &[(Tree, u32)] = &[
     (Tree::Three, 3),
     (Tree::Left, 0),
@@ -219,24 +276,47 @@ const DEEP: &[(Tree, u32)] = &[
     (Tree::Right, 0),
 ];
 
+/// Puts a job, by whose seat this is seen, and before which the root isn't done.
+fn put_last(
+    rt: &impl Abort,
+    alloc: Global,
+    table: &mut TableState<Trees>,
+    mut job: Job<Tree>,
+    wanted: u64,
+) -> Result<(), NoMemory> {
+    assert_eq!(rt; seen(rt, &mut job)?, wanted);
+    assert!(rt; !table.root_done(&Trees, &Tree::Three, RULE));
+    put_kept(rt, alloc, table, job)
+}
+
+/// Claims the second and the third node, and puts the third, which is marked, before the second.
+fn put_out_of_order(
+    rt: &impl Abort,
+    alloc: Global,
+    table: &mut TableState<Trees>,
+) -> Result<(), NoMemory> {
+    let b = claim(rt, table, 2);
+    let c = claim(rt, table, 3);
+    put_kept(rt, alloc, table, c)?;
+    assert_eq!(rt; table.history().last().copied(), Some(Entry::Marked(0, 2)));
+    put_last(rt, alloc, table, b, 2)
+}
+
 #[test]
 fn three_walks_out_of_order_make_the_serial_one(rt: HostRuntime) -> Result<(), NoMemory> {
     let alloc = rt.alloc();
     let mut table = begun(&rt, alloc, Tree::Three, ONE_PUT)?;
-    let mut b = claim(&rt, &mut table, 2);
-    let c = claim(&rt, &mut table, 3);
-    put_kept(&rt, alloc, &mut table, c)?;
-    assert_eq!(rt; table.history().last().copied(), Some(Entry::Marked(0, 2)));
-    assert_eq!(rt; seen(&rt, &mut b)?, 2);
-    assert!(rt; !table.root_done(&Trees, &Tree::Three, RULE));
-    put_kept(&rt, alloc, &mut table, b)?;
-    if !table.root_done(&Trees, &Tree::Three, RULE) {
-        panic!(rt; "the root isn't done");
-    }
-    let (walked, notes) = table.finish(alloc, &Trees)?;
-    expect_marks(&rt, walked.marks.as_slice(), THREE);
-    assert_eq!(rt; (walked.tally.pushes, walked.end), (2, End::Revert));
-    expect_notes(&rt, notes.as_slice(), &[]);
+    put_out_of_order(&rt, alloc, &mut table)?;
+    expect_end(&rt, alloc, table, THREE, &[])
+}
+
+/// Claims the second and the third node, which lie behind the stop, and drops them.
+fn drop_behind(rt: &impl Abort, table: &mut TableState<Trees>) -> Result<(), NoMemory> {
+    let mut b = claim(rt, table, 2);
+    let c = claim(rt, table, 3);
+    assert_eq!(rt; seen(rt, &mut b)?, 0);
+    drop_kept(rt, table, c, 1);
+    drop_kept(rt, table, b, 0);
     Ok(())
 }
 
@@ -244,19 +324,8 @@ fn three_walks_out_of_order_make_the_serial_one(rt: HostRuntime) -> Result<(), N
 fn what_lies_behind_a_stop_is_dropped(rt: HostRuntime) -> Result<(), NoMemory> {
     let alloc = rt.alloc();
     let mut table = begun(&rt, alloc, Tree::Deep, ONE_STOPS)?;
-    let mut b = claim(&rt, &mut table, 2);
-    let c = claim(&rt, &mut table, 3);
-    assert_eq!(rt; seen(&rt, &mut b)?, 0);
-    drop_kept(&rt, &mut table, c, 1);
-    drop_kept(&rt, &mut table, b, 0);
-    if !table.root_done(&Trees, &Tree::Deep, RULE) {
-        panic!(rt; "the root isn't done");
-    }
-    let (walked, notes) = table.finish(alloc, &Trees)?;
-    expect_marks(&rt, walked.marks.as_slice(), DEEP);
-    assert_eq!(rt; (walked.tally.pushes, walked.end), (2, End::Revert));
-    expect_notes(&rt, notes.as_slice(), &[(2, 1, 1), (1, 5, 0)]);
-    Ok(())
+    drop_behind(&rt, &mut table)?;
+    expect_end(&rt, alloc, table, DEEP, &[(2, 1, 1), (1, 5, 0)])
 }
 
 #[test]
@@ -281,12 +350,24 @@ fn a_root_that_can_be_expanded_is_not_put(rt: HostRuntime) -> Result<(), NoMemor
     let alloc = rt.alloc();
     let mut table = first(alloc, &Trees, Tree::Three, RULE)?;
     let job = claim(&rt, &mut table, 0);
-    let Taken::Stranger(job) = put(&rt, alloc, &mut table, job)? else {
-        panic!(rt; "it was put");
-    };
+    let job = put_refused(&rt, alloc, &mut table, job)?;
     assert_eq!(rt; table.history().len(), 1);
-    expand(&rt, alloc, &mut table, job, (0, 1, 3))?;
-    Ok(())
+    expand(&rt, alloc, &mut table, job, (0, 1, 3))
+}
+
+/// Hands the second table's job to the first one, which doesn't take it; then puts each job where it was claimed.
+fn put_where_claimed(
+    rt: &impl Abort,
+    alloc: Global,
+    table: &mut TableState<Trees>,
+    other: &mut TableState<Trees>,
+) -> Result<(), NoMemory> {
+    let job = claim(rt, table, 0);
+    let theirs = claim(rt, other, 0);
+    let theirs = put_refused(rt, alloc, table, theirs)?;
+    assert_eq!(rt; table.history().len(), 1);
+    put_kept(rt, alloc, table, job)?;
+    put_kept(rt, alloc, other, theirs)
 }
 
 #[test]
@@ -294,33 +375,63 @@ fn a_job_of_another_table_is_a_stranger(rt: HostRuntime) -> Result<(), NoMemory>
     let alloc = rt.alloc();
     let mut table = first(alloc, &Trees, Tree::Empty, RULE)?;
     let mut other = first(alloc, &Trees, Tree::Left, RULE)?;
-    let job = claim(&rt, &mut table, 0);
-    let theirs = claim(&rt, &mut other, 0);
-    let Taken::Stranger(theirs) = put(&rt, alloc, &mut table, theirs)? else {
-        panic!(rt; "it was put");
+    put_where_claimed(&rt, alloc, &mut table, &mut other)
+}
+
+/// Takes out the one seat that a job has.
+fn only_seat(rt: &impl Abort, job: &mut Job<Tree>) -> AncestorSeat {
+    assert_eq!(rt; job.seats.len(), 1);
+    let Some(seat) = job.seats.pop() else {
+        panic!(rt; "no seat");
     };
-    assert_eq!(rt; table.history().len(), 1);
-    put_kept(&rt, alloc, &mut table, job)?;
-    put_kept(&rt, alloc, &mut other, theirs)?;
-    Ok(())
+    seat
+}
+
+/// Puts a job, to which this seat is given.
+fn put_seated(
+    rt: &impl Abort,
+    alloc: Global,
+    table: &mut TableState<Trees>,
+    mut job: Job<Tree>,
+    seat: AncestorSeat,
+) -> Result<(), NoMemory> {
+    job.seats.push(seat)?;
+    put_kept(rt, alloc, table, job)
+}
+
+/// Claims the second node, which isn't put without its seat, and then with it.
+fn put_once_seated(
+    rt: &impl Abort,
+    alloc: Global,
+    table: &mut TableState<Trees>,
+) -> Result<(), NoMemory> {
+    let mut job = claim(rt, table, 2);
+    let seat = only_seat(rt, &mut job);
+    assert_eq!(rt; (seat.family, seat.place), (0, 1));
+    let job = put_refused(rt, alloc, table, job)?;
+    assert_eq!(rt; table.history().len(), 5);
+    put_seated(rt, alloc, table, job, seat)
 }
 
 #[test]
 fn a_job_has_a_seat_for_each_family_above_it(rt: HostRuntime) -> Result<(), NoMemory> {
     let alloc = rt.alloc();
     let mut table = begun(&rt, alloc, Tree::Three, ONE_PUT)?;
-    let mut job = claim(&rt, &mut table, 2);
-    assert_eq!(rt; job.seats.len(), 1);
-    let Some(seat) = job.seats.pop() else {
-        panic!(rt; "no seat");
-    };
-    assert_eq!(rt; (seat.family, seat.place), (0, 1));
-    let Taken::Stranger(mut job) = put(&rt, alloc, &mut table, job)? else {
-        panic!(rt; "it was put");
-    };
-    assert_eq!(rt; table.history().len(), 5);
-    job.seats.push(seat)?;
-    put_kept(&rt, alloc, &mut table, job)?;
+    put_once_seated(&rt, alloc, &mut table)
+}
+
+/// Claims the second and the third node, and hands in each with the other's seat.
+fn put_swapped(
+    rt: &impl Abort,
+    alloc: Global,
+    table: &mut TableState<Trees>,
+) -> Result<(), NoMemory> {
+    let mut b = claim(rt, table, 2);
+    let mut c = claim(rt, table, 3);
+    mem::swap(&mut b.seats, &mut c.seats);
+    let b = put_refused(rt, alloc, table, b)?;
+    let c = put_refused(rt, alloc, table, c)?;
+    assert_eq!(rt; (b.node, c.node, table.history().len()), (2, 3, 6));
     Ok(())
 }
 
@@ -328,15 +439,5 @@ fn a_job_has_a_seat_for_each_family_above_it(rt: HostRuntime) -> Result<(), NoMe
 fn a_seat_of_another_place_is_a_strangers(rt: HostRuntime) -> Result<(), NoMemory> {
     let alloc = rt.alloc();
     let mut table = begun(&rt, alloc, Tree::Three, ONE_PUT)?;
-    let mut b = claim(&rt, &mut table, 2);
-    let mut c = claim(&rt, &mut table, 3);
-    mem::swap(&mut b.seats, &mut c.seats);
-    let Taken::Stranger(b) = put(&rt, alloc, &mut table, b)? else {
-        panic!(rt; "it was put");
-    };
-    let Taken::Stranger(c) = put(&rt, alloc, &mut table, c)? else {
-        panic!(rt; "it was put");
-    };
-    assert_eq!(rt; (b.node, c.node, table.history().len()), (2, 3, 6));
-    Ok(())
+    put_swapped(&rt, alloc, &mut table)
 }

@@ -1,9 +1,11 @@
 //! Workers that wait for each other at the goal table: the history's length, and what ends a wait.
 
-use crate::shared::{RULE, claim, expand_root, put};
+use crate::shared::{RULE, claim, claim_three, drop_refused, expand_root, put, put_kept};
 use crate::trees::{Tree, Trees};
 use ap_table::*;
 use ap_walk::NoMemory;
+use std::alloc::Global;
+use std::process::Abort;
 use std::sync::Wait;
 use std::thread;
 use std::thread::Threads;
@@ -12,36 +14,51 @@ use std::time::{Clock, Duration};
 /// Long enough for a second thread to come to its wait, in milliseconds.
 const MOMENT: u64 = 50;
 
+/// Compares the length, which whoever saw none of the steps is answered at once.
+fn expect_length(rt: &(impl Abort + Wait), table: &GoalTable<Trees>, wanted: u64) {
+    assert_eq!(rt;
+        (table.length(rt), table.wait_more(rt, 0)),
+        (wanted, wanted)
+    );
+}
+
+/// Claims the root and expands it, each of which is told by the length.
+fn expand_told(
+    rt: &(impl Abort + Wait),
+    alloc: Global,
+    table: &GoalTable<Trees>,
+) -> Result<(), NoMemory> {
+    assert_eq!(rt; table.length(rt), 0);
+    let root = claim(rt, table, 0);
+    expect_length(rt, table, 1);
+    expand_root(rt, alloc, table, root)?;
+    expect_length(rt, table, 2);
+    Ok(())
+}
+
+/// Claims three nodes and puts them, each of which is told by the length; what isn't dropped doesn't change it.
+fn put_told(
+    rt: &(impl Abort + Wait),
+    alloc: Global,
+    table: &GoalTable<Trees>,
+) -> Result<(), NoMemory> {
+    let (a, b, c) = claim_three(rt, table);
+    assert_eq!(rt; table.length(rt), 5);
+    put_kept(rt, alloc, table, a)?;
+    assert_eq!(rt; table.length(rt), 6);
+    let b = drop_refused(rt, table, b);
+    assert_eq!(rt; table.length(rt), 6);
+    put_kept(rt, alloc, table, c)?;
+    assert_eq!(rt; table.wait_more(rt, 6), 8);
+    put_kept(rt, alloc, table, b)
+}
+
 #[test]
 fn the_length_tells_each_step(rt: HostRuntime) -> Result<(), NoMemory> {
     let alloc = rt.alloc();
     let table = begin(alloc, &Trees, Tree::Three, RULE)?;
-    assert_eq!(rt; table.length(&rt), 0);
-    let root = claim(&rt, &table, 0);
-    assert_eq!(rt; (table.length(&rt), table.wait_more(&rt, 0)), (1, 1));
-    expand_root(&rt, alloc, &table, root)?;
-    assert_eq!(rt; (table.length(&rt), table.wait_more(&rt, 0)), (2, 2));
-    let a = claim(&rt, &table, 1);
-    let b = claim(&rt, &table, 2);
-    let c = claim(&rt, &table, 3);
-    let Claim::Nothing = table.claim(&rt) else {
-        panic!(rt; "a node is free");
-    };
-    assert_eq!(rt; table.length(&rt), 5);
-    assert!(rt; put(&rt, alloc, &table, a)?);
-    assert_eq!(rt; table.length(&rt), 6);
-    let license = License {
-        family: 0,
-        index: 1,
-    };
-    let Taken::Stranger(b) = table.put_drop(&rt, &Trees, b, license) else {
-        panic!(rt; "it was dropped");
-    };
-    assert_eq!(rt; table.length(&rt), 6);
-    assert!(rt; put(&rt, alloc, &table, c)?);
-    assert_eq!(rt; table.wait_more(&rt, 6), 8);
-    assert!(rt; put(&rt, alloc, &table, b)?);
-    Ok(())
+    expand_told(&rt, alloc, &table)?;
+    put_told(&rt, alloc, &table)
 }
 
 #[test]
@@ -77,26 +94,53 @@ fn woken<T: Drop, F: FnOnce() -> T + Drop, R: Threads + Wait + Clock + Sync>(
     )
 }
 
+/// Claims the root while a second thread waits for a first step.
+fn claim_while_waited<R: Abort + Threads + Wait + Clock + Sync>(
+    rt: &R,
+    table: &GoalTable<Trees>,
+) -> Result<Job<Tree>, NoMemory> {
+    let (found, root) = woken(rt, table, 0, || claim(rt, table, 0))?;
+    assert_eq!(rt; found, 1);
+    Ok(root)
+}
+
+/// Expands the root, by its job, while a second thread waits for a second step.
+fn expand_while_waited<R: Abort + Threads + Wait + Clock + Sync>(
+    rt: &R,
+    alloc: Global,
+    table: &GoalTable<Trees>,
+    root: Job<Tree>,
+) -> Result<(), NoMemory> {
+    let (found, done) = woken(rt, table, 1, || expand_root(rt, alloc, table, root))?;
+    done?;
+    assert_eq!(rt; found, 2);
+    Ok(())
+}
+
+/// Puts a job while a second thread waits for more than it saw, which is answered this.
+fn put_while_waited<R: Abort + Threads + Wait + Clock + Sync>(
+    rt: &R,
+    alloc: Global,
+    table: &GoalTable<Trees>,
+    job: Job<Tree>,
+    seen: u64,
+    wanted: u64,
+) -> Result<(), NoMemory> {
+    let (found, kept) = woken(rt, table, seen, || put(rt, alloc, table, job))?;
+    assert!(rt; kept?);
+    assert_eq!(rt; found, wanted);
+    Ok(())
+}
+
 #[test]
 fn steps_wake_who_waits(rt: HostRuntime) -> Result<(), NoMemory> {
     let alloc = rt.alloc();
     let table = begin(alloc, &Trees, Tree::Three, RULE)?;
-    let (found, root) = woken(&rt, &table, 0, || claim(&rt, &table, 0))?;
-    assert_eq!(rt; found, 1);
-    let (found, done) = woken(&rt, &table, 1, || expand_root(&rt, alloc, &table, root))?;
-    done?;
-    assert_eq!(rt; found, 2);
-    let a = claim(&rt, &table, 1);
-    let (found, kept) = woken(&rt, &table, 3, || put(&rt, alloc, &table, a))?;
-    assert!(rt; kept?);
-    assert_eq!(rt; found, 4);
+    expand_while_waited(&rt, alloc, &table, claim_while_waited(&rt, &table)?)?;
+    put_while_waited(&rt, alloc, &table, claim(&rt, &table, 1), 3, 4)?;
     let b = claim(&rt, &table, 2);
-    let c = claim(&rt, &table, 3);
-    assert!(rt; put(&rt, alloc, &table, c)?);
-    let (found, kept) = woken(&rt, &table, 99, || put(&rt, alloc, &table, b))?;
-    assert!(rt; kept?);
-    assert_eq!(rt; found, 10);
-    Ok(())
+    put_kept(&rt, alloc, &table, claim(&rt, &table, 3))?;
+    put_while_waited(&rt, alloc, &table, b, 99, 10)
 }
 
 #[test]

@@ -1,11 +1,13 @@
 //! One job, on one thread.
+ghost use Rattle.std.specs.Prelude.{◌≤◌, IsTrue, length};
+ghost use Rattle.ap_walk.specs.Visits.{out_children};
 
 use crate::gates::Passed;
 use crate::tree::{Counting, Task, fresh_step};
 use crate::walks::same_walk;
 use ap_speculate::{JobEnd, run_job};
 use ap_table::{Claim, Grown, Job, License, TableState, Taken, first};
-use ap_walk::{NoMemory, Out, Rule, Step, serial};
+use ap_walk::{NoMemory, Out, Rule, Step, Stepped, serial};
 use std::alloc::Global;
 use std::process::Abort;
 use std::sync::Wait;
@@ -31,6 +33,41 @@ fn claim(rt: &impl Abort, state: &mut TableState<Counting>, node: u32) -> Job<Ta
     job
 }
 
+/// Whether a task splits into two or more.
+fn splits(stepped: &Stepped<Task>) -> bool
+    ensures { IsTrue result → 2 ≤ length (out_children stepped.now.out) }
+{
+    match &stepped.out {
+        Out::Split(children) => children.len() >= 2,
+        _ => false,
+    }
+}
+
+/// Whether a node was expanded.
+fn is_family(grown: Grown<Task>) -> bool {
+    match grown {
+        Grown::Family { .. } => true,
+        _ => false,
+    }
+}
+
+/// Expands the root into its children.
+fn expand(
+    rt: &impl Abort,
+    alloc: Global,
+    step: &Counting,
+    state: &mut TableState<Counting>,
+) -> Result<(), NoMemory> {
+    let root = claim(rt, state, 0);
+    let stepped = step.step(alloc, &root.task)?;
+    if !splits(&stepped) {
+        panic!(rt; "a task that doesn't split into two or more");
+    }
+    let grown = state.expand_step(alloc, step, root, stepped);
+    assert!(rt; is_family(grown), "no family");
+    Ok(())
+}
+
 /// A table of the root and its children.
 fn expanded(
     rt: &impl Abort,
@@ -38,17 +75,7 @@ fn expanded(
     step: &Counting,
 ) -> Result<TableState<Counting>, NoMemory> {
     let mut state = first(alloc, step, STOPPED, RULE)?;
-    let root = claim(rt, &mut state, 0);
-    let stepped = step.step(alloc, &root.task)?;
-    let Out::Split(children) = &stepped.out else {
-        panic!(rt; "a task that doesn't split");
-    };
-    if children.len() < 2 {
-        panic!(rt; "a task that splits into fewer than two");
-    }
-    let Grown::Family { .. } = state.expand_step(alloc, step, root, stepped) else {
-        panic!(rt; "no family");
-    };
+    expand(rt, alloc, step, &mut state)?;
     Ok(state)
 }
 
@@ -71,31 +98,77 @@ fn put<R: Wait>(
     }
 }
 
-#[test]
-fn a_job_behind_a_stop_is_dropped(rt: HostRuntime) -> Result<(), NoMemory> {
-    let alloc = rt.alloc();
-    let step = fresh_step();
-    let gate = Passed::new();
-    let mut state = expanded(&rt, alloc, &step)?;
-    let a = claim(&rt, &mut state, 1);
-    let mut b = claim(&rt, &mut state, 2);
-    let mut c = claim(&rt, &mut state, 3);
-    let JobEnd::Done(walked) = run_job(&rt, alloc, &step, &mut b, 0, &gate)? else {
+/// Works a job before which nothing is marked: its walk is the serial one.
+fn expect_walked<R: Wait + Abort>(
+    rt: &R,
+    alloc: Global,
+    step: &Counting,
+    job: &mut Job<Task>,
+    gate: &Passed,
+) -> Result<(), NoMemory> {
+    let JobEnd::Done(walked) = run_job(rt, alloc, step, job, 0, gate)? else {
         panic!(rt; "nothing is marked, and it was dropped");
     };
-    assert!(rt; same_walk(&walked, &serial(alloc, &step, &b.task, RULE)?));
-    assert!(rt; put(&rt, alloc, &step, &mut state, a, &gate)?);
-    let JobEnd::Dropped(license) = run_job(&rt, alloc, &step, &mut c, 0, &gate)? else {
+    assert!(rt; same_walk(&walked, &serial(alloc, step, &job.task, RULE)?));
+    Ok(())
+}
+
+/// Works a job before which the family stops. Answers its licence.
+fn dropped<R: Wait + Abort>(
+    rt: &R,
+    alloc: Global,
+    step: &Counting,
+    job: &mut Job<Task>,
+    gate: &Passed,
+) -> Result<License, NoMemory> {
+    let JobEnd::Dropped(license) = run_job(rt, alloc, step, job, 0, gate)? else {
         panic!(rt; "the family stops before it, and it was walked");
     };
+    Ok(license)
+}
+
+/// Works the third job, which lies behind the stop, and drops it.
+fn drop_last<R: Wait + Abort>(
+    rt: &R,
+    alloc: Global,
+    step: &Counting,
+    state: &mut TableState<Counting>,
+    mut job: Job<Task>,
+    gate: &Passed,
+) -> Result<(), NoMemory> {
+    let license = dropped(rt, alloc, step, &mut job, gate)?;
     let wanted = License {
         family: 0,
         index: 0,
     };
     assert_eq!(rt; license, wanted);
     assert_eq!(rt; gate.counts(), (3, 2));
-    let Taken::Kept = state.drop_step(&step, c, license) else {
+    let Taken::Kept = state.drop_step(step, job, license) else {
         panic!(rt; "it wasn't dropped");
     };
     Ok(())
+}
+
+/// Claims the three children, works the second, puts the first, which stops, and drops the third.
+fn work_children<R: Wait + Abort>(
+    rt: &R,
+    alloc: Global,
+    step: &Counting,
+    state: &mut TableState<Counting>,
+    gate: &Passed,
+) -> Result<(), NoMemory> {
+    let a = claim(rt, state, 1);
+    let mut b = claim(rt, state, 2);
+    let c = claim(rt, state, 3);
+    expect_walked(rt, alloc, step, &mut b, gate)?;
+    assert!(rt; put(rt, alloc, step, state, a, gate)?);
+    drop_last(rt, alloc, step, state, c, gate)
+}
+
+#[test]
+fn a_job_behind_a_stop_is_dropped(rt: HostRuntime) -> Result<(), NoMemory> {
+    let step = fresh_step();
+    let gate = Passed::new();
+    let mut state = expanded(&rt, rt.alloc(), &step)?;
+    work_children(&rt, rt.alloc(), &step, &mut state, &gate)
 }
