@@ -4,7 +4,7 @@ use ap_speculate::{Gate, Place};
 use std::sync::Wait;
 use std::sync::atomic::AtomicU64;
 use std::sync::atomic::Ordering::SeqCst;
-use std::thread;
+use std::time::Duration;
 
 /// Counts how often each place was passed.
 #[derive(Drop)]
@@ -39,6 +39,10 @@ impl Gate for Passed {
 /// For how many turns a job is held at most.
 const MOST_TURNS: u32 = 10_000;
 
+/// How long a turn lasts at most, in microseconds: so that on a busy machine the other worker comes to its job within the
+/// turns.
+const A_TURN: u64 = 500;
+
 /// Holds the third child of a task back until the second one is done, for 10,000 turns at most. Each word is 0 until
 /// that is so, and 1 then.
 #[derive(Drop)]
@@ -69,29 +73,31 @@ impl Holding {
     }
 
     /// Waits until the second child is done.
-    fn hold(&self) {
+    fn hold<R: Wait>(&self, rt: &R) {
         for _ in 0..MOST_TURNS {
             if self.second_is_done.load(SeqCst) == 1 {
                 return;
             }
-            thread::yield_now();
+            self.second_is_done
+                .park_timeout(rt, 0, Duration::from_micros(A_TURN));
         }
         self.used_up.store(1, SeqCst);
     }
 }
 
 impl Gate for Holding {
-    fn pass<R: Wait>(&self, _rt: &R, _worker: u32, goal: &[u8], place: Place) {
+    fn pass<R: Wait>(&self, rt: &R, _worker: u32, goal: &[u8], place: Place) {
         match place {
             Place::Begin => {
                 if goal == b"Subgoal 3".as_slice() {
                     self.third_came.store(1, SeqCst);
-                    self.hold();
+                    self.hold(rt);
                 }
             }
             Place::Done => {
                 if goal == b"Subgoal 2".as_slice() {
                     self.second_is_done.store(1, SeqCst);
+                    self.second_is_done.wake_one();
                 }
             }
         }
