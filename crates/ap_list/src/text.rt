@@ -40,15 +40,56 @@ impl Fixed {
     }
 }
 
-/// Where the bytes of a text lie: in the program itself, or in memory that copies share.
+/// The most bytes that a text holds in itself.
+const MOST_SHORT: usize = 15;
+
+/// Up to 15 bytes, which copies don't share: a copy touches no count of owners, for which threads would wait.
+#[derive(Clone, Copy, Debug)]
+struct Short {
+    bytes: [u8; 15],
+    length: u8,
+}
+
+impl Short {
+    ghost use Rattle.std.specs.Prelude.{◌<◌, IfSome, IfNone};
+    ghost use Rattle.ap_list.specs.Texts.{short_bytes};
+
+    /// The bytes, where they are few enough.
+    fn of(bytes: &[u8]) -> Option<Short>
+        ensures some { IfSome result (λ s. short_bytes s ≡ bytes.now) }
+        ensures none { IfNone result (15 < length bytes.now) }
+    {
+        let length = bytes.len();
+        if length > MOST_SHORT {
+            return None;
+        }
+        let mut room = [0; 15];
+        room[..length].copy_from_slice(bytes);
+        Some(Short {
+            bytes: room,
+            length: length as u8,
+        })
+    }
+
+    /// The bytes, lent.
+    fn as_slice(&self) -> &[u8]
+        ensures { result.now ≡ short_bytes self.now }
+    {
+        &self.bytes[..usize::from(self.length).min(MOST_SHORT)]
+    }
+}
+
+/// Where the bytes of a text lie: in the program itself, in the text, or in memory that copies share.
 #[derive(Debug, Drop)]
 enum Held {
     Fixed(Fixed),
+    Short(Short),
     Shared(SharedSeq<u8>),
 }
 
-/// A list of bytes that copies share: a symbol's name, a string's codes. One that the program itself has takes no
-/// memory; it is told by a number, so that no type that holds texts holds a reference. Contracts see the bytes.
+/// A list of bytes: a symbol's name, a string's codes. One that the program itself has takes no memory; it is told by a
+/// number, so that no type that holds texts holds a reference. One of up to 15 bytes lies in the text itself, and a longer
+/// one in memory that copies share. Contracts see the bytes.
 #[derive(Debug)]
 pub struct Text {
     held: Held,
@@ -85,11 +126,14 @@ impl Text {
         }
     }
 
-    /// Moves bytes to where they can be shared.
+    /// A text of bytes, which are moved to where they can be shared if they are more than 15.
     pub fn new(alloc: Global, bytes: Seq<u8>) -> Result<Text, AllocError>
         ensures { IfOk result (λ t. t ≡ bytes) }
     {
-        let held = Held::Shared(SharedSeq::new(alloc, bytes)?);
+        let held = match Short::of(bytes.as_slice()) {
+            Some(short) => Held::Short(short),
+            None => Held::Shared(SharedSeq::new(alloc, bytes)?),
+        };
         Ok(Text { held })
     }
 
@@ -99,6 +143,7 @@ impl Text {
     {
         match &self.held {
             Held::Fixed(name) => name.bytes(),
+            Held::Short(short) => short.as_slice(),
             Held::Shared(bytes) => bytes.as_slice(),
         }
     }
@@ -124,6 +169,7 @@ impl Text {
     {
         let held = match &self.held {
             Held::Fixed(name) => Held::Fixed(*name),
+            Held::Short(short) => Held::Short(*short),
             Held::Shared(bytes) => Held::Shared(bytes.share()?),
         };
         Ok(Text { held })
