@@ -1,4 +1,4 @@
-ghost use Rattle.std.specs.Prelude.{◌≡◌, ◌-◌, ◌∷◌, [], ◌++◌, List, Some, OnOk, OnErr, IfOk, length, map, take, true};
+ghost use Rattle.std.specs.Prelude.{◌≡◌, ◌-◌, ◌≤◌, ◌∷◌, [], ◌++◌, List, Some, OnOk, OnErr, IfOk, length, map, take, true};
 ghost use Rattle.ap_list.specs.Lists.{Each};
 ghost use Rattle.ap_term.specs.declared.term.Term.{out-Term};
 ghost use Rattle.ap_world.specs.declared.entry.Entry.{Entry};
@@ -235,6 +235,27 @@ impl Carrier {
     {
         let rules = entry_rules(alloc, entry)?;
         self.add(alloc, rules)
+    }
+
+    /// Adds the rules of the entries from a place on, where it has those of the entries before. Where memory is
+    /// refused these stay.
+    pub(crate) fn add_from(
+        &mut self,
+        alloc: Global,
+        entries: &[Entry],
+        start: usize,
+    ) -> Result<(), NoMemory>
+        requires { start ≤ length entries.now }
+        ensures ok { OnOk result (Carried (take start entries.now) self.old → Carried entries.now self.new) }
+        ensures err { OnErr result (Carried (take start entries.now) self.old → Carried (take start entries.now) self.new) }
+    {
+        for place in start..entries.len() {
+            if let Err(error) = self.add_entry(alloc, &entries[place]) {
+                self.truncate(start);
+                return Err(error);
+            }
+        }
+        Ok(())
     }
 
     /// Keeps the rules of the first `count` entries. Takes no memory.

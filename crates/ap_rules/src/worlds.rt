@@ -1,4 +1,5 @@
 ghost use Rattle.std.specs.Prelude.{◌≡◌, [], ◌∷◌, ◌++◌, ◌↔◌, IsTrue, IsErrOf, IfOk, OnOk, OnErr, false, take};
+ghost use Rattle.ap_world.specs.Including.{has_clash, included};
 ghost use Rattle.ap_world.specs.Meaning.{Valid};
 ghost use Rattle.ap_world.specs.Sound.{Sound, known};
 ghost use Rattle.ap_world.specs.World.{function_of, has_name, added};
@@ -11,7 +12,7 @@ use crate::table::RuleIndex;
 use ap_list::{NoMemory, Seq};
 use ap_term::Term;
 use ap_value::{Symbol, Value};
-use ap_world::{AddError, Function, RuleClass, Theory, World};
+use ap_world::{AddError, Function, RuleClass, Theory, World, copy_theory};
 use std::alloc::Global;
 use std::marker::Model;
 use std::mem;
@@ -93,6 +94,34 @@ impl Ruled {
     {
         self.carrier.truncate(count);
         self.world.back_to(count, theory);
+    }
+
+    /// Includes a book's world: adds copies of the entries whose names aren't here, at the end and in their order, and
+    /// their rules, and disables besides what the book's theory disables. `NameTaken` exactly where another entry
+    /// stands here under one of the book's names, masks aside; the world then stays as it was, and so it does where
+    /// memory is refused. A look-up for each entry of the book, whatever the world has. See the manual's topic
+    /// `include-book`.
+    pub fn include_world(&mut self, alloc: Global, kept: &World) -> Result<(), AddError>
+        ensures ok { OnOk result (self.new ≡ included self.old kept.now) }
+        ensures err { OnErr result (self.new ≡ self.old) }
+        ensures taken { IsErrOf result AddError.NameTaken ↔ IsTrue (has_clash self.old.entries kept.now.entries) }
+    {
+        self.world.is_sound();
+        if self.world.clashes_with(kept) {
+            return Err(AddError::NameTaken);
+        }
+        let count = self.world.count();
+        let theory = copy_theory(alloc, self.world.theory())?;
+        self.world.include_world(alloc, kept)?;
+        if self
+            .carrier
+            .add_from(alloc, self.world.entries(), count)
+            .is_err()
+        {
+            self.world.back_to(count, theory);
+            return Err(AddError::NoMemory);
+        }
+        Ok(())
     }
 
     /// Adds a function at the end. `NameTaken` exactly where the name is in the world, which then stays as

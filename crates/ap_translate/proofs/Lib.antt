@@ -11,6 +11,7 @@ pub mod Kept
 pub mod Laws
 pub mod Layers
 pub mod Makings
+pub mod More
 pub mod Nestings
 pub mod Planning
 pub mod Smalls

@@ -16,6 +16,7 @@ mod shapes;
 mod sizes;
 mod table;
 mod translator;
+pub mod worlds;
 mod written;
 
 pub use ap_list::{Bytes, NoMemory, Seq};

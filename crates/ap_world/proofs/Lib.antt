@@ -2,6 +2,10 @@ pub mod Adding
 pub mod Assumed
 pub mod Agreeing
 pub mod Alike
+pub mod Alikes
+pub mod Included
+pub mod Covering
+pub mod Again
 pub mod Coinciding
 pub mod Conjectures
 pub mod Equations

@@ -168,7 +168,7 @@ distinct_before (z ∷ zs) (suc i) y d h =
         go false e = refl
 
 -- nor has it a primitive's name
-first_free : (z : Entry) (zs : List Entry) → are_distinct (z ∷ zs) ≡ true → (has_name zs (name_in z) ≡ false) × (are_distinct zs ≡ true)
+pub first_free : (z : Entry) (zs : List Entry) → are_distinct (z ∷ zs) ≡ true → (has_name zs (name_in z) ≡ false) × (are_distinct zs ≡ true)
 first_free z zs = parts (has_name zs (name_in z)) (are_distinct zs)
   where
     parts : (b c : Bool) → cond b false c ≡ true → (b ≡ false) × (c ≡ true)

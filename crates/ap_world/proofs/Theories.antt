@@ -1,6 +1,7 @@
 -- The test of runes is equality, and a theory disables the runes of its list.
 use Rattle.std.proofs.Common.{◌≡◌, zero, suc, Bool, true, false, cond, not, ◌&&◌, ◌||◌, ◌↔◌, List, [], ◌∷◌, ◌++◌, Some, unwrap_or, refl, sym, ap, ◌∙◌, subst, arith}
 use Rattle.std.specs.Map.{lookup}
+use Rattle.std.proofs.lemmas.List.{append-nil}
 use Rattle.ap_world.specs.declared.runes.Kinds.{Kinds}
 use Rattle.ap_world.specs.RuneTables.{RuneTable, has_kind, with_kind, no_kinds, has_rune}
 use Rattle.ap_world.proofs.Places.{symbol_eq-turned}
@@ -14,6 +15,7 @@ use Rattle.ap_world.specs.declared.theory.Rune.{Rune}
 use Rattle.ap_world.specs.declared.theory.Rune.TheVariants as rune
 use Rattle.ap_world.specs.declared.theory.RuneKind.{RuneKind}
 use Rattle.ap_world.specs.declared.theory.RuneKind.TheVariants as kind
+use Rattle.ap_world.specs.Including.{besides, merged}
 use Rattle.ap_world.specs.Theories.{rune_of, kind_in, symbol_in, kind_eq, rune_eq, ShownTheory, is_enabled}
 
 pub kind_of_rune : (k : RuneKind) (f : Symbol) → kind_in (rune_of k f) ≡ k
@@ -160,6 +162,18 @@ among_more r (x ∷ rs) s = go (rune_eq r x) (rune_eq r s) (among_more r rs s)
     go true false h = refl
     go false c h = h
 
+-- what is added by a rune's kind and name is added by the rune
+pub rune_copied : (table more : RuneTable) (s : Rune) (j : RuneKind) (x : Symbol) → j ≡ kind_in s → x ≡ symbol_in s
+    → ((k : RuneKind) (f : Symbol) → has_rune more k f ≡ (kind_eq k j && symbol_eq f x || has_rune table k f))
+    → (k : RuneKind) (f : Symbol) → has_rune more k f ≡ (kind_eq k (kind_in s) && symbol_eq f (symbol_in s) || has_rune table k f)
+rune_copied table more s j x kind_is name_is added k f =
+    added k f ∙ ap (λ l. kind_eq k l && symbol_eq f x || has_rune table k f) kind_is
+    ∙ ap (λ y. kind_eq k (kind_in s) && symbol_eq f y || has_rune table k f) name_is
+
+-- the rune of a copied name
+pub copied_rune : (r s : Rune) (k : RuneKind) (x : Symbol) → s ≡ rune_of k x → k ≡ kind_in r → x ≡ symbol_in r → s ≡ r
+copied_rune r s k x is kind_is name_is = is ∙ ap (λ l. rune_of l x) kind_is ∙ ap (rune_of (kind_in r)) name_is ∙ rune_of_parts r
+
 -- the table of a list, one rune after another
 pub rune_next : (table more : RuneTable) (rs : List Rune) (s : Rune) (j : RuneKind) (x : Symbol) → j ≡ kind_in s → x ≡ symbol_in s
     → ((k : RuneKind) (f : Symbol) → has_rune table k f ≡ is_among rune_eq (rune_of k f) rs)
@@ -174,3 +188,39 @@ rune_next table more rs s j x kind_is name_is had added k f =
     same = ap (λ l. kind_eq k l && symbol_eq f x) kind_is ∙ ap (λ y. kind_eq k (kind_in s) && symbol_eq f y) name_is
         ∙ ap (λ l. kind_eq l (kind_in s) && symbol_eq f (symbol_in s)) (sym (kind_of_rune k f))
         ∙ ap (λ y. kind_eq (kind_in (rune_of k f)) (kind_in s) && symbol_eq y (symbol_in s)) (sym (symbol_of_rune k f))
+
+-- what a list has besides is found one rune after another
+besides_append : (rs ss ts : List Rune) → besides rs (ss ++ ts) ≡ besides rs ss ++ besides rs ts
+besides_append rs [] ts = refl
+besides_append rs (s ∷ ss) ts = go (is_among rune_eq s rs) (besides_append rs ss ts)
+  where
+    go : (b : Bool) → besides rs (ss ++ ts) ≡ besides rs ss ++ besides rs ts → cond b (besides rs (ss ++ ts)) (s ∷ besides rs (ss ++ ts)) ≡ cond b (besides rs ss) (s ∷ besides rs ss) ++ besides rs ts
+    go true h = h
+    go false h = ap (λ us. s ∷ us) h
+
+pub besides_more : (rs ss ts out : List Rune) (s : Rune) → ts ≡ ss ++ s ∷ [] → out ≡ besides rs ss → out ++ besides rs (s ∷ []) ≡ besides rs ts
+besides_more rs ss ts out s is h = ap (λ us. us ++ besides rs (s ∷ [])) h ∙ sym (besides_append rs ss (s ∷ [])) ∙ ap (besides rs) (sym is)
+
+-- a rune that is enabled comes behind the others, another one doesn't
+pub besides_enabled : (h : ShownTheory) (out : List Rune) (s : Rune) (b : Bool) → b ≡ is_enabled h s → b ≡ true → out ++ s ∷ [] ≡ out ++ besides h.disabled (s ∷ [])
+besides_enabled h out s b is e = go (is_among rune_eq s h.disabled) (sym is ∙ e)
+  where
+    go : (c : Bool) → not c ≡ true → out ++ s ∷ [] ≡ out ++ cond c [] (s ∷ [])
+    go true k = absurd (cc k)
+    go false k = refl
+
+pub besides_disabled : (h : ShownTheory) (out : List Rune) (s : Rune) (b : Bool) → b ≡ is_enabled h s → b ≡ false → out ≡ out ++ besides h.disabled (s ∷ [])
+besides_disabled h out s b is e = go (is_among rune_eq s h.disabled) (sym is ∙ e)
+  where
+    go : (c : Bool) → not c ≡ false → out ≡ out ++ cond c [] (s ∷ [])
+    go true k = sym (append-nil out)
+    go false k = absurd (cc k)
+
+-- where a theory disables nothing besides, merging leaves the first
+pub merged_none : (h k : ShownTheory) → besides h.disabled k.disabled ≡ [] → h ≡ merged h k
+merged_none h k none = ap (λ rs. record { disabled = rs }) (sym (append-nil h.disabled) ∙ ap (λ rs. h.disabled ++ rs) (sym none))
+
+-- and else what it disables besides comes behind
+pub merged_some : (h k : ShownTheory) (rs ss all : List Rune) → rs ≡ h.disabled → ss ≡ besides h.disabled k.disabled → all ≡ rs ++ ss → record { disabled = all } ≡ merged h k
+merged_some h k rs ss all first rest both =
+    ap (λ us. record { disabled = us }) (both ∙ ap (λ us. us ++ ss) first ∙ ap (λ us. h.disabled ++ us) rest)

@@ -17,10 +17,12 @@ pub mod Holding
 pub mod Prescribing
 pub mod Kept
 pub mod Alike
+pub mod Including
 pub mod Kinds
 pub mod Rows
 pub mod Narrowing
 pub mod Typing
 pub mod KeptTypes
+pub mod Covering
 pub mod Laws
 pub mod Units

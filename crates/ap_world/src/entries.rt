@@ -1,6 +1,7 @@
-ghost use Rattle.std.specs.Prelude.{◌≡◌, ◌-◌, ◌<◌, [], ◌∷◌, ◌++◌, false, true, length, take, map, slice_get, IfOk, OnOk, OnErr, OnSome};
+ghost use Rattle.std.specs.Prelude.{◌≡◌, ◌-◌, ◌<◌, [], ◌∷◌, ◌++◌, false, true, is_some, length, take, map, slice_get, IfOk, OnOk, OnErr, OnSome};
 ghost use Rattle.std.specs.Option.{option_copied, option_map};
 ghost use Rattle.ap_value.specs.declared.symbol.Symbol.{Symbol};
+ghost use Rattle.ap_world.specs.Kept.{prescribed_in};
 ghost use Rattle.ap_world.specs.Prescribing.{theorems_about};
 ghost use Rattle.ap_world.specs.World.{name_in, entry_of, as_theorem, has_name, are_distinct, are_taken};
 
@@ -14,10 +15,19 @@ use std::marker::Model;
 
 /// The entries of a world in their order, with tables by which they are found without a scan. Contracts see
 /// the list. Its type keeps that their names are distinct, and no primitive's.
-#[derive(Drop)]
 pub(crate) struct Entries {
     list: Seq<Entry>,
     tables: Tables,
+}
+
+// One call wherever entries are let go, whatever their tables hold.
+impl Drop for Entries {
+    fn drop(self) {
+        let Entries {
+            list: _list,
+            tables: _tables,
+        } = self;
+    }
 }
 
 impl Model for Entries {
@@ -54,6 +64,23 @@ fn copy_name(alloc: Global, name: Option<&Symbol>) -> Result<Option<Symbol>, NoM
         None => Ok(None),
         Some(name) => Ok(Some(copy_symbol(alloc, name)?)),
     }
+}
+
+/// The names by which an entry is found: its own, and that of the function that it is a type prescription
+/// about.
+#[derive(Drop)]
+struct Names {
+    name: Symbol,
+    about: Option<Symbol>,
+}
+
+/// Copies of the names by which an entry is found.
+fn names_in(alloc: Global, entry: &Entry) -> Result<Names, NoMemory>
+    ensures { IfOk result (λ names. names ≡ record { name = name_in entry.now; about = prescribed_in entry.now }) }
+{
+    let about = copy_name(alloc, prescribed_in(entry))?;
+    let name = copy_symbol(alloc, entry.name())?;
+    Ok(Names { name, about })
 }
 
 impl Entries {
@@ -104,6 +131,13 @@ impl Entries {
         self.list.get(place)
     }
 
+    /// Whether an entry has this name.
+    pub(crate) fn has(&self, name: &Symbol) -> bool
+        ensures { result ≡ is_some (entry_of self.now name.now) }
+    {
+        self.find(name).is_some()
+    }
+
     /// The theorem with this number of the type prescriptions about a function.
     pub(crate) fn prescription(&self, function: &Symbol, number: usize) -> Option<&Theorem>
         ensures { option_copied result ≡ slice_get (theorems_about function.now self.now) number }
@@ -118,15 +152,35 @@ impl Entries {
         ensures ok { OnOk result (self.new ≡ self.old ++ entry ∷ []) }
         ensures err { OnErr result (self.new ≡ self.old) }
     {
-        let name = copy_symbol(alloc, entry.name())?;
-        let about = copy_name(alloc, prescribed_in(&entry))?;
+        let names = names_in(alloc, &entry)?;
+        self.push_named(alloc, entry, names)
+    }
+
+    /// Adds an entry with copies of the names by which it is found.
+    fn push_named(&mut self, alloc: Global, entry: Entry, names: Names) -> Result<(), NoMemory>
+        requires free { has_name self.old (name_in entry) ≡ false }
+        requires named { names ≡ record { name = name_in entry; about = prescribed_in entry } }
+        ensures ok { OnOk result (self.new ≡ self.old ++ entry ∷ []) }
+        ensures err { OnErr result (self.new ≡ self.old) }
+    {
         let count = self.list.len();
         self.list.push(entry)?;
-        if let Err(error) = self.tables.add(alloc, name, about) {
+        if let Err(error) = self.tables.add(alloc, names.name, names.about) {
             self.list.truncate(count);
             return Err(error);
         }
         Ok(())
+    }
+
+    /// Adds a copy of an entry whose name is free at the end. Where memory is refused the entries stay as
+    /// they were.
+    pub(crate) fn push_copy(&mut self, alloc: Global, entry: &Entry) -> Result<(), NoMemory>
+        requires { has_name self.old (name_in entry.now) ≡ false }
+        ensures ok { OnOk result (self.new ≡ self.old ++ entry.now ∷ []) }
+        ensures err { OnErr result (self.new ≡ self.old) }
+    {
+        let copied = copy_entry(alloc, entry)?;
+        self.push(alloc, copied)
     }
 
     /// Adds functions whose names are free and distinct at the end, in their order. Where memory is refused
@@ -177,7 +231,7 @@ impl Entries {
         self.has_distinct_names();
         let mut out = Entries::new(alloc);
         for entry in self.as_slice() {
-            out.push(alloc, copy_entry(alloc, entry)?)?;
+            out.push_copy(alloc, entry)?;
         }
         Ok(out)
     }

@@ -132,12 +132,12 @@ pub fn copy_measure(alloc: Global, measure: &Option<Measure>) -> Result<Option<M
 pub fn copy_function(alloc: Global, function: &Function) -> Result<Function, NoMemory>
     ensures { IfOk result (λ r. r ≡ function.now) }
 {
-    let name = copy_symbol(alloc, &function.name)?;
     let formals = copy_symbols(alloc, function.formals.as_slice())?;
-    let body = copy_term(alloc, &function.body)?;
     let measure = copy_measure(alloc, &function.measure)?;
     let cases = copy_cases(alloc, function.cases.as_slice())?;
+    let name = copy_symbol(alloc, &function.name)?;
     let mask = function.mask;
+    let body = copy_term(alloc, &function.body)?;
     Ok(Function {
         name,
         formals,
@@ -153,8 +153,8 @@ pub fn copy_theorem(alloc: Global, theorem: &Theorem) -> Result<Theorem, NoMemor
     ensures { IfOk result (λ r. r ≡ theorem.now) }
 {
     let name = copy_symbol(alloc, &theorem.name)?;
-    let term = copy_term(alloc, &theorem.term)?;
     let classes = Seq::from_slice(alloc, theorem.classes.as_slice())?;
+    let term = copy_term(alloc, &theorem.term)?;
     Ok(Theorem {
         name,
         term,

@@ -1,4 +1,5 @@
 //! The laws of meaning and soundness, each the contract of a function that does nothing.
+ghost use Rattle.ap_world.specs.Covering.{AlikeIsSame, ClashesAreOthers, IncludedIsSound, IncludedCovers, IncludedIsDistinct, CoversItself, CoversThrough, CoversGrown, CoversDefines, CoversFree, CoversAdded, CoversIncluded, TheoremAgain, ObligationsAgain};
 ghost use Rattle.ap_world.specs.Holding.{PartsHold, RulesHold, InstancesKeepValues, InstancesAreKnown, MatchesAreKnown};
 ghost use Rattle.ap_world.specs.Laws.{MoreFuelKeeps, ValuesAreUnique, CallsAreUnique, KnownTermsHaveValues, EntriesKeepValues, EntriesKeepValidity, EntriesAddNoValidity, WorldsThatAgree, AlikeKeepsValues, AlikeKeepsCalls, AlikeKeepsKnown, AlikeKeepsValidity, AlikeAddsNoValidity, AlikeAddsNoValues, NamesAreNoPrimitives, EqualSidesAreValid, StartingWorldIsSound, ConjunctsOfIf, FlatOfImplies, CasesOfIf, DecreaseIsFlat};
 
@@ -41,6 +42,39 @@ pub fn worlds_that_define_alike()
     ensures valid { AlikeKeepsValidity }
     ensures back { AlikeAddsNoValidity }
     ensures calls_back { AlikeAddsNoValues }
+{}
+
+/// The tests by which a book is included say what their names say: two entries are one but for a mask, and a
+/// name of the book has another entry.
+pub fn clashes_are_others()
+    ensures alike { AlikeIsSame }
+    ensures clashes { ClashesAreOthers }
+{}
+
+/// A world that includes another one without a clash is sound, its names are distinct, and it covers both.
+pub fn included_worlds_are_sound()
+    ensures sound { IncludedIsSound }
+    ensures distinct { IncludedIsDistinct }
+    ensures covers { IncludedCovers }
+{}
+
+/// A world that has each entry of another, masks aside, covers it: all that grows covers what it was, what is
+/// covered is defined alike, and what is added to both, or included by both, keeps that.
+pub fn worlds_that_cover()
+    ensures itself { CoversItself }
+    ensures through { CoversThrough }
+    ensures grown { CoversGrown }
+    ensures defines { CoversDefines }
+    ensures free { CoversFree }
+    ensures added { CoversAdded }
+    ensures included { CoversIncluded }
+{}
+
+/// What a sound world has that defines alike all that this one does, this one may have too, where it is known
+/// here: its theorems are valid here, and what its recursive functions owe. So a second pass proves nothing.
+pub fn again_is_valid()
+    ensures theorem { TheoremAgain }
+    ensures obligations { ObligationsAgain }
 {}
 
 /// Where the names of a world's entries are distinct, as every world keeps, no function of it has a

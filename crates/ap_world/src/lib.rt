@@ -4,6 +4,7 @@
 
 mod entries;
 mod entry;
+mod including;
 mod kinds;
 pub mod laws;
 mod names;

@@ -3,7 +3,7 @@ ghost use Rattle.ap_list.specs.Lists.{is_among};
 ghost use Rattle.ap_value.specs.declared.symbol.Symbol.{Symbol};
 ghost use Rattle.ap_value.specs.Values.{symbol_eq};
 ghost use Rattle.ap_world.specs.declared.theory.RuneKind.{RuneKind};
-ghost use Rattle.ap_world.specs.Theories.{rune_of, kind_eq, rune_eq};
+ghost use Rattle.ap_world.specs.Theories.{rune_of, kind_in, symbol_in, kind_eq, rune_eq};
 ghost use Rattle.ap_world.specs.RuneTables.{has_kind, with_kind, no_kinds, has_rune};
 
 use crate::theory::{Rune, RuneKind};
@@ -75,9 +75,16 @@ impl Kinds {
 }
 
 /// For each name the kinds of its runes that are in a list.
-#[derive(Debug, Drop)]
+#[derive(Debug)]
 struct RuneTable {
     kinds: IndexMap<Symbol, Kinds>,
+}
+
+// One call wherever a table is let go.
+impl Drop for RuneTable {
+    fn drop(self) {
+        let RuneTable { kinds: _kinds } = self;
+    }
 }
 
 impl Model for RuneTable {
@@ -120,6 +127,14 @@ impl RuneTable {
         self.kinds.insert(name, kinds)?;
         Ok(())
     }
+
+    /// Adds a copy of a rune.
+    fn add_copy(&mut self, alloc: Global, rune: &Rune) -> Result<(), NoMemory>
+        ensures { OnOk result ((k : RuneKind) (f : Symbol) → has_rune self.new k f ≡ (kind_eq k (kind_in rune.now) && symbol_eq f (symbol_in rune.now) || has_rune self.old k f)) }
+    {
+        let name = copy_symbol(alloc, rune.symbol())?;
+        self.add(rune.kind(), name)
+    }
 }
 
 /// The table of a list of runes.
@@ -128,7 +143,7 @@ fn table_of(alloc: Global, runes: &[Rune]) -> Result<RuneTable, NoMemory>
 {
     let mut table = RuneTable::new(alloc);
     for rune in runes {
-        table.add(rune.kind(), copy_symbol(alloc, rune.symbol())?)?;
+        table.add_copy(alloc, rune)?;
     }
     Ok(table)
 }

@@ -124,19 +124,27 @@ pub fn same_rune(a: &Rune, b: &Rune) -> bool
     }
 }
 
+/// The rune of a kind and a name. Takes no memory.
+fn rune_of(kind: RuneKind, name: Symbol) -> Rune
+    ensures { result ≡ rune_of kind name }
+{
+    match kind {
+        RuneKind::Definition => Rune::Definition(name),
+        RuneKind::Executable => Rune::Executable(name),
+        RuneKind::TypePrescription => Rune::TypePrescription(name),
+        RuneKind::Induction => Rune::Induction(name),
+        RuneKind::Rewrite => Rune::Rewrite(name),
+        RuneKind::Linear => Rune::Linear(name),
+        RuneKind::Elim => Rune::Elim(name),
+    }
+}
+
 /// A copy of a rune.
 pub fn copy_rune(alloc: Global, rune: &Rune) -> Result<Rune, NoMemory>
     ensures { IfOk result (λ r. r ≡ rune.now) }
 {
-    match rune {
-        Rune::Definition(f) => Ok(Rune::Definition(copy_symbol(alloc, f)?)),
-        Rune::Executable(f) => Ok(Rune::Executable(copy_symbol(alloc, f)?)),
-        Rune::TypePrescription(f) => Ok(Rune::TypePrescription(copy_symbol(alloc, f)?)),
-        Rune::Induction(f) => Ok(Rune::Induction(copy_symbol(alloc, f)?)),
-        Rune::Rewrite(f) => Ok(Rune::Rewrite(copy_symbol(alloc, f)?)),
-        Rune::Linear(f) => Ok(Rune::Linear(copy_symbol(alloc, f)?)),
-        Rune::Elim(f) => Ok(Rune::Elim(copy_symbol(alloc, f)?)),
-    }
+    let name = copy_symbol(alloc, rune.symbol())?;
+    Ok(rune_of(rune.kind(), name))
 }
 
 /// A copy of a theory, which shares its runes: a count is copied, and it fails only where that is full.

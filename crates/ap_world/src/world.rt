@@ -6,6 +6,7 @@ ghost use Rattle.std.specs.Option.{option_copied};
 
 use crate::entries::Entries;
 use crate::entry::{Entry, EntryRef, Function, RuleClass, Theorem};
+use crate::including::{add_missing, has_clash, merged};
 use crate::names::is_same_name;
 use crate::primitive::primitive_of;
 use crate::theory::{Rune, RuneKind, Theory, copy_theory};
@@ -71,6 +72,7 @@ impl Model for World {
 impl World {
     ghost use Rattle.std.specs.Prelude.{Contains, false, nat_eq, IfSome};
     ghost use Rattle.std.specs.Option.{option_map};
+    ghost use Rattle.ap_world.specs.Including.{has_clash, with_missing, included};
     ghost use Rattle.ap_world.specs.Meaning.{Valid};
     ghost use Rattle.ap_world.specs.Sound.{Sound, known};
     ghost use Rattle.ap_world.specs.Prescribing.{theorems_about};
@@ -106,8 +108,8 @@ impl World {
     pub fn copy_world(&self, alloc: Global) -> Result<World, NoMemory>
         ensures { IfOk result (λ w. w ≡ self.now) }
     {
-        let entries = self.entries.copy(alloc)?;
         let theory = copy_theory(alloc, &self.theory)?;
+        let entries = self.entries.copy(alloc)?;
         Ok(World { entries, theory })
     }
 
@@ -152,7 +154,7 @@ impl World {
     pub fn has(&self, name: &Symbol) -> bool
         ensures { result ≡ has_name self.now.entries name.now }
     {
-        primitive_of(name).is_some() || self.entries.find(name).is_some()
+        primitive_of(name).is_some() || self.entries.has(name)
     }
 
     /// The entry at a place of the list, or `None` past its end. Takes no memory.
@@ -229,11 +231,7 @@ impl World {
         ensures err { OnErr result (self.new ≡ self.old) }
         ensures taken { IsErrOf result AddError.NameTaken ↔ IsTrue (has_name self.old.entries function.name) }
     {
-        if self.has(&function.name) {
-            return Err(AddError::NameTaken);
-        }
-        self.add(alloc, Entry::Function(function))?;
-        Ok(())
+        self.add(alloc, Entry::Function(function))
     }
 
     /// Adds functions at the end, in their order: those that need each other come together. `NameTaken`
@@ -282,18 +280,12 @@ impl World {
         ensures taken { IsErrOf result AddError.NameTaken ↔ IsTrue (has_name self.old.entries name) }
     {
         self.is_sound();
-        if self.has(&name) {
-            return Err(AddError::NameTaken);
-        }
-        self.add(
-            alloc,
-            Entry::Theorem(Theorem {
-                name,
-                term,
-                classes,
-            }),
-        )?;
-        Ok(())
+        let theorem = Theorem {
+            name,
+            term,
+            classes,
+        };
+        self.add(alloc, Entry::Theorem(theorem))
     }
 
     /// Adds a constant at the end. `NameTaken` exactly where the name is in the world, which then stays as
@@ -309,21 +301,62 @@ impl World {
         ensures taken { IsErrOf result AddError.NameTaken ↔ IsTrue (has_name self.old.entries name) }
     {
         self.is_sound();
-        if self.has(&name) {
+        self.add(alloc, Entry::Constant(name, value))
+    }
+
+    /// Includes the world of a book: adds copies of its entries whose names aren't here, in their order, and
+    /// disables what its theory disables besides, at the end. `NameTaken` exactly where another entry stands
+    /// here under a name of it, masks aside. The world then stays as it was; so it does where memory is
+    /// refused. Costs two look-ups for each entry of the book. See the manual's topic `include-book`.
+    pub fn include_world(&mut self, alloc: Global, kept: &World) -> Result<(), AddError>
+        ensures ok { OnOk result (self.new ≡ included self.old kept.now) }
+        ensures err { OnErr result (self.new ≡ self.old) }
+        ensures taken { IsErrOf result AddError.NameTaken ↔ IsTrue (has_clash self.old.entries kept.now.entries) }
+    {
+        self.is_sound();
+        kept.is_sound();
+        kept.has_distinct_names();
+        if self.clashes_with(kept) {
             return Err(AddError::NameTaken);
         }
-        self.add(alloc, Entry::Constant(name, value))?;
+        let theory = merged(alloc, self.theory(), kept.theory())?;
+        self.add_missing(alloc, kept)?;
+        self.set_theory(theory);
         Ok(())
     }
 
-    /// Adds an entry whose name is free at the end of the list.
-    fn add(&mut self, alloc: Global, entry: Entry) -> Result<(), NoMemory>
-        requires sound { Sound (self.old.entries ++ entry ∷ []) }
-        requires free { has_name self.old.entries (name_in entry) ≡ false }
-        ensures ok { OnOk result (self.new ≡ added self.old entry) }
+    /// Whether another entry stands here under a name of a book's world, masks aside: a look-up for each
+    /// entry of that. Takes no memory.
+    pub fn clashes_with(&self, kept: &World) -> bool
+        ensures { result ≡ has_clash self.now.entries kept.now.entries }
+    {
+        has_clash(&self.entries, kept.entries())
+    }
+
+    /// Adds copies of the entries of a book's world whose names aren't here.
+    fn add_missing(&mut self, alloc: Global, kept: &World) -> Result<(), NoMemory>
+        requires { Sound (with_missing self.old.entries kept.now.entries) }
+        ensures ok { OnOk result (self.new ≡ record self.old { entries = with_missing self.old.entries kept.now.entries }) }
         ensures err { OnErr result (self.new ≡ self.old) }
     {
-        self.entries.push(alloc, entry)
+        kept.has_distinct_names();
+        add_missing(alloc, &mut self.entries, kept.entries())?;
+        Ok(())
+    }
+
+    /// Adds an entry at the end. `NameTaken` exactly where its name is in the world, which then stays as it
+    /// was; so it does where memory is refused.
+    fn add(&mut self, alloc: Global, entry: Entry) -> Result<(), AddError>
+        requires { has_name self.old.entries (name_in entry) ≡ false → Sound (self.old.entries ++ entry ∷ []) }
+        ensures ok { OnOk result (self.new ≡ added self.old entry) }
+        ensures err { OnErr result (self.new ≡ self.old) }
+        ensures taken { IsErrOf result AddError.NameTaken ↔ IsTrue (has_name self.old.entries (name_in entry)) }
+    {
+        if self.has(entry.name()) {
+            return Err(AddError::NameTaken);
+        }
+        self.entries.push(alloc, entry)?;
+        Ok(())
     }
 }
 

@@ -1,7 +1,7 @@
-use Rattle.std.proofs.Common.{◌≡◌, ◌+◌, ◌<◌, ◌++◌, ◌∷◌, [], length, take, sym, ap, ◌∙◌, rules}
+use Rattle.std.proofs.Common.{◌≡◌, ◌+◌, ◌<◌, ◌++◌, ◌∷◌, [], length, take, refl, sym, ap, ◌∙◌, rules}
 use Rattle.std.proofs.lemmas.List.{take_more}
 use Rattle.ap_list.specs.Lists.{is_among}
-use Rattle.ap_world.specs.Theories.{rune_of, rune_eq}
+use Rattle.ap_world.specs.Theories.{rune_of, kind_in, symbol_in, rune_eq}
 use Rattle.ap_world.proofs.Theories.{rune_next}
 use Rattle.ap_world.proofs.runes.table_of.Goals as goal
 
@@ -13,6 +13,6 @@ loop-rune-preserved c =
     let more : take (i + 1) runes ≡ take i runes ++ c.rune-item.result ∷ [] =
     take_more runes i c.rune-item.result within ∙ ap (λ s. take i runes ++ s ∷ []) (sym (search rules)) in
     λ k f.
-    rune_next c.loop-rune.table c.add.new.self (take i runes) c.rune-item.result c.kind.result c.in_ok-copy_symbol.field-0 c.kind.ensures
-    (c.in_ok-copy_symbol.ensures ∙ c.symbol.ensures) c.loop-rune.invariant c.in_ok-add.ensures k f
+    rune_next c.loop-rune.table c.add_copy.new.self (take i runes) c.rune-item.result (kind_in c.rune-item.result) (symbol_in c.rune-item.result) refl refl
+    c.loop-rune.invariant c.in_ok-add_copy.ensures k f
     ∙ ap (is_among rune_eq (rune_of k f)) (sym more)
