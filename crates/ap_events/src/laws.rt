@@ -1,10 +1,24 @@
-//! What events keep. Each law is the contract of a function that does nothing.
-ghost use Rattle.ap_events.specs.Laws.{EventsKeepGood};
+//! What nested events keep. Each law is the contract of a function that does nothing.
+ghost use Rattle.ap_events.specs.Again.{AgainIsCovered};
+ghost use Rattle.ap_events.specs.Laws.{WorkedKeepGood, AgainKeepsGood, WorkedGrows, WorkedTells};
 
-/// Each world that an event passes through is sound, its names are distinct, and it has the functions of the ground
-/// world, where that holds of the world before the event: each function of it is total, and each theorem of it has a
-/// value other than `nil` under every assignment.
-#[tactic(auto, using(crate::proofs::Sounding::events_keep_good))]
-pub fn events_are_sound()
-    ensures { EventsKeepGood }
+/// What is made when a form is done again is covered by what was made when it was done first, where the world before is
+/// covered by the world before then. So a second pass proves nothing, and refuses a name alone that isn't there any more.
+pub fn again_is_covered()
+    ensures { AgainIsCovered }
+{}
+
+/// Each world that a form's events pass through is sound, its names are distinct, and it has the functions of the ground
+/// world, where that holds of the world before them and of the worlds of earlier books; and so it is when they are done
+/// again, where a sound list of entries has what they make.
+pub fn nested_events_are_sound()
+    ensures first { WorkedKeepGood }
+    ensures again { AgainKeepsGood }
+{}
+
+/// The world after a form has the entries of the one before, and perhaps more; and it is one of those that were passed
+/// through, or the one before.
+pub fn worlds_grow()
+    ensures grows { WorkedGrows }
+    ensures tells { WorkedTells }
 {}

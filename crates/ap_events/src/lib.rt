@@ -1,43 +1,31 @@
-//! One event of a book: what it prints, and the world after it. So far a theorem, a function, a constant, and a change
-//! of the current theory. See the manual's topics `defthm`, `rule-classes`, `hints`, `defun`, `measure`, `defconst`
-//! and `in-theory`.
+//! Events of a book, and events within events: what they print, and the world after them. `local`, `progn` and
+//! `encapsulate` hold events; `include-book` has the world of an earlier book; the others are `ap_plain`'s. See the
+//! manual's topics `local`, `progn`, `encapsulate` and `include-book`.
 //!
-//! [`work`] does an event in a world with the index of its rules, which goes on to the next event. [`event`] does
-//! one in a world alone, and makes the index first.
-//!
-//! An event with a name is done in four steps: what it states, which is where most refusals come from; its hints; the
-//! attempts on what it owes; and what it puts into the world.
+//! [`work`] does an event in a world with the index of its rules, which goes on to the next event, and [`work_again`] does
+//! it a second time, without hints and proofs, in a world from which what is local is left out. [`event`], [`event_again`]
+//! and [`include`] do one in a world alone, and make the index first.
 #![tactic(auto)]
 
-mod attempting;
-mod changes;
-mod classes;
-mod constant;
-mod definition;
+mod again;
 mod end;
-mod forms;
+mod first;
 mod heads;
-mod hinting;
-mod kinds;
+mod joining;
+mod kept;
 mod laws;
-mod limits;
-mod lines;
-mod owing;
-mod proposing;
-mod prover;
-mod refusing;
-mod shapes;
-mod taken;
-mod texts;
-mod theorem;
-mod translating;
+mod nested;
+mod nesting;
+mod second;
 
 pub use ap_attempt::{DropNote, Gate, NoGate, Place};
 pub use ap_list::{Bytes, NoMemory, Seq};
+pub use ap_plain::{Limits, Outcome};
 pub use ap_reader::Form;
 pub use ap_rules::Ruled;
 pub use ap_world::World;
-pub use end::{EventEnd, Outcome};
-pub use heads::{event, work};
-pub use laws::events_are_sound;
-pub use limits::Limits;
+pub use end::EventEnd;
+pub use heads::{event, event_again, include};
+pub use kept::KeptBook;
+pub use laws::{again_is_covered, nested_events_are_sound, worlds_grow};
+pub use nested::{work, work_again};

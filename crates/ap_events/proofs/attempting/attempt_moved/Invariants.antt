@@ -1,5 +1,0 @@
-use Rattle.ap_events.proofs.attempting.attempt_moved.Given as goal
-
--- the brand of the tasks is the plan
-abbrev pub ghosts-attempt_as : goal.ghosts-attempt_as
-ghosts-attempt_as g a = record { plan = a.plan.now }

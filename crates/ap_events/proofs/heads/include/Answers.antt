@@ -1,0 +1,36 @@
+use Rattle.std.proofs.Common.{◌≡◌, cond, Some, None, ap, sym, ◌∙◌, subst}
+use Rattle.ap_world.specs.Sound.{HasFunctions}
+use Rattle.ap_world.specs.World.{Shown, function_of}
+use Rattle.ap_events.specs.Ends.{text_in, next_in, world_in, Kept}
+use Rattle.ap_events.specs.Books.{include_of}
+use Rattle.ap_events.proofs.Ending.{end_text, end_next, end_world, end_kept}
+use Rattle.ap_events.proofs.Joined.{functions_begin, did_begin}
+use Rattle.ap_events.proofs.Including.{include_begins}
+use Rattle.ap_events.proofs.heads.include.Goals as goal
+
+pub returns-clause-text : goal.returns-clause-text
+returns-clause-text c =
+    let o = c.in_ok-outcome.outcome in
+    ap text_in c.end_in.ensures ∙ end_text o.admitted c.into_world.result o.text o.drops ∙ c.in_ok-outcome.ensures.done.text
+    ∙ ap (λ (w : Shown). (include_of w c.args.name.now c.args.kept.now).text) c.in_ok-ruled.ensures
+
+pub returns-clause-next : goal.returns-clause-next
+returns-clause-next c =
+    let o = c.in_ok-outcome.outcome in
+    ap next_in c.end_in.ensures ∙ end_next o.admitted c.into_world.result o.text o.drops
+    ∙ ap (λ (w : Shown). cond o.admitted (Some w) None) c.into_world.ensures ∙ sym c.in_ok-outcome.ensures.done.next
+    ∙ ap (λ (w : Shown). (include_of w c.args.name.now c.args.kept.now).next) c.in_ok-ruled.ensures
+
+pub returns-clause-refused : goal.returns-clause-refused
+returns-clause-refused c =
+    let o = c.in_ok-outcome.outcome in
+    subst (Kept c.args.w) (sym c.end_in.ensures)
+    (end_kept o.admitted c.args.w c.into_world.result o.text o.drops (λ no. c.into_world.ensures ∙ c.in_ok-outcome.ensures.done.kept no ∙ c.in_ok-ruled.ensures))
+
+pub returns-clause-ground : goal.returns-clause-ground
+returns-clause-ground c =
+    let o = c.in_ok-outcome.outcome in
+    let v = c.include_of.new.w in
+    let grown = did_begin (include_of c.in_ok-ruled.ruled c.args.name.now c.args.kept.now) c.in_ok-ruled.ruled v o (include_begins c.in_ok-ruled.ruled c.args.kept.now c.args.name.now) c.in_ok-outcome.ensures.done in
+    subst (λ (w : Shown). HasFunctions (function_of w.entries)) (sym (ap world_in c.end_in.ensures ∙ end_world o.admitted c.into_world.result o.text o.drops ∙ c.into_world.ensures))
+    (functions_begin c.in_ok-ruled.ruled v grown (subst (λ (x : Shown). HasFunctions (function_of x.entries)) (sym c.in_ok-ruled.ensures) c.requires.functions))

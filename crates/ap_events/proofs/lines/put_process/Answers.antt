@@ -1,6 +1,0 @@
-use Rattle.ap_events.specs.Lines.{process_text}
-use Rattle.ap_events.proofs.lines.put_process.Goals as goal
-
-pub returns-in-Generalize : goal.returns-in-Generalize
-unfolding process_text
-returns-in-Generalize g c = rw c.in-Generalize.is c.put_counted-in-Generalize.ensures
