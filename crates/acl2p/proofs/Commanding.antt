@@ -1,8 +1,8 @@
 -- Words of a command: limits, and options one after another.
 use Rattle.std.proofs.Common.{◌≡◌, ◌∙◌, ◌≤◌, ◌-◌, ℕ, List, [], ◌∷◌, map, length, Option, Some, refl, ap, sym, subst, arith}
 use Rattle.std.specs.Prelude.{get_or, take, drop}
-use Rattle.ap_events.specs.declared.limits.Limits.{Limits}
-use Rattle.ap_events.specs.Limits.{limits_of}
+use Rattle.ap_plain.specs.declared.limits.Limits.{Limits}
+use Rattle.ap_plain.specs.Limits.{limits_of}
 use Rattle.acl2p.specs.declared.command.Counted.{Counted}
 use Rattle.acl2p.specs.declared.command.Flag.TheVariants.{Number, Trace}
 use Rattle.acl2p.specs.declared.command.Options.{Options}

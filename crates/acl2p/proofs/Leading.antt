@@ -1,18 +1,18 @@
 -- What events leave, one after another.
-use Rattle.std.proofs.Common.{◌≡◌, ◌∙◌, ◌⊎◌, ◌≤◌, ℕ, Bool, true, false, List, [], ◌∷◌, ◌++◌, Option, Some, None, Result, Ok, Err, refl, ap, sym, subst, inl, inr, append_assoc}
+use Rattle.std.proofs.Common.{◌≡◌, ◌∙◌, ◌⊎◌, ◌≤◌, ℕ, Bool, true, false, List, [], ◌∷◌, ◌++◌, Result, Ok, Err, refl, ap, sym, subst, inl, inr, append_assoc, true≢false}
 use Rattle.std.proofs.lemmas.List.{append-nil}
 use Rattle.ap_world.specs.World.{Shown}
 use Rattle.ap_outside.specs.declared.library.BookRead.{BookRead}
 use Rattle.ap_reader.specs.declared.form.Form.{Form}
-use Rattle.ap_books.specs.Bodies.{go_on, worked, body_by, body_of, events_in, forms_by, forms_of, Onward, Reached}
-use Rattle.ap_events.specs.declared.limits.Limits.{Limits}
-use Rattle.ap_events.specs.Ends.{Told}
-use Rattle.ap_events.specs.Events.{event_of}
-use Rattle.acl2p.specs.Working.{Working, start, after, admits, ends}
-use Rattle.acl2p.specs.Admitting.{AdmittingSeen, notes_in, Notes, Links, Rests, IsTold, Led}
-use Rattle.acl2p.specs.Session.{read_body}
-use Rattle.ap_events.proofs.Telling.{next_told}
-use Rattle.ap_events.proofs.Telling.{notes_more, notes_none, told_left, told_right}
+use Rattle.ap_books.specs.Bodies.{Body, go_on, certified, worked, body_by, body_of, events_in}
+use Rattle.ap_plain.specs.Ends.{Told}
+use Rattle.ap_plain.proofs.Telling.{notes_more, notes_none, told_left, told_right}
+use Rattle.ap_events.specs.Books.{Earlier}
+use Rattle.acl2p.specs.declared.second.Second.{Second}
+use Rattle.acl2p.specs.declared.second.Second.TheVariants.{SoFar, Failed}
+use Rattle.acl2p.specs.Working.{Working, start, begin, admits, ends, end_text, has_failed, end_told}
+use Rattle.acl2p.specs.Admitting.{AdmittingSeen, notes_in, last_world, left_by, left_in, Notes, IsTold, Behind, Led}
+use Rattle.acl2p.specs.Session.{read_body, kept_by, kept_of}
 
 -- notes behind notes
 pub notes_then : (a b c : AdmittingSeen) (xs ys : List Told) → Notes a b xs → Notes b c ys → Notes a c (xs ++ ys)
@@ -34,26 +34,24 @@ notes_same a b xs e w = record {
   workers = w;
 }
 
--- behind some events: the world is the one before, or one that is told of
-pub record Behind (a b : AdmittingSeen) (told : List Told) : Type 0 where
-  pub limits : b.working.limits ≡ a.working.limits
-  pub world : (b.working.world ≡ a.working.world) ⊎ IsTold told b.working.world
-  pub notes : Notes a b told
-
-behind_same : (a b : AdmittingSeen) (xs : List Told) → a ≡ b → Behind a b xs
-behind_same a b xs e =
-    subst (λ c. Behind a c xs) e (record { limits = refl; world = inl refl; notes = notes_same a a xs refl refl })
-
-behind_rest : (a b : AdmittingSeen) (xs : List Told) → Rests a b → Behind a b xs
-behind_rest a b xs r = record {
-  limits = ap (λ (s : Working). s.limits) r.working;
-  world = inl (ap (λ (s : Working). s.world) r.working);
-  notes = notes_same a b xs r.notes r.workers;
+-- behind no event
+pub behind_none : (a b : AdmittingSeen) (xs : List Told) → b.working ≡ a.working → b.kept ≡ a.kept → notes_in b ≡ notes_in a → b.workers ≡ a.workers → Behind a b xs
+behind_none a b xs e k n w = record {
+  limits = ap (λ (s : Working). s.limits) e;
+  earlier = ap (λ (s : Working). s.earlier) e;
+  kept = k;
+  world = inl (ap (λ (s : Working). s.world) e);
+  notes = notes_same a b xs n w;
 }
 
-behind_then : (a b c : AdmittingSeen) (xs ys : List Told) → Behind a b xs → Behind b c ys → Behind a c (xs ++ ys)
+pub behind_same : (a : AdmittingSeen) (xs : List Told) → Behind a a xs
+behind_same a xs = behind_none a a xs refl refl refl refl
+
+pub behind_then : (a b c : AdmittingSeen) (xs ys : List Told) → Behind a b xs → Behind b c ys → Behind a c (xs ++ ys)
 behind_then a b c xs ys h k = record {
   limits = k.limits ∙ h.limits;
+  earlier = k.earlier ∙ h.earlier;
+  kept = k.kept ∙ h.kept;
   world = go h.world k.world;
   notes = notes_then a b c xs ys h.notes k.notes;
 }
@@ -64,92 +62,124 @@ behind_then a b c xs ys h k = record {
     go (inl p) (inl q) = inl (q ∙ p)
     go (inr t) (inl q) = inr (told_left xs ys c.working.world (subst (λ w. IsTold xs w) (sym q) t))
 
--- behind one event
-after_event : (s : Working) (f : Form) (o : Option Shown) → (event_of s.limits s.world f).next ≡ o
-    → ((after s o).limits ≡ s.limits) × (((after s o).world ≡ s.world) ⊎ IsTold (event_of s.limits s.world f).told (after s o).world)
-after_event s f None e = (refl, inl refl)
-after_event s f (Some w) e = (refl, inr (next_told s.limits s.world f w e))
-
-behind_event : (a b : AdmittingSeen) (f : Form) → Links a f b → Behind a b (admits a.working f).log
-behind_event a b f l =
-    let p = after_event a.working f (event_of a.working.limits a.working.world f).next refl in
-    record {
-      limits = ap (λ (s : Working). s.limits) l.next ∙ p.0;
-      world = subst (λ (s : Working). (s.world ≡ a.working.world) ⊎ IsTold (admits a.working f).log s.world) (sym l.next) p.1;
-      notes = l.notes;
-    }
-
--- behind the events of a book
-behind_events : (fs : List Form) (a b : AdmittingSeen) → Reached (λ a. a.working) admits Links Rests fs a b → Behind a b (worked admits ends fs a.working).log
-behind_events [] a b (inl e) = behind_same a b [] e
-behind_events [] a b (inr r) = behind_rest a b [] r
-behind_events (f ∷ fs) a b (inl e) = behind_same a b (worked admits ends (f ∷ fs) a.working).log e
-behind_events (f ∷ fs) a b (inr (inl r)) = behind_rest a b (worked admits ends (f ∷ fs) a.working).log r
-behind_events (f ∷ fs) a b (inr (inr (c, l, on))) =
-    go (admits a.working f).refused on (behind_events fs)
+-- behind the first of some events, which may be refused, or where a fault cut them off
+pub behind_first : (f : Form) (fs : List Form) (a b : AdmittingSeen) → Behind a b (admits a.working f).log → Behind a b (worked admits ends (f ∷ fs) a.working).log
+behind_first f fs a b h = go (admits a.working f).refused
   where
-    go : (r : Bool) → Onward r (Reached (λ a. a.working) admits Links Rests fs) c b
-        → ((d e : AdmittingSeen) → Reached (λ a. a.working) admits Links Rests fs d e → Behind d e (worked admits ends fs d.working).log)
-        → Behind a b (go_on (admits a.working f).text (admits a.working f).log r (admits a.working f).next (worked admits ends fs)).log
-    go true e rest = subst (λ d. Behind a d (admits a.working f).log) e (behind_event a c f l)
-    go false more rest =
-        behind_then a c b (admits a.working f).log (worked admits ends fs (admits a.working f).next).log (behind_event a c f l)
-        (subst (λ s. Behind c b (worked admits ends fs s).log) l.next (rest c b more))
+    more : List Told
+    more = (worked admits ends fs (admits a.working f).next).log
 
-behind_none : (a b : AdmittingSeen) → Reached (λ a. a.working) admits Links Rests [] a b → Behind a b []
-behind_none a b (inl e) = behind_same a b [] e
-behind_none a b (inr r) = behind_rest a b [] r
+    go : (r : Bool) → Behind a b (go_on (admits a.working f).text (admits a.working f).log r (admits a.working f).next (worked admits ends fs)).log
+    go true = h
+    go false = behind_then a b b (admits a.working f).log more h (behind_same b more)
 
--- behind a book's body
-behind_by : (events : Result (List Form) (List ℕ)) (a b : AdmittingSeen) → Reached (λ a. a.working) admits Links Rests (forms_by events) a b → Behind a b (body_by admits ends events a.working).log
-behind_by (Err text) a b h = behind_none a b h
-behind_by (Ok fs) a b h = behind_events fs a b h
+-- behind the first, and behind those that follow it
+pub behind_more : (f : Form) (fs : List Form) (a b c : AdmittingSeen) → Behind a b (admits a.working f).log → (admits a.working f).refused ≡ false → (admits a.working f).next ≡ b.working
+    → Behind b c (worked admits ends fs b.working).log → Behind a c (worked admits ends (f ∷ fs) a.working).log
+behind_more f fs a b c h went next more =
+    subst (λ r. Behind a c (go_on (admits a.working f).text (admits a.working f).log r (admits a.working f).next (worked admits ends fs)).log) (sym went)
+    (behind_then a b c (admits a.working f).log (worked admits ends fs (admits a.working f).next).log h
+    (subst (λ s. Behind b c (worked admits ends fs s).log) (sym next) more))
 
--- a book that begins in the world that each begins with
-pub led_by : (read : BookRead) (a b : AdmittingSeen) → a.working.world ≡ start → Reached (λ a. a.working) admits Links Rests (forms_of read) a b
-    → Led a b (read_body a.working.limits read).log
-led_by read a b e h =
-    let p = subst (λ w. Behind a b (body_of admits ends read (record { limits = a.working.limits; world = w })).log) e (behind_by (events_in read) a b h) in
-    record { limits = p.limits; world = to p.world; notes = p.notes }
+-- A certified book tells the world that it keeps.
+
+ends_told : (s : Working) → (worked admits ends [] s).certified ≡ true → (has_failed (worked admits ends [] s).state.second ≡ false) × IsTold (worked admits ends [] s).log (kept_of (worked admits ends [] s))
+ends_told s h = go s.second refl h
   where
-    to : (b.working.world ≡ a.working.world) ⊎ IsTold (body_of admits ends read (record { limits = a.working.limits; world = start })).log b.working.world
-        → (b.working.world ≡ a.working.world) ⊎ ((b.working.world ≡ start) ⊎ IsTold (body_of admits ends read (record { limits = a.working.limits; world = start })).log b.working.world)
-    to (inl p) = inl p
-    to (inr p) = inr (inr p)
+    go : (p : Second) → s.second ≡ p → (go_on (end_text p) (end_told p) (has_failed p) s certified).certified ≡ true
+        → (has_failed (go_on (end_text p) (end_told p) (has_failed p) s certified).state.second ≡ false)
+        × IsTold (go_on (end_text p) (end_told p) (has_failed p) s certified).log (kept_of (go_on (end_text p) (end_told p) (has_failed p) s certified))
+    go (SoFar v) e k = (ap has_failed e, inl (sym (ap (λ p. kept_by p s.world) e)))
+    go (Failed text) e k = absurd (true≢false (sym k))
 
--- the same, where the world was another before
-pub led_from : (a c b : AdmittingSeen) (told : List Told) → c ≡ record a { working = record { limits = a.working.limits; world = start } } → Led c b told → Led a b told
-led_from a c b told e l = record {
-  limits = l.limits ∙ ap (λ (d : AdmittingSeen). d.working.limits) e;
-  world = to l.world;
-  notes = notes_like;
+-- one event, and what follows it
+abbrev onward : Bool → Working → Form → List Form → Body Working Told
+onward r s f fs = go_on (admits s f).text (admits s f).log r (admits s f).next (worked admits ends fs)
+
+worked_kept : (fs : List Form) (s : Working) → (worked admits ends fs s).certified ≡ true
+    → (has_failed (worked admits ends fs s).state.second ≡ false) × IsTold (worked admits ends fs s).log (kept_of (worked admits ends fs s))
+worked_kept [] s h = ends_told s h
+worked_kept (f ∷ fs) s h = go (admits s f).refused h (worked_kept fs (admits s f).next)
+  where
+    rest : Body Working Told
+    rest = worked admits ends fs (admits s f).next
+
+    go : (r : Bool) → (onward r s f fs).certified ≡ true → (rest.certified ≡ true → (has_failed rest.state.second ≡ false) × IsTold rest.log (kept_of rest))
+        → (has_failed (onward r s f fs).state.second ≡ false) × IsTold (onward r s f fs).log (kept_of (onward r s f fs))
+    go true k more = absurd (true≢false (sym k))
+    go false k more = let p = more k in (p.0, told_right (admits s f).log rest.log (kept_of rest) p.1)
+
+by_kept : (events : Result (List Form) (List ℕ)) (s : Working) → (body_by admits ends events s).certified ≡ true
+    → (has_failed (body_by admits ends events s).state.second ≡ false) × IsTold (body_by admits ends events s).log (kept_of (body_by admits ends events s))
+by_kept (Err text) s h = absurd (true≢false (sym h))
+by_kept (Ok fs) s h = worked_kept fs s h
+
+body_kept : (read : BookRead) (s : Working) → (body_of admits ends read s).certified ≡ true
+    → (has_failed (body_of admits ends read s).state.second ≡ false) × IsTold (body_of admits ends read s).log (kept_of (body_of admits ends read s))
+body_kept read s h = by_kept (events_in read) s h
+
+pub kept_passed : (read : BookRead) (s t : Working) → (body_of admits ends read s).certified ≡ true → (body_of admits ends read s).state ≡ t → has_failed t.second ≡ false
+kept_passed read s t good is = subst (λ (u : Working). has_failed u.second ≡ false) is (body_kept read s good).0
+
+pub kept_told : (read : BookRead) (s t : Working) → (body_of admits ends read s).certified ≡ true → (body_of admits ends read s).state ≡ t → IsTold (body_of admits ends read s).log (kept_by t.second t.world)
+kept_told read s t good is = subst (λ (u : Working). IsTold (body_of admits ends read s).log (kept_by u.second u.world)) is (body_kept read s good).1
+
+-- The last of some books.
+
+pub last_kept : (bs : Earlier) (b : List ℕ × Shown) (w : Shown) → last_world (bs ++ b ∷ []) w ≡ b.1
+last_kept [] b w = refl
+last_kept (c ∷ bs) b w = last_kept bs b c.1
+
+-- Behind a book.
+
+left_none : (a : AdmittingSeen) → a.kept ≡ false → left_in a ≡ a.working.world
+left_none a e = ap (λ k. left_by k a.working.earlier a.working.world) e
+
+-- one of which nothing is kept
+pub led_none : (a b : AdmittingSeen) (told : List Told) → a.working.world ≡ start → a.kept ≡ false → Behind a b told → Led a b told
+led_none a b told begun unkept h = record { limits = h.limits; left = go h.world; notes = h.notes }
+  where
+    left : left_in b ≡ b.working.world
+    left = left_none b (h.kept ∙ unkept)
+
+    go : (b.working.world ≡ a.working.world) ⊎ IsTold told b.working.world → (left_in b ≡ left_in a) ⊎ ((left_in b ≡ start) ⊎ IsTold told (left_in b))
+    go (inl p) = inr (inl (left ∙ p ∙ begun))
+    go (inr t) = inr (inr (subst (IsTold told) (sym left) t))
+
+-- notes as they were before the book's world was kept
+notes_on : (a b c : AdmittingSeen) (told : List Told) → Notes a b told → notes_in c ≡ notes_in b → c.workers ≡ b.workers → Notes a c told
+notes_on a b c told h n w = record { more = h.more; behind = n ∙ h.behind; divided = h.divided; alone = h.alone; workers = w ∙ h.workers }
+
+-- one whose world is kept
+pub led_kept : (a b c : AdmittingSeen) (told : List Told) (v : Shown) → Behind a b told → left_in c ≡ v → IsTold told v → c.working.limits ≡ b.working.limits → notes_in c ≡ notes_in b → c.workers ≡ b.workers → Led a c told
+led_kept a b c told v h left is limits notes workers = record {
+  limits = limits ∙ h.limits;
+  left = inr (inr (subst (IsTold told) (sym left) is));
+  notes = notes_on a b c told h.notes notes workers;
+}
+
+-- one that was begun
+led_from : (a b : AdmittingSeen) (told : List Told) → Led (record a { working = begin a.working.limits a.working.earlier; kept = false }) b told → Led a b told
+led_from a b told l = record {
+  limits = l.limits;
+  left = go l.left;
+  notes = record { more = l.notes.more; behind = l.notes.behind; divided = l.notes.divided; alone = l.notes.alone; workers = l.notes.workers };
 }
   where
-    to : (b.working.world ≡ c.working.world) ⊎ ((b.working.world ≡ start) ⊎ IsTold told b.working.world) → (b.working.world ≡ a.working.world) ⊎ ((b.working.world ≡ start) ⊎ IsTold told b.working.world)
-    to (inl p) = inr (inl (p ∙ ap (λ (d : AdmittingSeen). d.working.world) e))
-    to (inr p) = inr p
+    go : (left_in b ≡ start) ⊎ ((left_in b ≡ start) ⊎ IsTold told (left_in b)) → (left_in b ≡ left_in a) ⊎ ((left_in b ≡ start) ⊎ IsTold told (left_in b))
+    go (inl p) = inr (inl p)
+    go (inr p) = inr p
 
-    notes_like : Notes a b told
-    notes_like = record {
-      more = l.notes.more;
-      behind = l.notes.behind ∙ ap (λ (d : AdmittingSeen). notes_in d ++ l.notes.more) e;
-      divided = l.notes.divided;
-      alone = λ one. l.notes.alone (subst (λ n. n ≤ 1) (sym (ap (λ (d : AdmittingSeen). d.workers) e)) one);
-      workers = l.notes.workers ∙ ap (λ (d : AdmittingSeen). d.workers) e;
-    }
+pub led_begun : (a c b : AdmittingSeen) (read : BookRead) → c ≡ record a { working = begin a.working.limits a.working.earlier; kept = false }
+    → Led c b (body_of admits ends read c.working).log → Led a b (read_body a.working.limits a.working.earlier read).log
+led_begun a c b read e h =
+    led_from a b (read_body a.working.limits a.working.earlier read).log
+    (subst (λ (d : AdmittingSeen). Led d b (body_of admits ends read d.working).log) e h)
 
--- a book that was begun
-pub led_begun : (read : BookRead) (a c b : AdmittingSeen) → c ≡ record a { working = record { limits = a.working.limits; world = start } } → Reached (λ a. a.working) admits Links Rests (forms_of read) c b
-    → Led a b (read_body a.working.limits read).log
-led_begun read a c b e h =
-    led_from a c b (read_body a.working.limits read).log e
-    (subst (λ (m : Limits). Led c b (read_body m read).log) (ap (λ (d : AdmittingSeen). d.working.limits) e)
-    (led_by read c b (ap (λ (d : AdmittingSeen). d.working.world) e) h))
-
--- where no event was worked
+-- where no book was begun
 pub led_same : (a b : AdmittingSeen) (told : List Told) → b ≡ a → Led a b told
 led_same a b told e = record {
   limits = ap (λ (d : AdmittingSeen). d.working.limits) e;
-  world = inl (ap (λ (d : AdmittingSeen). d.working.world) e);
+  left = inl (ap left_in e);
   notes = notes_same a b told (ap notes_in e) (ap (λ (d : AdmittingSeen). d.workers) e);
 }

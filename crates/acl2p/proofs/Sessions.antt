@@ -1,24 +1,26 @@
 -- The books of a session, one after another.
 use Rattle.std.proofs.Common.{◌≡◌, ◌∙◌, ◌⊎◌, ◌≤◌, ◌<◌, ℕ, zero, suc, Bool, true, false, ◌&&◌, List, [], ◌∷◌, ◌++◌, length, get_or, map, Option, Some, refl, ap, sym, subst, inl, inr, arith}
 use Rattle.std.specs.Prelude.{IfSome}
+use Rattle.ap_outside.specs.declared.library.BookRead.{BookRead}
 use Rattle.ap_outside.specs.Files.{Files, told_at}
 use Rattle.ap_outside.specs.Books.{answer_of}
 use Rattle.ap_outside.specs.Gains.{Gained, GainedPart}
 use Rattle.ap_outside.proofs.Gains.{gained_nothing, gained_more, part_first, part_next, part_all}
 use Rattle.ap_books.specs.declared.admitter.BookSeen.{BookSeen}
-use Rattle.ap_events.specs.declared.limits.Limits.{Limits}
+use Rattle.ap_books.specs.Bodies.{Body}
+use Rattle.ap_plain.specs.declared.limits.Limits.{Limits}
 use Rattle.ap_table.specs.declared.link.DropNote.{DropNote}
-use Rattle.ap_events.specs.Ends.{Told, walks_in}
-use Rattle.ap_events.specs.Drops.{DividedWalks}
+use Rattle.ap_plain.specs.Ends.{Told, walks_in}
+use Rattle.ap_plain.specs.Drops.{DividedWalks}
 use Rattle.ap_world.specs.World.{Shown}
 use Rattle.acl2p.specs.declared.fault.Fault.{Fault}
 use Rattle.acl2p.specs.declared.fault.Fault.TheVariants as faults
 use Rattle.acl2p.specs.declared.report.Status.TheVariants.{ReadFault, WriteFault}
 use Rattle.acl2p.specs.Command.{Command}
-use Rattle.acl2p.specs.Working.{start}
-use Rattle.acl2p.specs.Admitting.{AdmittingSeen, notes_in, IsTold, Led}
-use Rattle.acl2p.specs.Session.{Session, begun, read_body, book_text, then_book, books_of, reads_in, worked_books, Worked, Kept, Passed, IsNext, Listed, file_name, session, traced, output, fault_status, is_done}
-use Rattle.ap_events.proofs.Telling.{notes_more, notes_none, told_left, told_right}
+use Rattle.acl2p.specs.Working.{Working, start}
+use Rattle.acl2p.specs.Admitting.{AdmittingSeen, notes_in, left_in, IsTold, Led}
+use Rattle.acl2p.specs.Session.{Session, begun, read_body, book_text, kept_more, last_of, with_body, then_book, books_of, reads_in, worked_books, Worked, Kept, Passed, IsNext, Listed, file_name, session, traced, output, fault_status, is_done}
+use Rattle.ap_plain.proofs.Telling.{notes_more, notes_none, told_left, told_right}
 
 none_read : (limits : Limits) (s : Session) (names : List (List ℕ)) → books_of limits s names [] ≡ s
 none_read limits s [] = refl
@@ -79,11 +81,11 @@ pub record SoFar (from now : Option (List ℕ)) (files : Option Files) (names : 
   pub listed : Listed files names books
 
 -- no book
-pub so_far_none : (from : Option (List ℕ)) (files : Option Files) (names : List (List ℕ)) (a : AdmittingSeen) → a.working.world ≡ start → notes_in a ≡ [] → SoFar from from files names a a [] true
-so_far_none from files names a w n =
+pub so_far_none : (from : Option (List ℕ)) (files : Option Files) (names : List (List ℕ)) (a : AdmittingSeen) → left_in a ≡ start → a.working.earlier ≡ [] → notes_in a ≡ [] → SoFar from from files names a a [] true
+so_far_none from files names a w k n =
     let is = sym (none_read a.working.limits begun names) in
     record {
-      worked = subst (λ s. Worked from from s true a) is (record { text = gained_nothing from; certified = refl; last = sym w });
+      worked = subst (λ s. Worked from from s true a) is (record { text = gained_nothing from; certified = refl; earlier = sym k; last = sym w });
       kept = subst (λ s. Kept s a a) is (record { passed = inl w; drops = n; alone = λ one. n });
       limits = refl;
       workers = refl;
@@ -97,21 +99,21 @@ then_listed : (a : AdmittingSeen) (names : List (List ℕ)) (books : List BookSe
 then_listed a names books name book h is e =
     then_one a.working.limits begun names books name book h is ∙ ap (λ n. then_book a.working.limits (worked_books a names books) n book.read) (sym e)
 
+-- the body of a book, as it was worked and as the session has it
+body_same : (s : Session) (a b : AdmittingSeen) (read : BookRead) → b.working.limits ≡ a.working.limits → s.earlier ≡ b.working.earlier → read_body b.working.limits b.working.earlier read ≡ read_body a.working.limits s.earlier read
+body_same s a b read e k = ap (λ m. read_body m b.working.earlier read) e ∙ ap (λ ks. read_body a.working.limits ks read) (sym k)
+
 -- what is kept over one book
-then_kept : (s : Session) (a b c : AdmittingSeen) (name : List ℕ) (book : BookSeen) (limits : Limits) → limits ≡ b.working.limits → b.workers ≡ a.workers → Kept s a b
-    → Led b c (read_body b.working.limits book.read).log → Kept (then_book limits s name book.read) a c
-then_kept s a b c name book limits e w k l = record {
-  passed = to k.passed led.world;
+then_kept : (s : Session) (a b c : AdmittingSeen) (name : List ℕ) (body : Body Working Told) → b.workers ≡ a.workers → Kept s a b → Led b c body.log → Kept (with_body s name body) a c
+then_kept s a b c name body w k led = record {
+  passed = to k.passed led.left;
   drops = subst (λ ns. DividedWalks ns (walks_in (s.told ++ log))) (sym led.notes.behind)
       (notes_more (notes_in b) led.notes.more s.told log k.drops led.notes.divided);
   alone = λ one. led.notes.behind ∙ none one;
 }
   where
     log : List Told
-    log = (read_body limits book.read).log
-
-    led : Led b c log
-    led = subst (λ (m : Limits). Led b c (read_body m book.read).log) (sym e) l
+    log = body.log
 
     none : a.workers ≤ 1 → notes_in b ++ led.notes.more ≡ []
     none one =
@@ -119,35 +121,33 @@ then_kept s a b c name book limits e w k l = record {
         let q : led.notes.more ≡ [] = led.notes.alone (subst (λ n. n ≤ 1) (sym w) one) in
         rw (p, q) refl
 
-    to : Passed s b.working.world → (c.working.world ≡ b.working.world) ⊎ ((c.working.world ≡ start) ⊎ IsTold log c.working.world) → (c.working.world ≡ start) ⊎ IsTold (s.told ++ log) c.working.world
+    to : Passed s (left_in b) → (left_in c ≡ left_in b) ⊎ ((left_in c ≡ start) ⊎ IsTold log (left_in c)) → (left_in c ≡ start) ⊎ IsTold (s.told ++ log) (left_in c)
     to p (inr (inl q)) = inl q
-    to p (inr (inr q)) = inr (told_right s.told log c.working.world q)
+    to p (inr (inr q)) = inr (told_right s.told log (left_in c) q)
     to (inl p) (inl q) = inl (q ∙ p)
-    to (inr p) (inl q) = inr (subst (λ v. IsTold (s.told ++ log) v) (sym q) (told_left s.told log b.working.world p))
+    to (inr p) (inl q) = inr (subst (λ v. IsTold (s.told ++ log) v) (sym q) (told_left s.told log (left_in b) p))
 
 -- a book that was worked whole
 pub so_far_more : (from mid now : Option (List ℕ)) (files : Option Files) (names : List (List ℕ)) (a b c : AdmittingSeen) (books new : List BookSeen) (all good : Bool) (name : List ℕ) (book : BookSeen)
     → length books < length names → name ≡ get_or names (length books) name → (next : IsNext files name books new) → book ≡ next.book
-    → SoFar from mid files names a b books all
-    → Gained mid now (book_text book.name.0 (read_body b.working.limits book.read)) → (read_body b.working.limits book.read).certified ≡ good → (read_body b.working.limits book.read).state ≡ c.working
-    → Led b c (read_body b.working.limits book.read).log → SoFar from now files names a c new (all && good)
-so_far_more from mid now files names a b c books new all good name book h is next same so gained certified last led =
+    → SoFar from mid files names a b books all → (body : Body Working Told) → read_body b.working.limits b.working.earlier book.read ≡ body
+    → Gained mid now (book_text book.name.0 body) → body.certified ≡ good → kept_more b.working.earlier book.name.0 body ≡ c.working.earlier → last_of body ≡ left_in c
+    → Led b c body.log → SoFar from now files names a c new (all && good)
+so_far_more from mid now files names a b c books new all good name book h is next same so body made gained certified earlier last led =
     let named = ap (λ (k : BookSeen). k.name.0) same ∙ next.named in
     let s = worked_books a names books in
-    let body = read_body a.working.limits book.read in
-    let limits = so.limits in
     let list : new ≡ books ++ book ∷ [] = next.listed ∙ ap (λ k. books ++ k ∷ []) (sym same) in
-    let to : worked_books a names new ≡ then_book a.working.limits s book.name.0 book.read =
-    ap (worked_books a names) list ∙ then_listed a names books name book h is named in
+    let to : worked_books a names new ≡ with_body s book.name.0 body =
+    ap (worked_books a names) list ∙ then_listed a names books name book h is named ∙ ap (with_body s book.name.0) (sym (body_same s a b book.read so.limits so.worked.earlier) ∙ made) in
     record {
       worked = subst (λ t. Worked from now t (all && good) c) (sym to) (record {
-        text = gained_more from mid now s.text (book_text book.name.0 body) so.worked.text
-            (subst (λ (m : Limits). Gained mid now (book_text book.name.0 (read_body m book.read))) limits gained);
-        certified = both so.worked.certified (subst (λ (m : Limits). (read_body m book.read).certified ≡ good) limits certified);
-        last = ap (λ w. w.world) (subst (λ (m : Limits). (read_body m book.read).state ≡ c.working) limits last);
+        text = gained_more from mid now s.text (book_text book.name.0 body) so.worked.text gained;
+        certified = both so.worked.certified certified;
+        earlier = ap (λ ks. kept_more ks book.name.0 body) so.worked.earlier ∙ earlier;
+        last = last;
       });
-      kept = subst (λ t. Kept t a c) (sym to) (then_kept s a b c book.name.0 book a.working.limits (sym limits) so.workers so.kept led);
-      limits = led.limits ∙ limits;
+      kept = subst (λ t. Kept t a c) (sym to) (then_kept s a b c book.name.0 body so.workers so.kept led);
+      limits = led.limits ∙ so.limits;
       workers = led.notes.workers ∙ so.workers;
       listed = subst (λ l. Listed files names l) (sym list)
           (next_listed files names books name book h is so.listed named (subst (λ (k : BookSeen). IfSome (told_at files (file_name name)) (λ found. k.read ≡ answer_of found)) (sym same) next.told));
@@ -165,22 +165,17 @@ pub record CutOff (from now : Option (List ℕ)) (files : Option Files) (names :
 -- within a book
 pub cut_within : (from mid now : Option (List ℕ)) (files : Option Files) (names : List (List ℕ)) (a b c : AdmittingSeen) (books new : List BookSeen) (all : Bool) (name : List ℕ) (book : BookSeen)
     → length books < length names → name ≡ get_or names (length books) name → (next : IsNext files name books new) → book ≡ next.book
-    → SoFar from mid files names a b books all
-    → GainedPart mid now (book_text book.name.0 (read_body b.working.limits book.read))
-    → Led b c (read_body b.working.limits book.read).log → CutOff from now files names a c new
-cut_within from mid now files names a b c books new all name book h is next same so part led =
+    → SoFar from mid files names a b books all → (body : Body Working Told) → read_body b.working.limits b.working.earlier book.read ≡ body
+    → GainedPart mid now (book_text book.name.0 body) → Led b c body.log → CutOff from now files names a c new
+cut_within from mid now files names a b c books new all name book h is next same so body made part led =
     let named = ap (λ (k : BookSeen). k.name.0) same ∙ next.named in
     let s = worked_books a names books in
-    let body = read_body a.working.limits book.read in
-    let limits = so.limits in
     let list : new ≡ books ++ book ∷ [] = next.listed ∙ ap (λ k. books ++ k ∷ []) (sym same) in
-    let to : worked_books a names new ≡ then_book a.working.limits s book.name.0 book.read =
-    ap (worked_books a names) list ∙ then_listed a names books name book h is named in
+    let to : worked_books a names new ≡ with_body s book.name.0 body =
+    ap (worked_books a names) list ∙ then_listed a names books name book h is named ∙ ap (with_body s book.name.0) (sym (body_same s a b book.read so.limits so.worked.earlier) ∙ made) in
     record {
-      part = subst (λ (t : Session). GainedPart from now t.text) (sym to)
-          (part_next from mid now s.text (book_text book.name.0 body) so.worked.text
-          (subst (λ (m : Limits). GainedPart mid now (book_text book.name.0 (read_body m book.read))) limits part));
-      kept = subst (λ t. Kept t a c) (sym to) (then_kept s a b c book.name.0 book a.working.limits (sym limits) so.workers so.kept led);
+      part = subst (λ (t : Session). GainedPart from now t.text) (sym to) (part_next from mid now s.text (book_text book.name.0 body) so.worked.text part);
+      kept = subst (λ t. Kept t a c) (sym to) (then_kept s a b c book.name.0 body so.workers so.kept led);
       listed = subst (λ l. Listed files names l) (sym list)
           (next_listed files names books name book h is so.listed named (subst (λ (k : BookSeen). IfSome (told_at files (file_name name)) (λ found. k.read ≡ answer_of found)) (sym same) next.told));
     }

@@ -1,23 +1,31 @@
--- Each world that a session passes through is sound, where each event keeps worlds so.
-use Rattle.std.proofs.Common.{◌≡◌, ℕ, Bool, true, false, List, [], ◌∷◌, ◌++◌, Option, Some, None, Result, Ok, Err, refl, sym, subst}
-use Rattle.ap_list.specs.Lists.{Each}
+-- Each world that a session passes through is sound, where each event keeps worlds so, first and again.
+use Rattle.std.proofs.Common.{◌≡◌, ◌⊎◌, ℕ, Bool, true, false, cond, List, [], ◌∷◌, ◌++◌, Option, Some, None, Result, Ok, Err, refl, sym, subst, inl, inr}
+use Rattle.ap_list.specs.Lists.{Each, AnyOf}
+use Rattle.ap_world.specs.declared.entry.Entry.{Entry}
+use Rattle.ap_world.specs.Alike.{Covers}
 use Rattle.ap_world.specs.Ground.{ground}
-use Rattle.ap_world.specs.Sound.{Sound}
-use Rattle.ap_world.specs.World.{Shown}
+use Rattle.ap_world.specs.Sound.{Sound, HasFunctions}
+use Rattle.ap_world.specs.World.{Shown, function_of, are_distinct}
+use Rattle.ap_world.proofs.Covering.{covers_self}
 use Rattle.ap_ground.proofs.Begun.{ground_distinct}
 use Rattle.ap_outside.specs.declared.library.BookRead.{BookRead}
 use Rattle.ap_reader.specs.declared.form.Form.{Form}
-use Rattle.ap_books.specs.Bodies.{go_on, worked, body_by, events_in}
-use Rattle.ap_events.specs.declared.limits.Limits.{Limits}
-use Rattle.ap_events.specs.Ends.{Told, worlds_in}
-use Rattle.ap_events.specs.Events.{event_of}
-use Rattle.ap_events.specs.Laws.{GoodWorld, EventsKeepGood}
+use Rattle.ap_books.specs.Bodies.{Body, go_on, certified, worked, body_by, events_in}
+use Rattle.ap_plain.specs.declared.limits.Limits.{Limits}
+use Rattle.ap_plain.specs.Ends.{Told, worlds_in}
+use Rattle.ap_plain.specs.Laws.{GoodWorld}
+use Rattle.ap_plain.proofs.Telling.{worlds_after, of_told, each_after}
+use Rattle.ap_events.specs.Again.{AgainIsCovered}
+use Rattle.ap_events.specs.Backing.{Backed}
+use Rattle.ap_events.specs.Books.{Earlier, worked as first_worked, worked_again}
+use Rattle.ap_events.specs.Laws.{AreGood, WorkedKeepGood, AgainKeepsGood, WorkedGrows, WorkedTells}
+use Rattle.acl2p.specs.declared.second.Second.{Second}
+use Rattle.acl2p.specs.declared.second.Second.TheVariants.{SoFar, Failed}
 use Rattle.acl2p.specs.Command.{Command}
-use Rattle.acl2p.specs.Working.{Working, start, after, admits, ends}
-use Rattle.acl2p.specs.Session.{Session, begun, then_book, books_of, session, read_body}
+use Rattle.acl2p.specs.Working.{Working, start, begin, second_by, one_more, after, admits, end_text, has_failed, end_told, ends, IfSoFar, Stands}
+use Rattle.acl2p.specs.Session.{Session, begun, kept_by, kept_of, kept_more, then_book, books_of, session, read_body}
+use Rattle.acl2p.proofs.Passing.{next_backs, both_cover}
 use Rattle.acl2p.proofs.Starting.{start_has}
-use Rattle.ap_events.proofs.Telling.{next_told}
-use Rattle.ap_events.proofs.Telling.{worlds_after, of_told, each_after}
 
 abbrev AllGood : List Told → Type 0
 AllGood told = Each GoodWorld (worlds_in told)
@@ -25,31 +33,108 @@ AllGood told = Each GoodWorld (worlds_in told)
 good_after : (xs ys : List Told) → AllGood xs → AllGood ys → AllGood (xs ++ ys)
 good_after xs ys h k = subst (λ us. Each GoodWorld us) (sym (worlds_after xs ys)) (each_after GoodWorld (worlds_in xs) (worlds_in ys) h k)
 
-module _ (kept : EventsKeepGood) where
-  next_good : (s : Working) (f : Form) → GoodWorld s.world → (o : Option Shown) → (event_of s.limits s.world f).next ≡ o → GoodWorld (after s o).world
-  next_good s f good None e = good
-  next_good s f good (Some w) e =
-      of_told GoodWorld (worlds_in (event_of s.limits s.world f).told) w (kept s.limits s.world f good) (next_told s.limits s.world f w e)
+-- what is worked in is good
+record GoodWorking (s : Working) : Type 0 where
+  world : GoodWorld s.world
+  again : IfSoFar GoodWorld s.second
+  covered : IfSoFar (λ v. Covers v.entries s.world.entries) s.second
+  earlier : AreGood s.earlier
 
-  worked_good : (fs : List Form) (s : Working) → GoodWorld s.world → AllGood (worked admits ends fs s).log
-  worked_good [] s good = tt
-  worked_good (f ∷ fs) s good =
-      go (admits s f).refused (worked_good fs (admits s f).next (next_good s f good (event_of s.limits s.world f).next refl))
+-- a body that tells good worlds alone
+record GoodBody (b : Body Working Told) : Type 0 where
+  told : AllGood b.log
+  state : GoodWorking b.state
+
+distinct_names : (bs : Earlier) → AreGood bs → Each (λ p. are_distinct p.1.entries ≡ true) bs
+distinct_names [] hs = tt
+distinct_names (b ∷ bs) hs = (hs.0.distinct, distinct_names bs hs.1)
+
+good_stands : (s : Working) → GoodWorking s → Stands s
+good_stands s good = record {
+  functions = good.world.functions;
+  again = go s.second good.again;
+  covered = good.covered;
+  distinct = distinct_names s.earlier good.earlier;
+}
+  where
+    go : (p : Second) → IfSoFar GoodWorld p → IfSoFar (λ v. HasFunctions (function_of v.entries)) p
+    go (SoFar v) h = h.functions
+    go (Failed text) h = tt
+
+begin_good : (limits : Limits) (earlier : Earlier) → GoodWorld start → AreGood earlier → GoodWorking (begin limits earlier)
+begin_good limits earlier good goods = record { world = good; again = good; covered = covers_self start.entries; earlier = goods }
+
+-- the world after, which is the one before or told
+next_good : (w v : Shown) (told : List Told) → GoodWorld w → AllGood told → (w ≡ v) ⊎ AnyOf (λ u. u ≡ v) (worlds_in told) → GoodWorld v
+next_good w v told good goods (inl p) = subst GoodWorld p good
+next_good w v told good goods (inr t) = of_told GoodWorld (worlds_in told) v goods t
+
+kept_good : (s : Working) → GoodWorking s → GoodWorld (kept_by s.second s.world)
+kept_good s good = go s.second good.again
+  where
+    go : (p : Second) → IfSoFar GoodWorld p → GoodWorld (kept_by p s.world)
+    go (SoFar v) h = h
+    go (Failed text) h = good.world
+
+module _ (kept : WorkedKeepGood) (redone : AgainKeepsGood) (grows : WorkedGrows) (tells : WorkedTells) (covers : AgainIsCovered) where
+  again_good : (s : Working) (f : Form) → GoodWorking s → (p : Second) → IfSoFar GoodWorld p → IfSoFar (λ v. (U : List Entry) × Backed (worked_again s.earlier v f) v U) p → IfSoFar GoodWorld (one_more s.earlier f p)
+  again_good s f good (Failed text) h b = tt
+  again_good s f good (SoFar v) h b = go (worked_again s.earlier v f).next refl
     where
-      go : (r : Bool) → AllGood (worked admits ends fs (admits s f).next).log → AllGood (go_on (admits s f).text (admits s f).log r (admits s f).next (worked admits ends fs)).log
-      go true rest = kept s.limits s.world f good
-      go false rest = good_after (admits s f).log (worked admits ends fs (admits s f).next).log (kept s.limits s.world f good) rest
+      go : (o : Option Shown) → (worked_again s.earlier v f).next ≡ o → IfSoFar GoodWorld (second_by (worked_again s.earlier v f).text o)
+      go None e = tt
+      go (Some u) e =
+          next_good v u (worked_again s.earlier v f).told h (redone s.earlier good.earlier v f b.0 h b.1) ((tells s.limits s.earlier v f).1 u e)
 
-  by_good : (events : Result (List Form) (List ℕ)) (s : Working) → GoodWorld s.world → AllGood (body_by admits ends events s).log
-  by_good (Err text) s good = tt
+  after_good : (s : Working) (f : Form) → GoodWorking s → (o : Option Shown) → (first_worked s.limits s.earlier s.world f).next ≡ o → GoodWorking (after s f o)
+  after_good s f good None e = good
+  after_good s f good (Some w) e =
+      let next = next_good s.world w (first_worked s.limits s.earlier s.world f).told good.world (kept s.limits s.earlier good.earlier s.world f good.world) ((tells s.limits s.earlier s.world f).0 w e) in
+      record {
+        world = next;
+        again = again_good s f good s.second good.again (next_backs grows covers s f w (good_stands s good) e next.sound);
+        covered = both_cover grows covers s f w (good_stands s good) e;
+        earlier = good.earlier;
+      }
+
+  ends_good : (s : Working) → GoodWorking s → GoodBody (worked admits ends [] s)
+  ends_good s good = go s.second good.again
+    where
+      go : (p : Second) → IfSoFar GoodWorld p → GoodBody (go_on (end_text p) (end_told p) (has_failed p) s certified)
+      go (SoFar v) h = record { told = (h, tt); state = good }
+      go (Failed text) h = record { told = tt; state = good }
+
+  worked_good : (fs : List Form) (s : Working) → GoodWorking s → GoodBody (worked admits ends fs s)
+  worked_good [] s good = ends_good s good
+  worked_good (f ∷ fs) s good =
+      let next = after_good s f good (first_worked s.limits s.earlier s.world f).next refl in
+      go (admits s f).refused next (worked_good fs (admits s f).next next)
+    where
+      here : AllGood (admits s f).log
+      here = kept s.limits s.earlier good.earlier s.world f good.world
+
+      go : (r : Bool) → GoodWorking (admits s f).next → GoodBody (worked admits ends fs (admits s f).next) → GoodBody (go_on (admits s f).text (admits s f).log r (admits s f).next (worked admits ends fs))
+      go true next rest = record { told = here; state = next }
+      go false next rest = record { told = good_after (admits s f).log (worked admits ends fs (admits s f).next).log here rest.told; state = rest.state }
+
+  by_good : (events : Result (List Form) (List ℕ)) (s : Working) → GoodWorking s → GoodBody (body_by admits ends events s)
+  by_good (Err text) s good = record { told = tt; state = good }
   by_good (Ok fs) s good = worked_good fs s good
 
-  books_good : (limits : Limits) (s : Session) (names : List (List ℕ)) (reads : List BookRead) → GoodWorld start → AllGood s.told → AllGood (books_of limits s names reads).told
-  books_good limits s [] reads good all = all
-  books_good limits s (name ∷ names) [] good all = all
-  books_good limits s (name ∷ names) (read ∷ reads) good all =
+  more_good : (earlier : Earlier) (name : List ℕ) (b : Body Working Told) → AreGood earlier → GoodBody b → AreGood (kept_more earlier name b)
+  more_good earlier name b goods good = each_after (λ p. GoodWorld p.1) earlier (cond b.certified ((name, kept_of b) ∷ []) []) goods (go b.certified)
+    where
+      go : (c : Bool) → AreGood (cond c ((name, kept_of b) ∷ []) [])
+      go true = (kept_good b.state good.state, tt)
+      go false = tt
+
+  books_good : (limits : Limits) (s : Session) (names : List (List ℕ)) (reads : List BookRead) → GoodWorld start → AllGood s.told → AreGood s.earlier → AllGood (books_of limits s names reads).told
+  books_good limits s [] reads good all goods = all
+  books_good limits s (name ∷ names) [] good all goods = all
+  books_good limits s (name ∷ names) (read ∷ reads) good all goods =
+      let body = by_good (events_in read) (begin limits s.earlier) (begin_good limits s.earlier good goods) in
       books_good limits (then_book limits s name read) names reads good
-      (good_after s.told (read_body limits read).log all (by_good (events_in read) (record { limits = limits; world = start }) good))
+      (good_after s.told (read_body limits s.earlier read).log all body.told) (more_good s.earlier name (read_body limits s.earlier read) goods body)
 
 start_good : Sound ground → GoodWorld start
 unfolding start
@@ -60,7 +145,8 @@ sounds [] h = tt
 sounds (u ∷ us) h = (h.0.sound, sounds us h.1)
 
 -- of a session by its command
-pub session_sound : EventsKeepGood → Sound ground → (command : Option Command) (reads : List BookRead) → Each (λ w. Sound w.entries) (worlds_in (session command reads).told)
-session_sound kept h None reads = tt
-session_sound kept h (Some c) reads =
-    sounds (worlds_in (session (Some c) reads).told) (books_good kept c.limits begun c.books reads (start_good h) tt)
+pub session_sound : WorkedKeepGood → AgainKeepsGood → WorkedGrows → WorkedTells → AgainIsCovered → Sound ground → (command : Option Command) (reads : List BookRead)
+    → Each (λ w. Sound w.entries) (worlds_in (session command reads).told)
+session_sound kept redone grows tells covers h None reads = tt
+session_sound kept redone grows tells covers h (Some c) reads =
+    sounds (worlds_in (session (Some c) reads).told) (books_good kept redone grows tells covers c.limits begun c.books reads (start_good h) tt tt)

@@ -6,8 +6,8 @@ use Rattle.ap_value.specs.Values.{bytes_eq}
 use Rattle.ap_value.specs.declared.symbol.BookName.{BookName}
 use Rattle.ap_books.specs.declared.planning.PlanError.{PlanError}
 use Rattle.ap_books.specs.Plan.{is_between, plan_of}
-use Rattle.ap_events.specs.declared.limits.Limits.{Limits}
-use Rattle.ap_events.specs.Limits.{limits_of}
+use Rattle.ap_plain.specs.declared.limits.Limits.{Limits}
+use Rattle.ap_plain.specs.Limits.{limits_of}
 use Rattle.acl2p.specs.declared.command.Command as commands
 use Rattle.acl2p.specs.declared.command.Counted.{Counted}
 use Rattle.acl2p.specs.declared.command.Counted.TheVariants.{Workers, Steps, Goals}

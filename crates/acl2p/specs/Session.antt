@@ -9,43 +9,69 @@ use Rattle.ap_table.specs.declared.link.DropNote.{DropNote}
 use Rattle.ap_books.specs.declared.admitter.BookSeen.{BookSeen}
 use Rattle.ap_books.specs.Bodies.{Body, body_of, opened}
 use Rattle.ap_books.specs.Texts.{closing}
-use Rattle.ap_events.specs.declared.limits.Limits.{Limits}
-use Rattle.ap_events.specs.Ends.{Told, walks_in}
-use Rattle.ap_events.specs.Drops.{DividedWalks}
+use Rattle.ap_plain.specs.declared.limits.Limits.{Limits}
+use Rattle.ap_plain.specs.Ends.{Told, walks_in}
+use Rattle.ap_plain.specs.Drops.{DividedWalks}
+use Rattle.ap_events.specs.Books.{Earlier}
 use Rattle.acl2p.specs.declared.report.Status.{Status}
 use Rattle.acl2p.specs.declared.report.Status.TheVariants.{Certified, NotCertified, Usage, ReadFault, WriteFault, NoMemory}
 use Rattle.acl2p.specs.declared.fault.Fault.{Fault}
 use Rattle.acl2p.specs.declared.fault.Fault.TheVariants as faults
-use Rattle.acl2p.specs.Admitting.{AdmittingSeen, notes_in, IsTold}
+use Rattle.acl2p.specs.declared.second.Second.{Second}
+use Rattle.acl2p.specs.declared.second.Second.TheVariants.{SoFar, Failed}
+use Rattle.acl2p.specs.Admitting.{AdmittingSeen, notes_in, left_in, IsTold}
 use Rattle.acl2p.specs.Command.{Command}
 use Rattle.acl2p.specs.Texts.{usage_text, trace_text}
-use Rattle.acl2p.specs.Working.{Working, start, admits, ends}
+use Rattle.acl2p.specs.Working.{Working, start, begin, admits, ends}
 
--- the body of a book that was read: each book begins with the same world
-abbrev pub read_body : Limits → BookRead → Body Working Told
-read_body limits read = body_of admits ends read (record { limits = limits; world = start })
+-- the body of a book that was read, behind earlier ones
+abbrev pub read_body : Limits → Earlier → BookRead → Body Working Told
+read_body limits earlier read = body_of admits ends read (begin limits earlier)
 
 -- a book's text, from its first line to its last
 unfoldable pub book_text : List ℕ → Body Working Told → List ℕ
 book_text name b = opened name b ++ closing name b.certified
 
--- a session so far: its text, whether each of its books is certified, what was told on the way, and the last world
+-- the world that a certified book keeps, which later books may include: that of its second pass
+abbrev pub kept_by : Second → Shown → Shown
+kept_by (SoFar v) w = v
+kept_by (Failed text) w = w
+
+abbrev pub kept_of : Body Working Told → Shown
+kept_of b = kept_by b.state.second b.state.world
+
+-- the kept worlds with this book's, where it is certified
+abbrev pub kept_more : Earlier → List ℕ → Body Working Told → Earlier
+kept_more earlier name b = earlier ++ cond b.certified ((name, kept_of b) ∷ []) []
+
+-- the last world of a book
+abbrev pub last_of : Body Working Told → Shown
+last_of b = cond b.certified (kept_of b) b.state.world
+
+-- a session so far: its text, whether each of its books is certified, what was told on the way, the kept worlds of the
+-- certified ones, by their names, and the last world
 pub record Session : Type 0 where
   pub text : List ℕ
   pub certified : Bool
   pub told : List Told
+  pub earlier : Earlier
   pub last : Shown
 
 abbrev pub begun : Session
-begun = record { text = []; certified = true; told = []; last = start }
+begun = record { text = []; certified = true; told = []; earlier = []; last = start }
 
 -- one book more
 abbrev pub with_body : Session → List ℕ → Body Working Told → Session
-with_body s name b =
-    record { text = s.text ++ book_text name b; certified = s.certified && b.certified; told = s.told ++ b.log; last = b.state.world }
+with_body s name b = record {
+  text = s.text ++ book_text name b;
+  certified = s.certified && b.certified;
+  told = s.told ++ b.log;
+  earlier = kept_more s.earlier name b;
+  last = last_of b;
+}
 
 abbrev pub then_book : Limits → Session → List ℕ → BookRead → Session
-then_book limits s name read = with_body s name (read_body limits read)
+then_book limits s name read = with_body s name (read_body limits s.earlier read)
 
 -- the books of these names, as they were read; the reads may be fewer than the names
 abbrev pub books_of : Limits → Session → List (List ℕ) → List BookRead → Session
@@ -55,7 +81,7 @@ books_of limits s (name ∷ names) (read ∷ reads) = books_of limits (then_book
 
 -- the session that words which are no command give
 abbrev pub usage : Session
-usage = record { text = usage_text; certified = false; told = []; last = start }
+usage = record { text = usage_text; certified = false; told = []; earlier = []; last = start }
 
 -- by what the words command, and by what the reads of the books answered
 abbrev pub session : Option Command → List BookRead → Session
@@ -91,11 +117,12 @@ worked_books a names books = books_of a.working.limits begun names (reads_in boo
 pub record Worked (before after : Option (List ℕ)) (s : Session) (all : Bool) (a : AdmittingSeen) : Type 0 where
   pub text : Gained before after s.text
   pub certified : s.certified ≡ all
-  pub last : s.last ≡ a.working.world
+  pub earlier : s.earlier ≡ a.working.earlier
+  pub last : s.last ≡ left_in a
 
 -- what holds of a session that was worked so far, also where a fault cut it off
 pub record Kept (s : Session) (a b : AdmittingSeen) : Type 0 where
-  pub passed : Passed s b.working.world
+  pub passed : Passed s (left_in b)
   pub drops : DividedWalks (notes_in b) (walks_in s.told)
   pub alone : a.workers ≤ 1 → notes_in b ≡ []
 

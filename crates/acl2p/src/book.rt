@@ -1,11 +1,11 @@
-ghost use Rattle.std.specs.Prelude.{◌≡◌, ◌≢◌, ◌≤◌, ◌⊎◌, false, IfOk, OnOk, OnErr};
+ghost use Rattle.std.specs.Prelude.{◌≡◌, ◌≢◌, ◌≤◌, ◌++◌, ◌∷◌, [], false, IfOk, IfErr, OnOk, OnErr};
 ghost use Rattle.ap_outside.specs.Faults.{Rose};
 ghost use Rattle.ap_outside.specs.Gains.{Gained, GainedPart};
-ghost use Rattle.ap_books.specs.Bodies.{worked, body_by, body_of, forms_by, forms_of, opened, Reached};
+ghost use Rattle.ap_books.specs.Bodies.{worked, body_by, body_of, opened};
 ghost use Rattle.ap_books.specs.Texts.{closing};
-ghost use Rattle.acl2p.specs.Working.{admits, ends};
-ghost use Rattle.acl2p.specs.Admitting.{Links, Rests, Led};
-ghost use Rattle.acl2p.specs.Session.{read_body, book_text};
+ghost use Rattle.acl2p.specs.Working.{start, admits, ends, has_failed};
+ghost use Rattle.acl2p.specs.Admitting.{notes_in, left_in, Behind, Led};
+ghost use Rattle.acl2p.specs.Session.{read_body, kept_by, kept_more, last_of, book_text};
 
 use crate::admitting::Admitting;
 use crate::fault::{Fault, at_write};
@@ -30,8 +30,7 @@ fn show_event<R: Threads + Wait + Sync, G: Gate + Sync, S: Sink>(
     ensures refused { IfOk result (λ b. (admits admitting.old.working form.now).refused ≡ b) }
     ensures next { OnOk result ((admits admitting.old.working form.now).next ≡ admitting.new.working) }
     ensures part { OnErr result (GainedPart (S.content sink.old) (S.content sink.new) (admits admitting.old.working form.now).text) }
-    ensures links { OnOk result (Links admitting.old form.now admitting.new) }
-    ensures ran { OnErr result (Links admitting.old form.now admitting.new ⊎ Rests admitting.old admitting.new) }
+    ensures behind { Behind admitting.old admitting.new (admits admitting.old.working form.now).log }
     ensures later { S.faults sink.old ≤ S.faults sink.new }
     ensures failed { result ≡ Err WriteFault.Failed → Rose (S.faults sink.old) (S.faults sink.new) }
 {
@@ -40,8 +39,25 @@ fn show_event<R: Threads + Wait + Sync, G: Gate + Sync, S: Sink>(
     Ok(ended.refused)
 }
 
-/// Works the events of a book up to the first that is refused, and puts the text of each. Answers whether all were
-/// admitted.
+/// Ends a book whose events were all admitted, and puts what its second pass printed. Answers whether that refused one.
+fn show_end<G, S: Sink>(
+    alloc: Global,
+    admitting: &Admitting<'_, G>,
+    sink: &mut S,
+) -> Result<bool, WriteFault>
+    ensures text { OnOk result (Gained (S.content sink.old) (S.content sink.new) (ends admitting.now.working).text) }
+    ensures refused { IfOk result (λ b. (ends admitting.now.working).refused ≡ b) }
+    ensures part { OnErr result (GainedPart (S.content sink.old) (S.content sink.new) (ends admitting.now.working).text) }
+    ensures later { S.faults sink.old ≤ S.faults sink.new }
+    ensures failed { result ≡ Err WriteFault.Failed → Rose (S.faults sink.old) (S.faults sink.new) }
+{
+    let ended = admitting.end(alloc)?;
+    put_all(sink, ended.text.as_slice())?;
+    Ok(ended.refused)
+}
+
+/// Works the events of a book up to the first that is refused, and puts the text of each; where none is, the second pass
+/// ends the book. Answers whether nothing was refused.
 fn show_events<R: Threads + Wait + Sync, G: Gate + Sync, S: Sink>(
     rt: &R,
     alloc: Global,
@@ -51,7 +67,7 @@ fn show_events<R: Threads + Wait + Sync, G: Gate + Sync, S: Sink>(
 ) -> Result<bool, WriteFault>
     ensures text { OnOk result (Gained (S.content sink.old) (S.content sink.new) (worked admits ends forms.now admitting.old.working).text) }
     ensures certified { IfOk result (λ b. (worked admits ends forms.now admitting.old.working).certified ≡ b) }
-    ensures reached { Reached (λ a. a.working) admits Links Rests forms.now admitting.old admitting.new }
+    ensures behind { Behind admitting.old admitting.new (worked admits ends forms.now admitting.old.working).log }
     ensures state { OnOk result ((worked admits ends forms.now admitting.old.working).state ≡ admitting.new.working) }
     ensures part { OnErr result (GainedPart (S.content sink.old) (S.content sink.new) (worked admits ends forms.now admitting.old.working).text) }
     ensures later { S.faults sink.old ≤ S.faults sink.new }
@@ -62,7 +78,7 @@ fn show_events<R: Threads + Wait + Sync, G: Gate + Sync, S: Sink>(
             return Ok(false);
         }
     }
-    Ok(true)
+    Ok(!show_end(alloc, admitting, sink)?)
 }
 
 /// Puts what is printed of a book that has no events.
@@ -87,7 +103,7 @@ fn show_body<R: Threads + Wait + Sync, G: Gate + Sync, S: Sink>(
 ) -> Result<bool, WriteFault>
     ensures text { OnOk result (Gained (S.content sink.old) (S.content sink.new) (body_by admits ends events.now admitting.old.working).text) }
     ensures certified { IfOk result (λ b. (body_by admits ends events.now admitting.old.working).certified ≡ b) }
-    ensures reached { Reached (λ a. a.working) admits Links Rests (forms_by events.now) admitting.old admitting.new }
+    ensures behind { Behind admitting.old admitting.new (body_by admits ends events.now admitting.old.working).log }
     ensures state { OnOk result ((body_by admits ends events.now admitting.old.working).state ≡ admitting.new.working) }
     ensures part { OnErr result (GainedPart (S.content sink.old) (S.content sink.new) (body_by admits ends events.now admitting.old.working).text) }
     ensures later { S.faults sink.old ≤ S.faults sink.new }
@@ -128,7 +144,7 @@ fn show_opened<R: Threads + Wait + Sync, G: Gate + Sync, S: Sink>(
     ensures certified { IfOk result (λ b. (body_of admits ends book.now.read admitting.old.working).certified ≡ b) }
     ensures state { OnOk result ((body_of admits ends book.now.read admitting.old.working).state ≡ admitting.new.working) }
     ensures part { OnErr result (GainedPart (S.content sink.old) (S.content sink.new) (opened book.now.name.0 (body_of admits ends book.now.read admitting.old.working))) }
-    ensures reached { Reached (λ a. a.working) admits Links Rests (forms_of book.now.read) admitting.old admitting.new }
+    ensures behind { Behind admitting.old admitting.new (body_of admits ends book.now.read admitting.old.working).log }
     ensures later { S.faults sink.old ≤ S.faults sink.new }
     ensures failed { result ≡ Err WriteFault.Failed → Rose (S.faults sink.old) (S.faults sink.new) }
 {
@@ -151,7 +167,7 @@ fn show_book<R: Threads + Wait + Sync, G: Gate + Sync, S: Sink>(
     ensures certified { IfOk result (λ b. (body_of admits ends book.now.read admitting.old.working).certified ≡ b) }
     ensures state { OnOk result ((body_of admits ends book.now.read admitting.old.working).state ≡ admitting.new.working) }
     ensures part { OnErr result (GainedPart (S.content sink.old) (S.content sink.new) (book_text book.now.name.0 (body_of admits ends book.now.read admitting.old.working))) }
-    ensures reached { Reached (λ a. a.working) admits Links Rests (forms_of book.now.read) admitting.old admitting.new }
+    ensures behind { Behind admitting.old admitting.new (body_of admits ends book.now.read admitting.old.working).log }
     ensures later { S.faults sink.old ≤ S.faults sink.new }
     ensures failed { result ≡ Err WriteFault.Failed → Rose (S.faults sink.old) (S.faults sink.new) }
 {
@@ -172,7 +188,7 @@ fn show_whole<R: Threads + Wait + Sync, G: Gate + Sync, S: Sink>(
     ensures certified { IfOk result (λ b. (body_of admits ends book.now.read admitting.old.working).certified ≡ b) }
     ensures state { OnOk result ((body_of admits ends book.now.read admitting.old.working).state ≡ admitting.new.working) }
     ensures part { OnErr result (GainedPart (S.content sink.old) (S.content sink.new) (book_text book.now.name.0 (body_of admits ends book.now.read admitting.old.working))) }
-    ensures reached { Reached (λ a. a.working) admits Links Rests (forms_of book.now.read) admitting.old admitting.new }
+    ensures behind { Behind admitting.old admitting.new (body_of admits ends book.now.read admitting.old.working).log }
     ensures later { S.faults sink.old ≤ S.faults sink.new }
     ensures failed { result ≡ Err Fault.Write → Rose (S.faults sink.old) (S.faults sink.new) }
     ensures unread { result ≢ Err Fault.Read }
@@ -183,8 +199,54 @@ fn show_whole<R: Threads + Wait + Sync, G: Gate + Sync, S: Sink>(
     }
 }
 
-/// Works a book that was read, from the world that each book begins with, and puts its text. Answers whether it is
-/// certified.
+/// Keeps a certified book's world for the books behind it.
+fn keep<G>(alloc: Global, book: &BookSeen, admitting: &mut Admitting<'_, G>) -> Result<(), Fault>
+    requires { has_failed admitting.old.working.second ≡ false }
+    ensures earlier { OnOk result (admitting.new.working.earlier ≡ admitting.old.working.earlier ++ (book.now.name.0, kept_by admitting.old.working.second admitting.old.working.world) ∷ []) }
+    ensures left { OnOk result (left_in admitting.new ≡ kept_by admitting.old.working.second admitting.old.working.world) }
+    ensures err { OnErr result (left_in admitting.new ≡ left_in admitting.old) }
+    ensures limits { admitting.new.working.limits ≡ admitting.old.working.limits }
+    ensures notes { notes_in admitting.new ≡ notes_in admitting.old }
+    ensures workers { admitting.new.workers ≡ admitting.old.workers }
+    ensures memory { IfErr result (λ fault. fault ≡ Fault.NoMemory) }
+{
+    match admitting.keep(alloc, book.name.0.as_slice()) {
+        Ok(()) => Ok(()),
+        Err(_) => Err(Fault::NoMemory),
+    }
+}
+
+/// Works a book that was begun, puts its text, and keeps its world where it is certified, which is answered.
+#[tactic(auto, using(ap_outside::proofs::Gains::gains))]
+fn work_begun<R: Threads + Wait + Sync, G: Gate + Sync, S: Sink>(
+    rt: &R,
+    alloc: Global,
+    book: &BookSeen,
+    admitting: &mut Admitting<'_, G>,
+    sink: &mut S,
+) -> Result<bool, Fault>
+    requires begun { admitting.old.working.world ≡ start }
+    requires unkept { admitting.old.kept ≡ false }
+    ensures text { OnOk result (Gained (S.content sink.old) (S.content sink.new) (book_text book.now.name.0 (body_of admits ends book.now.read admitting.old.working))) }
+    ensures certified { IfOk result (λ b. (body_of admits ends book.now.read admitting.old.working).certified ≡ b) }
+    ensures earlier { OnOk result (kept_more admitting.old.working.earlier book.now.name.0 (body_of admits ends book.now.read admitting.old.working) ≡ admitting.new.working.earlier) }
+    ensures last { OnOk result (last_of (body_of admits ends book.now.read admitting.old.working) ≡ left_in admitting.new) }
+    ensures part { OnErr result (GainedPart (S.content sink.old) (S.content sink.new) (book_text book.now.name.0 (body_of admits ends book.now.read admitting.old.working))) }
+    ensures led { Led admitting.old admitting.new (body_of admits ends book.now.read admitting.old.working).log }
+    ensures later { S.faults sink.old ≤ S.faults sink.new }
+    ensures failed { result ≡ Err Fault.Write → Rose (S.faults sink.old) (S.faults sink.new) }
+    ensures unread { result ≢ Err Fault.Read }
+{
+    let certified = show_whole(rt, alloc, book, admitting, sink)?;
+    if !certified {
+        return Ok(false);
+    }
+    keep(alloc, book, admitting)?;
+    Ok(true)
+}
+
+/// Works a book that was read, from the world that each book begins with, and puts its text. A certified one's world is
+/// kept. Answers whether it is certified.
 pub(crate) fn work_book<R: Threads + Wait + Sync, G: Gate + Sync, S: Sink>(
     rt: &R,
     alloc: Global,
@@ -192,17 +254,18 @@ pub(crate) fn work_book<R: Threads + Wait + Sync, G: Gate + Sync, S: Sink>(
     admitting: &mut Admitting<'_, G>,
     sink: &mut S,
 ) -> Result<bool, Fault>
-    ensures text { OnOk result (Gained (S.content sink.old) (S.content sink.new) (book_text book.now.name.0 (read_body admitting.old.working.limits book.now.read))) }
-    ensures certified { IfOk result (λ b. (read_body admitting.old.working.limits book.now.read).certified ≡ b) }
-    ensures state { OnOk result ((read_body admitting.old.working.limits book.now.read).state ≡ admitting.new.working) }
-    ensures part { OnErr result (GainedPart (S.content sink.old) (S.content sink.new) (book_text book.now.name.0 (read_body admitting.old.working.limits book.now.read))) }
-    ensures led { Led admitting.old admitting.new (read_body admitting.old.working.limits book.now.read).log }
+    ensures text { OnOk result (Gained (S.content sink.old) (S.content sink.new) (book_text book.now.name.0 (read_body admitting.old.working.limits admitting.old.working.earlier book.now.read))) }
+    ensures certified { IfOk result (λ b. (read_body admitting.old.working.limits admitting.old.working.earlier book.now.read).certified ≡ b) }
+    ensures earlier { OnOk result (kept_more admitting.old.working.earlier book.now.name.0 (read_body admitting.old.working.limits admitting.old.working.earlier book.now.read) ≡ admitting.new.working.earlier) }
+    ensures last { OnOk result (last_of (read_body admitting.old.working.limits admitting.old.working.earlier book.now.read) ≡ left_in admitting.new) }
+    ensures part { OnErr result (GainedPart (S.content sink.old) (S.content sink.new) (book_text book.now.name.0 (read_body admitting.old.working.limits admitting.old.working.earlier book.now.read))) }
+    ensures led { Led admitting.old admitting.new (read_body admitting.old.working.limits admitting.old.working.earlier book.now.read).log }
     ensures later { S.faults sink.old ≤ S.faults sink.new }
     ensures failed { result ≡ Err Fault.Write → Rose (S.faults sink.old) (S.faults sink.new) }
     ensures unread { result ≢ Err Fault.Read }
 {
     match admitting.begin(alloc) {
-        Ok(()) => show_whole(rt, alloc, book, admitting, sink),
+        Ok(()) => work_begun(rt, alloc, book, admitting, sink),
         Err(_) => Err(Fault::NoMemory),
     }
 }

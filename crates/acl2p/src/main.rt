@@ -11,6 +11,7 @@ mod certifier;
 mod command;
 mod fault;
 mod report;
+mod second;
 mod start;
 #[cfg(test)]
 mod tests;

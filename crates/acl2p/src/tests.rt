@@ -1,5 +1,5 @@
 use crate::certifier::certify;
-use crate::report::Status;
+use crate::report::{Report, Status};
 use ap_attempt::NoGate;
 use ap_list::{Bytes, Seq};
 use ap_outside::{MemoryLibrary, MemorySink};
@@ -29,7 +29,7 @@ const REFL: &[u8] = b"(in-package \"ACL2\")\n(defthm refl (equal x x) :rule-clas
 const CERTIFIED: &[u8] =
     b"Book refl\nDEFTHM REFL\nGoal simplify 0\nDEFTHM REFL proved\nBook refl certified\n";
 
-const ROWS: [Row; 37] = [
+const ROWS: [Row; 40] = [
     Row {
         words: &["refl"],
         book: Some(REFL),
@@ -119,6 +119,27 @@ const ROWS: [Row; 37] = [
         failing: NONE,
         status: Status::Usage,
         text: USAGE,
+    },
+    Row {
+        words: &["re.fl", "refl"],
+        book: Some(REFL),
+        failing: NONE,
+        status: Status::Usage,
+        text: USAGE,
+    },
+    Row {
+        words: &["gone", "refl"],
+        book: Some(REFL),
+        failing: NONE,
+        status: Status::NotCertified,
+        text: b"Book gone\nAbsent\nBook gone not certified\nBook refl\nDEFTHM REFL\nGoal simplify 0\nDEFTHM REFL proved\nBook refl certified\n",
+    },
+    Row {
+        words: &["gone", "refl"],
+        book: Some(REFL),
+        failing: (&[2], &[]),
+        status: Status::ReadFault,
+        text: b"Book gone\nAbsent\nBook gone not certified\n",
     },
     Row {
         words: &["--goals", "1", "refl"],
@@ -378,6 +399,186 @@ fn the_session_prints_its_text_and_each_fault_has_its_cause(rt: HostRuntime) -> 
     Ok(())
 }
 
+/// So many names of books.
+fn names_of(alloc: Global, count: u32) -> Result<Vec<String>, Fail> {
+    let mut words = Vec::new(alloc);
+    for k in 0..count {
+        words.push(format!(in alloc; "b{k}")?)?;
+    }
+    Ok(words)
+}
+
+/// A library of so many books of one text.
+fn library_of(alloc: Global, count: u32) -> Result<MemoryLibrary, Fail> {
+    let mut files = Seq::new(alloc);
+    for k in 0..count {
+        let file = format!(in alloc; "b{k}.lisp")?;
+        files.push((
+            Bytes::from_slice(alloc, file.as_bytes())?,
+            Bytes::from_slice(alloc, b"(in-package \"ACL2\") (defun f (x) x)")?,
+        ))?;
+    }
+    Ok(MemoryLibrary::new(files, Seq::new(alloc)))
+}
+
+/// A report's status, and how many books it lists.
+fn seen(report: Report) -> (Status, usize) {
+    (report.status, report.books.len())
+}
+
+/// Certifies so many of these books: the status, how many books are listed, and what is put.
+fn certified_of<R: Abort + Threads + Wait + Sync>(
+    rt: &R,
+    alloc: Global,
+    count: u32,
+) -> Result<(Status, usize, Vec<u8>), Fail> {
+    let words = names_of(alloc, count)?;
+    let mut library = library_of(alloc, count)?;
+    let mut sink = MemorySink::new(alloc, Seq::new(alloc));
+    let (status, listed) = seen(certify(
+        rt,
+        alloc,
+        words.as_slice(),
+        &mut library,
+        &mut sink,
+        &NoGate,
+    ));
+    let text = Vec::from_slice(alloc, sink.content())?;
+    Ok((status, listed, text))
+}
+
+/// The texts of so many of these books, one behind the other.
+fn texts_of(alloc: Global, count: u32) -> Result<Vec<u8>, Fail> {
+    let mut text = Vec::new(alloc);
+    for k in 0..count {
+        let book = format!(in alloc;
+            "Book b{k}\nDEFUN F\nDEFUN F admitted\nBook b{k} certified\n"
+        )?;
+        text.extend_from_slice(book.as_bytes())?;
+    }
+    Ok(text)
+}
+
+#[test]
+fn up_to_64_books_are_worked_in_order_each_from_the_ground_world(
+    rt: HostRuntime,
+) -> Result<(), Fail> {
+    let alloc = rt.alloc();
+    let (status, listed, text) = certified_of(&rt, alloc, 64)?;
+    assert_eq!(rt; status, Status::Certified);
+    assert_eq!(rt; listed, 64);
+    assert_eq!(rt; text.as_slice(), texts_of(alloc, 64)?.as_slice());
+    let (status, listed, text) = certified_of(&rt, alloc, 65)?;
+    assert_eq!(rt; status, Status::Usage);
+    assert_eq!(rt; listed, 0);
+    assert_eq!(rt; text.as_slice(), USAGE);
+    Ok(())
+}
+
+/// A book of these events, as a file of this name.
+fn file_of(alloc: Global, name: &str, events: &str) -> Result<(Bytes, Bytes), Fail> {
+    let file = format!(in alloc; "{name}.lisp")?;
+    let text = format!(in alloc; "(in-package \"ACL2\")\n{events}")?;
+    Ok((
+        Bytes::from_slice(alloc, file.as_bytes())?,
+        Bytes::from_slice(alloc, text.as_bytes())?,
+    ))
+}
+
+/// A word and a file for each of these books, `NAME: EVENTS`, which stand between bars.
+fn row_books(
+    alloc: Global,
+    books: &str,
+    words: &mut Vec<String>,
+    files: &mut Seq<(Bytes, Bytes)>,
+) -> Result<(), Fail> {
+    for book in books.split(" | ") {
+        if let Some((name, events)) = book.split_once(": ") {
+            words.push(String::from_str(alloc, name)?)?;
+            files.push(file_of(alloc, name, events)?)?;
+        }
+    }
+    Ok(())
+}
+
+/// Certifies these books in their order: the status, and what is put.
+fn session_of<R: Abort + Threads + Wait + Sync>(
+    rt: &R,
+    alloc: Global,
+    books: &str,
+) -> Result<(Status, Vec<u8>), Fail> {
+    let mut words = Vec::new(alloc);
+    let mut files = Seq::new(alloc);
+    row_books(alloc, books, &mut words, &mut files)?;
+    let mut library = MemoryLibrary::new(files, Seq::new(alloc));
+    let mut sink = MemorySink::new(alloc, Seq::new(alloc));
+    let (status, _) = seen(certify(
+        rt,
+        alloc,
+        words.as_slice(),
+        &mut library,
+        &mut sink,
+        &NoGate,
+    ));
+    Ok((status, Vec::from_slice(alloc, sink.content())?))
+}
+
+/// A text of these lines, which stand between strokes.
+fn text_of(alloc: Global, lines: &str) -> Result<Vec<u8>, Fail> {
+    let mut text = Vec::new(alloc);
+    for line in lines.split(" / ") {
+        text.extend_from_slice(line.as_bytes())?;
+        text.push(10)?;
+    }
+    Ok(text)
+}
+
+/// Certifies the books of each line of a table, and asserts the status and what is put.
+fn sessions_print<R: Abort + Threads + Wait + Sync>(
+    rt: &R,
+    alloc: Global,
+    table: &str,
+    status: Status,
+    rows: u32,
+) -> Result<(), Fail> {
+    let mut count = 0u32;
+    for row in table.lines() {
+        if let Some((books, lines)) = row.split_once(" => ") {
+            count = count.saturating_add(1);
+            let (ended, text) = session_of(rt, alloc, books)?;
+            assert_eq!(rt; ended, status);
+            assert_eq!(rt; text.as_slice(), text_of(alloc, lines)?.as_slice());
+        }
+    }
+    assert_eq!(rt; count, rows);
+    Ok(())
+}
+
+/// Sessions whose books are all certified: a book includes those before it, and sees nothing of theirs that is local.
+const INCLUDED: &str =
+    r##"a: (defun f (x) x) | u: (include-book "a") (defthm ff (equal (f x) x) :rule-classes nil) => Book a / DEFUN F / DEFUN F admitted / Book a certified / Book u / INCLUDE-BOOK a admitted / DEFTHM FF / Goal simplify 0 / DEFTHM FF proved / Book u certified
+a: (defun f (x) x) | u: (include-book "a") (include-book "a") | v: (include-book "u") (local (include-book "a")) (defun g (x) (f x)) => Book a / DEFUN F / DEFUN F admitted / Book a certified / Book u / INCLUDE-BOOK a admitted / INCLUDE-BOOK a admitted / Book u certified / Book v / INCLUDE-BOOK u admitted / INCLUDE-BOOK a admitted / DEFUN G / DEFUN G admitted / Book v certified
+a: (local (defun g (x) x)) (defun h (x) x) (local (defthm hh (equal (h x) x))) | b: (defun h (x) x) (defun k (x) x) | u: (include-book "a") (include-book "b") (defun g (x y) (k x)) => Book a / DEFUN G / DEFUN G admitted / DEFUN H / DEFUN H admitted / DEFTHM HH / Goal simplify 0 / DEFTHM HH proved / Book a certified / Book b / DEFUN H / DEFUN H admitted / DEFUN K / DEFUN K admitted / Book b certified / Book u / INCLUDE-BOOK a admitted / INCLUDE-BOOK b admitted / DEFUN G / DEFUN G admitted / Book u certified
+a: (local (defthm lemma (equal (car (cons x y)) x) :rule-classes nil)) (defthm b (equal (cdr (cons x y)) y) :hints (("Goal" :use lemma)) :rule-classes nil) => Book a / DEFTHM LEMMA / Goal simplify 0 / DEFTHM LEMMA proved / DEFTHM B / Goal hint 1 / Goal' simplify 0 / DEFTHM B proved / Book a certified
+a: (defund f (x) (equal x x)) (encapsulate () (local (in-theory (enable f))) (defthm f-true (f x))) | u: (encapsulate () (local (include-book "a")) (defun g (x) x)) (defun f (x) x) => Book a / DEFUN F / DEFUN F admitted / IN-THEORY admitted / DEFTHM F-TRUE / Goal simplify 0 / DEFTHM F-TRUE proved / Book a certified / Book u / INCLUDE-BOOK a admitted / DEFUN G / DEFUN G admitted / DEFUN F / DEFUN F admitted / Book u certified"##;
+
+/// Sessions in which a book isn't certified: one that isn't there to be included, two that clash, a theory that is
+/// included, and a local book.
+const UNINCLUDED: &str =
+    r##"u: (include-book "a") | a: (defun f (x) x) => Book u / INCLUDE-BOOK a refused 9 NoSuchBook / Book u not certified / Book a / DEFUN F / DEFUN F admitted / Book a certified
+a: (defun f (x) x) (defun f (x) x) | u: (include-book "a") => Book a / DEFUN F / DEFUN F admitted / DEFUN F / DEFUN F refused 3 NameTaken / Book a not certified / Book u / INCLUDE-BOOK a refused 9 NoSuchBook / Book u not certified
+a: (local (defun g (x) x)) (defun h (x) (g x)) | u: (include-book "a") => Book a / DEFUN G / DEFUN G admitted / DEFUN H / DEFUN H admitted / Second pass / DEFUN H refused 4.1 UnknownName / Book a not certified / Book u / INCLUDE-BOOK a refused 9 NoSuchBook / Book u not certified
+a: (defun f (x) x) | b: (defun f (x) (cons x x)) | u: (include-book "a") (include-book "b") => Book a / DEFUN F / DEFUN F admitted / Book a certified / Book b / DEFUN F / DEFUN F admitted / Book b certified / Book u / INCLUDE-BOOK a admitted / INCLUDE-BOOK b refused 3 NameTaken / Book u not certified
+a: (defund q (x) (equal x x)) | u: (include-book "a") (defthm q-holds (q x)) => Book a / DEFUN Q / DEFUN Q admitted / Book a certified / Book u / INCLUDE-BOOK a admitted / DEFTHM Q-HOLDS / Goal push *1 / *1 noscheme / Checkpoints before induction / Goal: (Q X) / DEFTHM Q-HOLDS refused 8.1 NoScheme / Book u not certified
+a: (defun f (x) x) | u: (local (include-book "a")) (defthm ff (equal (f x) x) :rule-classes nil) => Book a / DEFUN F / DEFUN F admitted / Book a certified / Book u / INCLUDE-BOOK a admitted / DEFTHM FF / Goal simplify 0 / DEFTHM FF proved / Second pass / DEFTHM FF refused 4.1 UnknownName / Book u not certified"##;
+
+#[test]
+fn a_book_includes_the_certified_ones_before_it(rt: HostRuntime) -> Result<(), Fail> {
+    let alloc = rt.alloc();
+    sessions_print(&rt, alloc, INCLUDED, Status::Certified, 5)?;
+    sessions_print(&rt, alloc, UNINCLUDED, Status::NotCertified, 6)
+}
+
 /// A theorem whose goal splits into two that are pushed, so that the walk reverts, and one that is proved.
 const SPLIT: &[u8] = b"(in-package \"ACL2\")
 (defthm s (implies (equal x y) (equal y x)) :rule-classes nil)
@@ -464,7 +665,28 @@ x:y => Read error 12 BadPackage at 20
 (in-theory (disable car)) => IN-THEORY refused 4.1 UnknownName
 (in-theory (enable (:rewrite not))) => IN-THEORY refused 4.1 UnknownName
 (in-theory (enable not 3)) => IN-THEORY refused 4.1 UnknownName
-(local . 3) => LOCAL refused 1 NotSupported
+(local . 3) => LOCAL refused 2 BadEvent
+(local) => LOCAL refused 2 BadEvent
+(local (defun f (x) x) (defun g (x) x)) => LOCAL refused 2 BadEvent
+(local 3) => FORM refused 1 NotSupported
+(progn . 3) => PROGN refused 2 BadEvent
+(progn (progn (foo))) => FOO refused 1 NotSupported
+(encapsulate) => ENCAPSULATE refused 2 BadEvent
+(encapsulate t (defun f (x) x)) => ENCAPSULATE refused 2 BadEvent
+(encapsulate ((f (x) t)) (local (defun f (x) x))) => ENCAPSULATE refused 2 BadEvent
+(include-book) => INCLUDE-BOOK refused 2 BadEvent
+(include-book b) => INCLUDE-BOOK refused 2 BadEvent
+(include-book "b" "c") => INCLUDE-BOOK refused 2 BadEvent
+(include-book "b") => INCLUDE-BOOK b refused 9 NoSuchBook
+(progn (defun f (x) x) (encapsulate () (local (progn (defun f (x) x))) (defun g (x) x))) => DEFUN F / DEFUN F admitted / DEFUN F / DEFUN F refused 3 NameTaken
+(encapsulate () (local (defun g (x) x)) (defthm gg (equal (g x) x))) => DEFUN G / DEFUN G admitted / DEFTHM GG / Goal simplify 0 / DEFTHM GG proved / Second pass / DEFTHM GG refused 4.1 UnknownName
+(progn (encapsulate () (local (defconst *c* 3)) (progn (defun f () *c*)))) => DEFCONST *C* admitted / DEFUN F / DEFUN F admitted / Second pass / DEFUN F refused 4.1 UnknownName
+(local (defun g (x) x)) (defthm gg (equal (g x) x)) => DEFUN G / DEFUN G admitted / DEFTHM GG / Goal simplify 0 / DEFTHM GG proved / Second pass / DEFTHM GG refused 4.1 UnknownName
+(local (defun g (x) x)) (defun h (x) (g x)) (defun k (x) (h x)) (progn (defun m (x) (k x))) => DEFUN G / DEFUN G admitted / DEFUN H / DEFUN H admitted / DEFUN K / DEFUN K admitted / DEFUN M / DEFUN M admitted / Second pass / DEFUN H refused 4.1 UnknownName
+(local (defun g (x) x)) (in-theory (disable g)) => DEFUN G / DEFUN G admitted / IN-THEORY admitted / Second pass / IN-THEORY refused 4.1 UnknownName
+(local (defun g (x) x)) (defun h (x) (g x)) (defun g (x) x) => DEFUN G / DEFUN G admitted / DEFUN H / DEFUN H admitted / DEFUN G / DEFUN G refused 3 NameTaken
+(defund q (x) (equal x x)) (encapsulate () (local (defthm q-holds (q x) :hints (("Goal" :in-theory (enable q))))) (defthm q-of-car (q (car y)))) (defthm q-of-all (q y) :rule-classes nil) => DEFUN Q / DEFUN Q admitted / DEFTHM Q-HOLDS / Goal simplify 0 / DEFTHM Q-HOLDS proved / DEFTHM Q-OF-CAR / Goal simplify 0 / DEFTHM Q-OF-CAR proved / DEFTHM Q-OF-ALL / Goal push *1 / *1 noscheme / Checkpoints before induction / Goal: (Q Y) / DEFTHM Q-OF-ALL refused 8.1 NoScheme
+(encapsulate () (local (defthm cc (equal (car (cons x y)) x))) (defthm b (equal x x) :rule-classes nil)) (defthm c (equal x x) :hints (("Goal" :use cc)) :rule-classes nil) => DEFTHM CC / Goal simplify 0 / DEFTHM CC proved / DEFTHM B / Goal simplify 0 / DEFTHM B proved / DEFTHM C / DEFTHM C refused 6.4 BadInstance
 (|a b|) => |a b| refused 1 NotSupported
 (:key) => :KEY refused 1 NotSupported
 (defthm) => DEFTHM refused 2 BadEvent
@@ -563,6 +785,11 @@ const ADMITTED: &str = r##"(defun f (x) x) => DEFUN F / DEFUN F admitted
 (defthmd a (equal (car x) (car x)) :rule-classes ()) => DEFTHM A / Goal simplify 0 / DEFTHM A proved
 (defund f (x) x) (in-theory (e/d (f (:executable-counterpart f)) (not))) => DEFUN F / DEFUN F admitted / IN-THEORY admitted
 (in-theory (enable)) => IN-THEORY admitted
+(progn) (encapsulate ()) (encapsulate nil) (progn (defun f (x) x)) => DEFUN F / DEFUN F admitted
+(local (defun f (x) x)) (defthm a (equal x x) :hints (("Goal" :in-theory (disable f))) :rule-classes nil) => DEFUN F / DEFUN F admitted / DEFTHM A / Goal simplify 0 / DEFTHM A proved
+(encapsulate () (progn (local (progn (defun g (x) x))) (defun h (x) x))) (defun g (x y) (h x)) => DEFUN G / DEFUN G admitted / DEFUN H / DEFUN H admitted / DEFUN G / DEFUN G admitted
+(defun f (x) x) (encapsulate () (local (in-theory (disable f))) (defund g (x) x)) (defthm a (equal (f x) x)) => DEFUN F / DEFUN F admitted / IN-THEORY admitted / DEFUN G / DEFUN G admitted / DEFTHM A / Goal simplify 0 / DEFTHM A proved
+(encapsulate () (local (encapsulate () (local (defun f (x) x)) (defun g (x) x))) (defun f (x) x) (encapsulate () (local (defun k (x) x)) (defun h (x) x))) (defun g (x) (h x)) (defun k (x) x) => DEFUN F / DEFUN F admitted / DEFUN G / DEFUN G admitted / DEFUN F / DEFUN F admitted / DEFUN K / DEFUN K admitted / DEFUN H / DEFUN H admitted / DEFUN G / DEFUN G admitted / DEFUN K / DEFUN K admitted
 (defthm a (equal `x `x) :rule-classes nil) => DEFTHM A / Goal simplify 0 / DEFTHM A proved
 (defthm s (implies (equal x y) (equal y x)) :rule-classes nil) => DEFTHM S / Goal simplify 1 / Goal' simplify 0 / DEFTHM S proved
 (defthm a (implies (and p q) (or q r)) :rule-classes nil) => DEFTHM A / Goal simplify 0 / DEFTHM A proved
@@ -616,12 +843,12 @@ fn prints_each<R: Abort + Threads + Wait + Sync>(
 
 #[test]
 fn each_fault_and_refusal_is_printed(rt: HostRuntime) -> Result<(), Fail> {
-    prints_each(&rt, rt.alloc(), REFUSED, "Book b not certified\n", 106)
+    prints_each(&rt, rt.alloc(), REFUSED, "Book b not certified\n", 127)
 }
 
 #[test]
 fn what_is_admitted_is_printed(rt: HostRuntime) -> Result<(), Fail> {
-    prints_each(&rt, rt.alloc(), ADMITTED, "Book b certified\n", 24)
+    prints_each(&rt, rt.alloc(), ADMITTED, "Book b certified\n", 29)
 }
 
 #[test]

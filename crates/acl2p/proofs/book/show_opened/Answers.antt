@@ -1,25 +1,23 @@
-use Rattle.std.proofs.Common.{◌≡◌, refl}
+use Rattle.std.proofs.Common.{◌≡◌}
 use Rattle.std.proofs.lemmas.Result.{err_from_is_err_and}
 use Rattle.ap_outside.proofs.Gains.{part_first, part_to}
-use Rattle.ap_books.specs.Bodies.{body_of, forms_of, opened}
+use Rattle.ap_books.specs.Bodies.{body_of, opened}
 use Rattle.ap_books.specs.Texts.{opening}
-use Rattle.ap_books.proofs.Showing.{reached_same}
-use Rattle.ap_events.specs.Ends.{Told}
-use Rattle.acl2p.specs.Working.{Working, admits, ends}
-use Rattle.acl2p.specs.Admitting.{AdmittingSeen, Links, Rests}
+use Rattle.acl2p.specs.Working.{admits, ends}
+use Rattle.acl2p.proofs.Leading.{behind_same}
 use Rattle.acl2p.proofs.book.show_opened.Goals as goal
 
-pub returns-in_err-first-clause-reached : goal.returns-in_err-first-clause-reached
-returns-in_err-first-clause-reached g c =
-    reached_same AdmittingSeen Working Told (λ a. a.working) admits Links Rests (forms_of c.args.book.now.read) c.args.admitting.now c.args.admitting.now refl
+pub returns-in_err-first-clause-behind : goal.returns-in_err-first-clause-behind
+returns-in_err-first-clause-behind g c =
+    behind_same c.args.admitting.now (body_of admits ends c.args.book.now.read c.args.admitting.now.working).log
 
-pub returns-in_err-put_all-clause-reached : goal.returns-in_err-put_all-clause-reached
-returns-in_err-put_all-clause-reached g c =
-    reached_same AdmittingSeen Working Told (λ a. a.working) admits Links Rests (forms_of c.args.book.now.read) c.args.admitting.now c.args.admitting.now refl
+pub returns-in_err-put_all-clause-behind : goal.returns-in_err-put_all-clause-behind
+returns-in_err-put_all-clause-behind g c =
+    behind_same c.args.admitting.now (body_of admits ends c.args.book.now.read c.args.admitting.now.working).log
 
-pub returns-in_err-events-clause-reached : goal.returns-in_err-events-clause-reached
-returns-in_err-events-clause-reached g c =
-    reached_same AdmittingSeen Working Told (λ a. a.working) admits Links Rests (forms_of c.args.book.now.read) c.args.admitting.now c.args.admitting.now refl
+pub returns-in_err-events-clause-behind : goal.returns-in_err-events-clause-behind
+returns-in_err-events-clause-behind g c =
+    behind_same c.args.admitting.now (body_of admits ends c.args.book.now.read c.args.admitting.now.working).log
 
 pub returns-in_err-put_all-clause-part : goal.returns-in_err-put_all-clause-part
 unfolding opened

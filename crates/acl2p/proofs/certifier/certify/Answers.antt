@@ -1,16 +1,16 @@
 use Rattle.std.proofs.Common.{map, string_bytes, sym, subst}
-use Rattle.ap_events.specs.Ends.{walks_in}
-use Rattle.ap_events.specs.Drops.{DividedWalks}
+use Rattle.ap_plain.specs.Ends.{walks_in}
+use Rattle.ap_plain.specs.Drops.{DividedWalks}
 use Rattle.acl2p.specs.Command.{command_of}
 use Rattle.acl2p.specs.Session.{session, reads_in}
 use Rattle.acl2p.proofs.Soundness.{session_sound}
 use Rattle.acl2p.proofs.Starting.{start_has}
-use Rattle.ap_events.proofs.Telling.{notes_none}
+use Rattle.ap_plain.proofs.Telling.{notes_none}
 use Rattle.acl2p.proofs.certifier.certify.Goals as goal
 
 pub returns-in_default-clause-all_sound : goal.returns-in_default-clause-all_sound
 returns-in_default-clause-all_sound g c =
-    session_sound c.events_are_sound.ensures c.ground_is_sound.ensures (command_of (map string_bytes c.args.words.now)) (reads_in c.no_report.result.books)
+    session_sound c.nested_events_are_sound.ensures.first c.nested_events_are_sound.ensures.again c.worlds_grow.ensures.grows c.worlds_grow.ensures.tells c.again_is_covered.ensures c.ground_is_sound.ensures (command_of (map string_bytes c.args.words.now)) (reads_in c.no_report.result.books)
 
 pub returns-in_default-clause-drops : goal.returns-in_default-clause-drops
 returns-in_default-clause-drops g c =
@@ -19,14 +19,14 @@ returns-in_default-clause-drops g c =
 
 pub returns-in-Ok-Some-clause-all_sound : goal.returns-in-Ok-Some-clause-all_sound
 returns-in-Ok-Some-clause-all_sound g c =
-    session_sound c.events_are_sound.ensures c.ground_is_sound.ensures (command_of (map string_bytes c.args.words.now)) (reads_in c.certify_command.result.books)
+    session_sound c.nested_events_are_sound.ensures.first c.nested_events_are_sound.ensures.again c.worlds_grow.ensures.grows c.worlds_grow.ensures.tells c.again_is_covered.ensures c.ground_is_sound.ensures (command_of (map string_bytes c.args.words.now)) (reads_in c.certify_command.result.books)
 
 pub certify_command-requires-clause-functions : goal.certify_command-requires-clause-functions
 certify_command-requires-clause-functions g c κs within = start_has c.in-Ok.world c.in-Ok.ensures
 
 pub returns-in-Err-clause-all_sound : goal.returns-in-Err-clause-all_sound
 returns-in-Err-clause-all_sound g c =
-    session_sound c.events_are_sound.ensures c.ground_is_sound.ensures (command_of (map string_bytes c.args.words.now)) (reads_in c.no_report-in-Err.result.books)
+    session_sound c.nested_events_are_sound.ensures.first c.nested_events_are_sound.ensures.again c.worlds_grow.ensures.grows c.worlds_grow.ensures.tells c.again_is_covered.ensures c.ground_is_sound.ensures (command_of (map string_bytes c.args.words.now)) (reads_in c.no_report-in-Err.result.books)
 
 pub returns-in-Err-clause-drops : goal.returns-in-Err-clause-drops
 returns-in-Err-clause-drops g c =

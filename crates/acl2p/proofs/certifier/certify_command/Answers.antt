@@ -1,6 +1,7 @@
 use Rattle.std.proofs.Common.{◌≡◌, ◌∙◌, ap, sym, true≢false, arith}
 use Rattle.ap_outside.proofs.Gains.{rose_within}
 use Rattle.acl2p.specs.declared.fault.Fault.TheVariants as faults
+use Rattle.acl2p.specs.Admitting.{left_in}
 use Rattle.acl2p.specs.Command.{shown_command}
 use Rattle.acl2p.specs.Session.{is_done}
 use Rattle.acl2p.proofs.Sessions.{command_text, command_part, command_cut, command_whole, command_drops, command_passed, only_read, only_write, not_done}
@@ -10,36 +11,36 @@ pub returns-in-Ok-clause-text : goal.returns-in-Ok-clause-text
 returns-in-Ok-clause-text g c = λ done.
     let content = g.S.Sink.content in
     command_text (content c.args.sink.now) (content c.work_books-ended.new.sink) (content c.end.new.sink) (shown_command c.args.command) c.new-admitting.result c.work_books-ended.new.books c.end.result.books c.end.result.drops
-    (ap (λ w. w.limits) c.new-admitting.ensures.working) c.end.ensures.books c.in-Ok.ensures.worked.text (c.end.ensures.text done)
+    c.new-admitting.ensures.limits c.end.ensures.books c.in-Ok.ensures.worked.text (c.end.ensures.text done)
 
 pub returns-in-Ok-clause-part : goal.returns-in-Ok-clause-part
 returns-in-Ok-clause-part g c = λ cut.
     let content = g.S.Sink.content in
     command_part (content c.args.sink.now) (content c.work_books-ended.new.sink) (content c.end.new.sink) (shown_command c.args.command) c.new-admitting.result c.work_books-ended.new.books c.end.result.books c.end.result.drops
-    (ap (λ w. w.limits) c.new-admitting.ensures.working) c.end.ensures.books c.in-Ok.ensures.worked.text (c.end.ensures.part cut)
+    c.new-admitting.ensures.limits c.end.ensures.books c.in-Ok.ensures.worked.text (c.end.ensures.part cut)
 
 pub returns-in-Ok-clause-drops : goal.returns-in-Ok-clause-drops
 returns-in-Ok-clause-drops g c =
     command_drops (shown_command c.args.command) c.new-admitting.result c.work_books-ended.new.admitting c.work_books-ended.new.books c.end.result.books c.end.result.drops
-    (ap (λ w. w.limits) c.new-admitting.ensures.working) c.end.ensures.books c.in-Ok.ensures.kept.drops c.end.ensures.drops
+    c.new-admitting.ensures.limits c.end.ensures.books c.in-Ok.ensures.kept.drops c.end.ensures.drops
 
 pub returns-in-Err-clause-part : goal.returns-in-Err-clause-part
 returns-in-Err-clause-part g c = λ cut.
     let content = g.S.Sink.content in
     command_cut (content c.args.sink.now) (content c.work_books-ended.new.sink) (shown_command c.args.command) c.new-admitting.result c.work_books-ended.new.books c.cut_off.result.books c.cut_off.result.drops
-    (ap (λ w. w.limits) c.new-admitting.ensures.working) c.cut_off.ensures.books c.in-Err.ensures.part
+    c.new-admitting.ensures.limits c.cut_off.ensures.books c.in-Err.ensures.part
 
 pub returns-in-Err-clause-whole : goal.returns-in-Err-clause-whole
 returns-in-Err-clause-whole g c = λ read.
     let content = g.S.Sink.content in
     let fault : c.in-Err.fault ≡ faults.Read = only_read c.in-Err.fault (sym c.cut_off.ensures.status ∙ read) in
     command_whole (content c.args.sink.now) (content c.work_books-ended.new.sink) (shown_command c.args.command) c.new-admitting.result c.work_books-ended.new.books c.cut_off.result.books
-    (ap (λ w. w.limits) c.new-admitting.ensures.working) c.cut_off.ensures.books (c.in-Err.ensures.whole (cc fault))
+    c.new-admitting.ensures.limits c.cut_off.ensures.books (c.in-Err.ensures.whole (cc fault))
 
 pub returns-in-Err-clause-drops : goal.returns-in-Err-clause-drops
 returns-in-Err-clause-drops g c =
     command_drops (shown_command c.args.command) c.new-admitting.result c.work_books-ended.new.admitting c.work_books-ended.new.books c.cut_off.result.books c.cut_off.result.drops
-    (ap (λ w. w.limits) c.new-admitting.ensures.working) c.cut_off.ensures.books c.in-Err.ensures.kept.drops c.cut_off.ensures.drops
+    c.new-admitting.ensures.limits c.cut_off.ensures.books c.in-Err.ensures.kept.drops c.cut_off.ensures.drops
 
 pub returns-in-Ok-clause-write : goal.returns-in-Ok-clause-write
 returns-in-Ok-clause-write g c = λ written.
@@ -60,8 +61,8 @@ returns-in-Err-clause-all g c = λ done. absurd (true≢false (sym done ∙ ap i
 
 pub returns-in-Err-clause-passed : goal.returns-in-Err-clause-passed
 returns-in-Err-clause-passed g c =
-    command_passed (shown_command c.args.command) c.new-admitting.result c.work_books-ended.new.books c.cut_off.result.books c.work_books-ended.new.admitting.working.world c.cut_off.result.world
-    (ap (λ w. w.limits) c.new-admitting.ensures.working) c.cut_off.ensures.books c.cut_off.ensures.world c.in-Err.ensures.kept.passed
+    command_passed (shown_command c.args.command) c.new-admitting.result c.work_books-ended.new.books c.cut_off.result.books (left_in c.work_books-ended.new.admitting) c.cut_off.result.world
+    c.new-admitting.ensures.limits c.cut_off.ensures.books c.cut_off.ensures.world c.in-Err.ensures.kept.passed
 
 pub returns-in-Err-clause-read : goal.returns-in-Err-clause-read
 returns-in-Err-clause-read g c = λ read.

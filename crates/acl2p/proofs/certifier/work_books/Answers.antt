@@ -1,6 +1,6 @@
 use Rattle.std.proofs.Common.{◌≡◌, ◌∙◌, ◌<◌, ◌+◌, length, get_or, map, string_bytes, true, refl, ap, sym, subst, arith, length-append, [], ◌∷◌}
 use Rattle.std.proofs.lemmas.Result.{err_from_is_err_and}
-use Rattle.acl2p.specs.Session.{IsNext}
+use Rattle.acl2p.specs.Session.{read_body, IsNext}
 use Rattle.acl2p.proofs.Sessions.{SoFar, so_far_none, so_far_more, cut_between, cut_within, indexed, named_at, named_length, all_listed}
 use Rattle.acl2p.proofs.certifier.work_books.Goals as goal
 
@@ -11,7 +11,7 @@ loop-name-init g c =
     record {
       count = ap length c.requires.unread;
       so_far = subst (λ (books : _). SoFar (content c.args.sink.now) (content c.args.sink.now) (g.L.Library.files c.args.library.now) names c.args.admitting.now c.args.admitting.now books true) (sym c.requires.unread)
-          (so_far_none (content c.args.sink.now) (g.L.Library.files c.args.library.now) names c.args.admitting.now c.requires.begun c.requires.unnoted);
+          (so_far_none (content c.args.sink.now) (g.L.Library.files c.args.library.now) names c.args.admitting.now c.requires.begun c.requires.unkept c.requires.unnoted);
       files = refl;
       reads = omega arith;
       stores = refl;
@@ -38,7 +38,8 @@ loop-name-preserved g c =
       count = ap length next.listed ∙ length-append books (next.book ∷ []) ∙ ap (λ k. k + 1) inv.count;
       so_far = subst (λ (all : _). SoFar (content c.args.sink.now) (content c.work_book.new.sink) files names c.args.admitting.now c.work_book.new.admitting new all) (sym c.both-certified.ensures)
           (so_far_more (content c.args.sink.now) (content c.loop-name.sink) (content c.work_book.new.sink) files names c.args.admitting.now c.loop-name.admitting c.work_book.new.admitting books new c.loop-name.certified c.in_ok-good.good name book
-          within at next same inv.so_far c.in_ok-good.ensures.text c.in_ok-good.ensures.certified c.in_ok-good.ensures.state c.in_ok-good.ensures.led);
+          within at next same inv.so_far (read_body c.loop-name.admitting.working.limits c.loop-name.admitting.working.earlier book.read) refl
+          c.in_ok-good.ensures.text c.in_ok-good.ensures.certified c.in_ok-good.ensures.earlier c.in_ok-good.ensures.last c.in_ok-good.ensures.led);
       files = c.in_ok-read_next.ensures.files ∙ inv.files;
       reads = let before = inv.reads in let after = c.in_ok-read_next.ensures.later in omega arith;
       stores = c.in_ok-read_next.ensures.stores ∙ inv.stores;
@@ -76,7 +77,7 @@ returns-in_err-good-clause-part g c =
     let same = indexed files name books new next c.as_slice.result.now c.len-place.result book c.as_slice.ensures c.len-place.ensures c.index-as_slice-place.is in
     let p = err_from_is_err_and c.from_residual-in_err-good.result c.from_residual-in_err-good.ensures.1 in
     rw p.1 (cut_within (content c.args.sink.now) (content c.loop-name.sink) (content c.work_book.new.sink) files names c.args.admitting.now c.loop-name.admitting c.work_book.new.admitting books new c.loop-name.certified name book
-    within at next same inv.so_far c.in_err-good.ensures.part c.in_err-good.ensures.led).part
+    within at next same inv.so_far (read_body c.loop-name.admitting.working.limits c.loop-name.admitting.working.earlier book.read) refl c.in_err-good.ensures.part c.in_err-good.ensures.led).part
 
 pub returns-in_err-good-clause-kept : goal.returns-in_err-good-clause-kept
 returns-in_err-good-clause-kept g c =
@@ -95,7 +96,7 @@ returns-in_err-good-clause-kept g c =
     let book = c.index-as_slice-place.result in
     let same = indexed files name books new next c.as_slice.result.now c.len-place.result book c.as_slice.ensures c.len-place.ensures c.index-as_slice-place.is in
     (cut_within (content c.args.sink.now) (content c.loop-name.sink) (content c.work_book.new.sink) files names c.args.admitting.now c.loop-name.admitting c.work_book.new.admitting books new c.loop-name.certified name book
-    within at next same inv.so_far c.in_err-good.ensures.part c.in_err-good.ensures.led).kept
+    within at next same inv.so_far (read_body c.loop-name.admitting.working.limits c.loop-name.admitting.working.earlier book.read) refl c.in_err-good.ensures.part c.in_err-good.ensures.led).kept
 
 pub returns-in_err-good-clause-books : goal.returns-in_err-good-clause-books
 returns-in_err-good-clause-books g c =
@@ -114,7 +115,7 @@ returns-in_err-good-clause-books g c =
     let book = c.index-as_slice-place.result in
     let same = indexed files name books new next c.as_slice.result.now c.len-place.result book c.as_slice.ensures c.len-place.ensures c.index-as_slice-place.is in
     (cut_within (content c.args.sink.now) (content c.loop-name.sink) (content c.work_book.new.sink) files names c.args.admitting.now c.loop-name.admitting c.work_book.new.admitting books new c.loop-name.certified name book
-    within at next same inv.so_far c.in_err-good.ensures.part c.in_err-good.ensures.led).listed
+    within at next same inv.so_far (read_body c.loop-name.admitting.working.limits c.loop-name.admitting.working.earlier book.read) refl c.in_err-good.ensures.part c.in_err-good.ensures.led).listed
 
 pub returns-clause-all : goal.returns-clause-all
 returns-clause-all g c =
