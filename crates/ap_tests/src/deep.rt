@@ -14,13 +14,18 @@ const STACK: usize = 2 << 20;
 /// The most nodes of a translated term.
 const MOST_NODES: u32 = 4096;
 
+/// `(F t)`
+fn around(alloc: Global, t: Term) -> Result<Term, NoMemory> {
+    let mut arguments = Seq::new(alloc);
+    arguments.push(t)?;
+    Term::call(alloc, acl2(alloc, b"F")?, arguments)
+}
+
 /// `(F (F .. X))` of so many nodes.
 fn chain(alloc: Global, count: u32) -> Result<Term, NoMemory> {
     let mut t = Term::Var(acl2(alloc, b"X")?);
     for _ in 1..count {
-        let mut arguments = Seq::new(alloc);
-        arguments.push(t)?;
-        t = Term::call(alloc, acl2(alloc, b"F")?, arguments)?;
+        t = around(alloc, t)?;
     }
     Ok(t)
 }
@@ -34,24 +39,55 @@ fn nested(alloc: Global, count: u32) -> Result<Value, NoMemory> {
     Ok(v)
 }
 
-/// Whether a term and a copy of it are one by each test, its nodes, and the length of its text. All are dropped.
-fn walked(alloc: Global, t: Term, other: Term) -> Result<(bool, Option<u64>, usize), NoMemory> {
-    let shared = copy_term(alloc, &t)?;
-    let one = same_term(&shared, &other) && t == other && term_less(&t, &other) == Some(false);
-    let text = print_term(alloc, &shared)?;
-    Ok((one, size(&t), text.len()))
+/// Whether a term, a copy of it and another term are one by each test.
+fn are_one(t: &Term, shared: &Term, other: &Term) -> bool {
+    same_term(shared, other) && *t == *other && term_less(t, other) == Some(false)
 }
 
-/// The same of values.
+/// The length of a term's text.
+fn text_length(alloc: Global, t: &Term) -> Result<usize, NoMemory> {
+    Ok(print_term(alloc, t)?.len())
+}
+
+/// Whether a term, a copy of it and another term are one, its nodes, and the length of its text. The copy is dropped.
+fn looked_at(
+    alloc: Global,
+    t: &Term,
+    other: &Term,
+) -> Result<(bool, Option<u64>, usize), NoMemory> {
+    let shared = copy_term(alloc, t)?;
+    let one = are_one(t, &shared, other);
+    Ok((one, size(t), text_length(alloc, &shared)?))
+}
+
+/// The same, where all are dropped.
+fn walked(alloc: Global, t: Term, other: Term) -> Result<(bool, Option<u64>, usize), NoMemory> {
+    looked_at(alloc, &t, &other)
+}
+
+/// The length of a value's text.
+fn value_text_length(alloc: Global, v: &Value) -> Result<usize, NoMemory> {
+    Ok(print_value(alloc, v)?.len())
+}
+
+/// Whether a value, a copy of it and another value are one, its nodes, and the length of its text. The copy is dropped.
+fn looked_at_value(
+    alloc: Global,
+    v: &Value,
+    other: &Value,
+) -> Result<(bool, Option<u64>, usize), NoMemory> {
+    let shared = copy(alloc, v)?;
+    let one = same(&shared, other) && *v == *other;
+    Ok((one, nodes(v), value_text_length(alloc, &shared)?))
+}
+
+/// The same, where all are dropped.
 fn walked_value(
     alloc: Global,
     v: Value,
     other: Value,
 ) -> Result<(bool, Option<u64>, usize), NoMemory> {
-    let shared = copy(alloc, &v)?;
-    let one = same(&shared, &other) && v == other;
-    let text = print_value(alloc, &shared)?;
-    Ok((one, nodes(&v), text.len()))
+    looked_at_value(alloc, &v, &other)
 }
 
 /// What another thread finds of the deepest term.
@@ -100,17 +136,25 @@ fn the_deepest_value_is_copied_and_dropped_elsewhere(rt: HostRuntime) -> Result<
     Ok(())
 }
 
-/// Whether a term that a copy shares is the same after another thread dropped the copy.
-fn kept(rt: &impl Threads, alloc: Global) -> Result<bool, NoMemory> {
-    let t = chain(alloc, MOST_NODES)?;
-    let copy = copy_term(alloc, &t)?;
-    let spawned = Builder::new()
-        .stack_size(STACK)
-        .spawn(rt, move || size(&copy));
+/// How many nodes another thread finds in a term, which is dropped there.
+fn size_elsewhere(rt: &impl Threads, t: Term) -> Result<Option<u64>, NoMemory> {
+    let spawned = Builder::new().stack_size(STACK).spawn(rt, move || size(&t));
     let Ok(child) = spawned else {
         return Err(AllocError);
     };
-    Ok(child.join(rt) == size(&t))
+    Ok(child.join(rt))
+}
+
+/// Whether a term has as many nodes after another thread dropped a copy of it.
+fn outlives(rt: &impl Threads, alloc: Global, t: &Term) -> Result<bool, NoMemory> {
+    let copy = copy_term(alloc, t)?;
+    Ok(size_elsewhere(rt, copy)? == size(t))
+}
+
+/// Whether the deepest term, which a copy shares, is the same after another thread dropped the copy.
+fn kept(rt: &impl Threads, alloc: Global) -> Result<bool, NoMemory> {
+    let t = chain(alloc, MOST_NODES)?;
+    outlives(rt, alloc, &t)
 }
 
 #[test]

@@ -3,12 +3,17 @@ use ap_list::{Boxed, Bytes, NoMemory};
 use std::alloc::Global;
 use std::test::Fail;
 
+/// Adds to a list by each call that does.
+fn add(alloc: Global, bytes: &mut Bytes) -> Result<(), NoMemory> {
+    bytes.push(b'r')?;
+    bytes.extend(b" ni")?;
+    bytes.append(Bytes::from_slice(alloc, b"l")?)
+}
+
 /// A list made by each call that adds to one.
 fn made(alloc: Global) -> Result<Bytes, NoMemory> {
     let mut bytes = Bytes::from_slice(alloc, b"ca")?;
-    bytes.push(b'r')?;
-    bytes.extend(b" ni")?;
-    bytes.append(Bytes::from_slice(alloc, b"l")?)?;
+    add(alloc, &mut bytes)?;
     Ok(bytes)
 }
 

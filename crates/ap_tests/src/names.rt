@@ -2,6 +2,7 @@ use crate::expect::expect;
 use ap_list::Bytes;
 use ap_names::{GoalName, NoMemory, Seq, parse, same_name};
 use std::alloc::{AllocError, Global};
+use std::process::Abort;
 use std::test::Fail;
 
 fn root(alloc: Global) -> GoalName {
@@ -73,11 +74,21 @@ fn is_root(alloc: Global, name: &GoalName) -> bool {
     same_name(name, &root(alloc))
 }
 
+/// Whether a copy of a name is the same.
+fn is_copied(alloc: Global, name: &GoalName) -> Result<bool, NoMemory> {
+    let copied = name.copy(alloc)?;
+    Ok(same_name(name, &copied))
+}
+
+/// Whether the name of a pushed goal is copied, and isn't that of the root.
+fn is_pushed_copied(alloc: Global) -> Result<bool, NoMemory> {
+    let name = pushed(alloc, &[1, 2])?;
+    Ok(is_copied(alloc, &name)? && !is_root(alloc, &name))
+}
+
 #[test]
 fn a_copy_is_the_same_name(rt: HostRuntime) -> Result<(), Fail> {
-    let name = pushed(rt.alloc(), &[1, 2])?;
-    let copied = name.copy(rt.alloc())?;
-    assert!(rt; same_name(&name, &copied) && !is_root(rt.alloc(), &name));
+    assert!(rt; is_pushed_copied(rt.alloc())?);
     Ok(())
 }
 
@@ -152,15 +163,33 @@ fn texts_are_read_as_names(rt: HostRuntime) -> Result<(), Fail> {
     Ok(())
 }
 
+/// What the name prints as that a text is read as, with its letters in upper or in lower case.
+fn read_cased(alloc: Global, text: &[u8], upper: bool) -> Result<Option<Bytes>, NoMemory> {
+    let text_cased = cased(alloc, text, upper)?;
+    read(alloc, text_cased.as_slice())
+}
+
+/// Reads a printed name back in upper and in lower case.
+fn expect_read_back(
+    rt: &impl Abort,
+    alloc: Global,
+    printed: &[u8],
+    text: &str,
+) -> Result<(), NoMemory> {
+    for upper in [false, true] {
+        match read_cased(alloc, printed, upper)? {
+            Some(found) => expect(rt, found.as_slice(), text),
+            None => panic!(rt; "no name"),
+        }
+    }
+    Ok(())
+}
+
 #[test]
 fn printed_names_are_read_back(rt: HostRuntime) -> Result<(), Fail> {
     for (numbers, moves, text) in ROWS {
         let printed = printed(rt.alloc(), *numbers, *moves)?;
-        for upper in [false, true] {
-            let text_cased = cased(rt.alloc(), printed.as_slice(), upper)?;
-            let read = read(rt.alloc(), text_cased.as_slice())?;
-            expect(&rt, read.ok_or("no name")?.as_slice(), *text);
-        }
+        expect_read_back(&rt, rt.alloc(), printed.as_slice(), *text)?;
     }
     Ok(())
 }

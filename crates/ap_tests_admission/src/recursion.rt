@@ -3,10 +3,10 @@
 use crate::written::defun;
 use ap_list::{Bytes, NoMemory, Seq};
 use ap_print::{print_clause, print_term};
-use ap_term::{Term, copy_terms};
+use ap_term::{Clause, Term, copy_terms};
 use ap_terminate::{TerminateError, measure_for, obligations};
 use ap_value::{Symbol, copy_symbol};
-use ap_world::{Case, Defun, World};
+use ap_world::{Case, Defun, Measure, World};
 use std::alloc::Global;
 use std::process::Abort;
 
@@ -52,18 +52,40 @@ fn call(alloc: Global, name: &Symbol, arguments: &[Term]) -> Result<Term, NoMemo
     )
 }
 
-/// A case as text: its tests, a mark, and its calls.
-fn put_case(alloc: Global, text: &mut Bytes, name: &Symbol, case: &Case) -> Result<(), NoMemory> {
-    for test in case.tests.as_slice() {
+/// The tests of a case.
+fn put_tests(alloc: Global, text: &mut Bytes, tests: &[Term]) -> Result<(), NoMemory> {
+    for test in tests {
         text.append(print_term(alloc, test)?)?;
         text.push(b' ')?;
     }
-    text.push(b':')?;
-    for arguments in case.calls.as_slice() {
+    Ok(())
+}
+
+/// What a call of the function prints as.
+fn call_text(alloc: Global, name: &Symbol, arguments: &[Term]) -> Result<Bytes, NoMemory> {
+    let made = call(alloc, name, arguments)?;
+    print_term(alloc, &made)
+}
+
+/// The calls of a case.
+fn put_calls(
+    alloc: Global,
+    text: &mut Bytes,
+    name: &Symbol,
+    calls: &[Seq<Term>],
+) -> Result<(), NoMemory> {
+    for arguments in calls {
         text.push(b' ')?;
-        let made = call(alloc, name, arguments.as_slice())?;
-        text.append(print_term(alloc, &made)?)?;
+        text.append(call_text(alloc, name, arguments.as_slice())?)?;
     }
+    Ok(())
+}
+
+/// A case as text: its tests, a mark, and its calls.
+fn put_case(alloc: Global, text: &mut Bytes, name: &Symbol, case: &Case) -> Result<(), NoMemory> {
+    put_tests(alloc, text, case.tests.as_slice())?;
+    text.push(b':')?;
+    put_calls(alloc, text, name, case.calls.as_slice())?;
     text.push(b'\n')
 }
 
@@ -86,19 +108,36 @@ fn refusal(error: TerminateError) -> &'static [u8] {
     }
 }
 
-/// The obligations as text, a line each, or the refusal.
-fn owed(alloc: Global, w: &World, d: &Defun) -> Result<Bytes, NoMemory> {
-    let m = match measure_for(alloc, w, d) {
-        Ok(m) => m,
-        Err(error) => return Bytes::from_slice(alloc, refusal(error)),
-    };
-    let mut text = Seq::new(alloc);
-    let clauses = obligations(alloc, d, &m)?;
-    for clause in clauses.as_slice() {
+/// Clauses, a line each.
+fn put_clauses(alloc: Global, text: &mut Bytes, clauses: &[Clause]) -> Result<(), NoMemory> {
+    for clause in clauses {
         text.append(print_clause(alloc, clause)?)?;
         text.push(b'\n')?;
     }
+    Ok(())
+}
+
+/// The obligations by a measure as text, a line each.
+fn owed_by(alloc: Global, d: &Defun, m: &Measure) -> Result<Bytes, NoMemory> {
+    let clauses = obligations(alloc, d, m)?;
+    let mut text = Seq::new(alloc);
+    put_clauses(alloc, &mut text, clauses.as_slice())?;
     Ok(text)
+}
+
+/// The same by the definition's measure, or the refusal.
+fn owed(alloc: Global, w: &World, d: &Defun) -> Result<Bytes, NoMemory> {
+    match measure_for(alloc, w, d) {
+        Ok(m) => owed_by(alloc, d, &m),
+        Err(error) => Bytes::from_slice(alloc, refusal(error)),
+    }
+}
+
+/// The same of a definition that is written.
+fn owed_text(alloc: Global, d: &str) -> Result<Bytes, NoMemory> {
+    let d = defun(alloc, d)?;
+    let world = World::bare(alloc);
+    owed(alloc, &world, &d)
 }
 
 /// Compares two texts.
@@ -107,19 +146,22 @@ fn expect(rt: &impl Abort, found: &[u8], wanted: &str) {
     assert_eq!(rt; found, wanted);
 }
 
+/// The cases of a definition that is written as text.
+fn cases_text(alloc: Global, d: &str) -> Result<Bytes, NoMemory> {
+    let d = defun(alloc, d)?;
+    cases(alloc, &d)
+}
+
 /// Compares the cases of a definition with what they are to be.
 fn expect_cases(rt: &impl Abort, alloc: Global, d: &str, wanted: &str) -> Result<(), NoMemory> {
-    let d = defun(alloc, d)?;
-    let text = cases(alloc, &d)?;
+    let text = cases_text(alloc, d)?;
     expect(rt, text.as_slice(), wanted);
     Ok(())
 }
 
 /// Compares the obligations of a definition, or its refusal, with what they are to be.
 fn expect_owed(rt: &impl Abort, alloc: Global, d: &str, wanted: &str) -> Result<(), NoMemory> {
-    let world = World::bare(alloc);
-    let d = defun(alloc, d)?;
-    let text = owed(alloc, &world, &d)?;
+    let text = owed_text(alloc, d)?;
     expect(rt, text.as_slice(), wanted);
     Ok(())
 }

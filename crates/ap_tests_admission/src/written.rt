@@ -5,7 +5,7 @@ use ap_reader::{Body, Form, forms};
 use ap_term::Term;
 use ap_terminate::cases_of;
 use ap_value::{Symbol, Value, copy_symbol};
-use ap_world::{Defun, Measure};
+use ap_world::{Case, Defun, Measure};
 use std::alloc::{AllocError, Global};
 
 /// The term that is written: a symbol is a variable, a number or a quoted symbol a constant, a list a call.
@@ -72,6 +72,17 @@ fn measure(alloc: Global, form: &Form) -> Result<Option<Measure>, NoMemory> {
     }
 }
 
+/// The body that is written, and the cases of its calls of this name.
+fn body_and_cases(
+    alloc: Global,
+    name: &Symbol,
+    form: &Form,
+) -> Result<(Term, Seq<Case>), NoMemory> {
+    let body = term(alloc, form)?;
+    let cases = cases_of(alloc, name, &body)?;
+    Ok((body, cases))
+}
+
 /// The definition of these four forms: its name, its formals, its measure and its body, in translated form.
 fn definition(alloc: Global, parts: &[Form]) -> Result<Defun, NoMemory> {
     let [name, formals, given, body] = parts else {
@@ -80,8 +91,7 @@ fn definition(alloc: Global, parts: &[Form]) -> Result<Defun, NoMemory> {
     let name = symbol(alloc, name)?;
     let formals = symbols(alloc, items(formals))?;
     let measure = measure(alloc, given)?;
-    let body = term(alloc, body)?;
-    let cases = cases_of(alloc, &name, &body)?;
+    let (body, cases) = body_and_cases(alloc, &name, body)?;
     Ok(Defun {
         name,
         formals,

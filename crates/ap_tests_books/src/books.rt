@@ -70,6 +70,16 @@ fn a_book_may_have_no_events(rt: HostRuntime) -> Result<(), Fail> {
     shows(&rt, alloc, &book, 255, (b"Book b\n.", true, 65))
 }
 
+/// Works a book, of which no form is handed on, and looks at what is put.
+fn shows_no_form<R: Threads + Wait + Sync + Abort>(
+    rt: &R,
+    alloc: Global,
+    book: BookSeen,
+    text: &[u8],
+) -> Result<(), Fail> {
+    shows(rt, alloc, &book, 255, (text, false, 65))
+}
+
 #[test]
 fn nothing_is_worked_without_the_package(rt: HostRuntime) -> Result<(), Fail> {
     let alloc = rt.alloc();
@@ -81,7 +91,7 @@ fn nothing_is_worked_without_the_package(rt: HostRuntime) -> Result<(), Fail> {
         b"(in-package \"ACL2\" 1) (a)",
         b"in-package \"ACL2\"",
     ] {
-        shows(&rt, alloc, &found(alloc, text)?, 255, (none, false, 65))?;
+        shows_no_form(&rt, alloc, found(alloc, text)?, none)?;
     }
     Ok(())
 }
@@ -90,17 +100,16 @@ fn nothing_is_worked_without_the_package(rt: HostRuntime) -> Result<(), Fail> {
 fn nothing_is_worked_of_a_book_that_is_not_read(rt: HostRuntime) -> Result<(), Fail> {
     let alloc = rt.alloc();
     let absent = seen(alloc, BookRead::Absent)?;
-    shows(&rt, alloc, &absent, 255, (b"Book b\nAbsent\n", false, 65))?;
+    shows_no_form(&rt, alloc, absent, b"Book b\nAbsent\n")?;
     let long = seen(alloc, BookRead::TooLong)?;
-    shows(&rt, alloc, &long, 255, (b"Book b\nToo long\n", false, 65))?;
+    shows_no_form(&rt, alloc, long, b"Book b\nToo long\n")?;
     let open = found(alloc, b"(in-package \"ACL2\") (a")?;
-    shows(
-        &rt,
-        alloc,
-        &open,
-        255,
-        (b"Book b\nRead error 6 OpenList at 20\n", false, 65),
-    )
+    shows_no_form(&rt, alloc, open, b"Book b\nRead error 6 OpenList at 20\n")
+}
+
+/// A sink whose call `k` fails.
+fn failing_sink(alloc: Global, k: u32) -> Result<MemorySink, NoMemory> {
+    Ok(MemorySink::new(alloc, Seq::from_slice(alloc, &[k])?))
 }
 
 /// Works a book of two forms over a sink whose call `k` fails, and looks at what was put before and the number
@@ -111,14 +120,12 @@ fn fails_at<R: Threads + Wait + Sync + Abort>(
     k: u32,
     want: (&[u8], u8),
 ) -> Result<(), Fail> {
-    let mut failing = Seq::new(alloc);
-    failing.push(k)?;
-    let mut sink = MemorySink::new(alloc, failing);
+    let mut sink = failing_sink(alloc, k)?;
+    let book = found(alloc, b"(in-package \"ACL2\") a b")?;
     let mut admitter = Numbering {
         next: 65,
         last: 255,
     };
-    let book = found(alloc, b"(in-package \"ACL2\") a b")?;
     let ended = certify_book(rt, alloc, &book, &mut admitter, &mut sink);
     assert!(rt; ended == Err(BookFault::Write));
     assert!(rt; sink.content() == want.0);

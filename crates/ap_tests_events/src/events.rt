@@ -1,7 +1,11 @@
 use crate::working::{told, worked};
-use ap_events::Bytes;
+use ap_events::{Bytes, NoMemory, World};
 use ap_value::acl2;
+use std::alloc::Global;
+use std::process::Abort;
+use std::sync::Wait;
 use std::test::Fail;
+use std::thread::Threads;
 
 const EVENTS: &str = r#"(defconst *two* 2)
 (defconst *two* '(a . b))
@@ -48,17 +52,46 @@ TEST 25
 SAME none
 GUARDED none";
 
+/// The world behind a text's events, which print what is wanted.
+pub(crate) fn world_behind<R: Threads + Wait + Sync + Abort>(
+    rt: &R,
+    alloc: Global,
+    events: &str,
+    wanted: &str,
+) -> Result<World, NoMemory> {
+    let mut printed = Bytes::new(alloc);
+    let world = worked(rt, alloc, events, &mut printed)?;
+    assert_eq!(rt; printed.as_slice(), wanted.as_bytes());
+    Ok(world)
+}
+
+/// Compares the functions of a world with their lines.
+pub(crate) fn expect_told(
+    rt: &impl Abort,
+    alloc: Global,
+    w: &World,
+    lines: &str,
+) -> Result<(), Fail> {
+    for line in lines.lines() {
+        let name = line.split(' ').next().unwrap_or("");
+        assert_eq!(rt; told(alloc, w, name)?.as_str(), line);
+    }
+    Ok(())
+}
+
+/// Whether the constant is there, and the theorem.
+fn are_there(alloc: Global, w: &World) -> Result<(bool, bool), NoMemory> {
+    let two = acl2(alloc, b"*TWO*")?;
+    let halves = acl2(alloc, b"HALVES")?;
+    Ok((
+        w.lookup_const(&two).is_some(),
+        w.lookup_thm(&halves).is_some(),
+    ))
+}
+
 #[test]
 fn definitions_and_constants_are_admitted_and_found(rt: HostRuntime) -> Result<(), Fail> {
-    let alloc = rt.alloc();
-    let mut printed = Bytes::new(alloc);
-    let world = worked(&rt, alloc, EVENTS, &mut printed)?;
-    assert_eq!(rt; printed.as_slice(), PRINTED.as_bytes());
-    for line in FUNCTIONS.lines() {
-        let name = line.split(' ').next().unwrap_or("");
-        assert_eq!(rt; told(alloc, &world, name)?.as_str(), line);
-    }
-    assert!(rt; world.lookup_const(&acl2(alloc, b"*TWO*")?).is_some());
-    assert!(rt; world.lookup_thm(&acl2(alloc, b"HALVES")?).is_some());
-    Ok(())
+    let world = world_behind(&rt, rt.alloc(), EVENTS, PRINTED)?;
+    assert_eq!(rt; are_there(rt.alloc(), &world)?, (true, true));
+    expect_told(&rt, rt.alloc(), &world, FUNCTIONS)
 }

@@ -1,5 +1,9 @@
 use crate::working::printed_by;
-use std::test::Fail;
+use ap_events::NoMemory;
+use std::alloc::Global;
+use std::process::Abort;
+use std::sync::Wait;
+use std::thread::Threads;
 
 const FORBIDDEN: &str = r#"(defun app (x y) (if (consp x) (cons (car x) (app (cdr x) y)) y))
 (defthm app-assoc (equal (app (app x y) z) (app x (app y z))) :hints (("Goal" :do-not-induct t)))
@@ -289,54 +293,52 @@ DEFUN PLAIN
 DEFUN PLAIN admitted
 ";
 
+/// Compares what a text's events print with what is wanted.
+fn expect_printed<R: Threads + Wait + Sync + Abort>(
+    rt: &R,
+    alloc: Global,
+    events: &str,
+    wanted: &str,
+) -> Result<(), NoMemory> {
+    let printed = printed_by(rt, alloc, events)?;
+    assert_eq!(rt; printed.as_slice(), wanted.as_bytes());
+    Ok(())
+}
+
 #[test]
 fn a_goal_has_the_hint_for_its_name_and_those_below_what_it_sets(
     rt: HostRuntime,
-) -> Result<(), Fail> {
-    let alloc = rt.alloc();
-    let printed = printed_by(&rt, alloc, CASES)?;
-    assert_eq!(rt; printed.as_slice(), CASES_PRINTED.as_bytes());
-    let printed = printed_by(&rt, alloc, ENABLED)?;
-    assert_eq!(rt; printed.as_slice(), ENABLED_PRINTED.as_bytes());
-    let printed = printed_by(&rt, alloc, OPENED)?;
-    assert_eq!(rt; printed.as_slice(), OPENED_PRINTED.as_bytes());
-    let printed = printed_by(&rt, alloc, USED)?;
-    assert_eq!(rt; printed.as_slice(), USED_PRINTED.as_bytes());
+) -> Result<(), NoMemory> {
+    for (events, wanted) in [
+        (CASES, CASES_PRINTED),
+        (ENABLED, ENABLED_PRINTED),
+        (OPENED, OPENED_PRINTED),
+        (USED, USED_PRINTED),
+    ] {
+        expect_printed(&rt, rt.alloc(), events, wanted)?;
+    }
     Ok(())
 }
 
 #[test]
 fn induction_is_forbidden_and_names_that_no_goal_has_are_refused(
     rt: HostRuntime,
-) -> Result<(), Fail> {
-    let alloc = rt.alloc();
-    let printed = printed_by(&rt, alloc, FORBIDDEN)?;
-    assert_eq!(rt; printed.as_slice(), FORBIDDEN_PRINTED.as_bytes());
-    let printed = printed_by(&rt, alloc, MISNAMED)?;
-    assert_eq!(rt; printed.as_slice(), MISNAMED_PRINTED.as_bytes());
-    Ok(())
+) -> Result<(), NoMemory> {
+    expect_printed(&rt, rt.alloc(), FORBIDDEN, FORBIDDEN_PRINTED)?;
+    expect_printed(&rt, rt.alloc(), MISNAMED, MISNAMED_PRINTED)
 }
 
 #[test]
-fn each_key_of_a_hint_does_what_it_says(rt: HostRuntime) -> Result<(), Fail> {
-    let alloc = rt.alloc();
-    let printed = printed_by(&rt, alloc, KEYS)?;
-    assert_eq!(rt; printed.as_slice(), KEYS_PRINTED.as_bytes());
-    Ok(())
+fn each_key_of_a_hint_does_what_it_says(rt: HostRuntime) -> Result<(), NoMemory> {
+    expect_printed(&rt, rt.alloc(), KEYS, KEYS_PRINTED)
 }
 
 #[test]
-fn hints_that_are_wrong_are_refused_before_any_proof(rt: HostRuntime) -> Result<(), Fail> {
-    let alloc = rt.alloc();
-    let printed = printed_by(&rt, alloc, REFUSED)?;
-    assert_eq!(rt; printed.as_slice(), REFUSED_PRINTED.as_bytes());
-    Ok(())
+fn hints_that_are_wrong_are_refused_before_any_proof(rt: HostRuntime) -> Result<(), NoMemory> {
+    expect_printed(&rt, rt.alloc(), REFUSED, REFUSED_PRINTED)
 }
 
 #[test]
-fn hints_of_a_function_hold_for_what_it_owes(rt: HostRuntime) -> Result<(), Fail> {
-    let alloc = rt.alloc();
-    let printed = printed_by(&rt, alloc, OWED)?;
-    assert_eq!(rt; printed.as_slice(), OWED_PRINTED.as_bytes());
-    Ok(())
+fn hints_of_a_function_hold_for_what_it_owes(rt: HostRuntime) -> Result<(), NoMemory> {
+    expect_printed(&rt, rt.alloc(), OWED, OWED_PRINTED)
 }

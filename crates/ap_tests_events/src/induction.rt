@@ -1,5 +1,4 @@
-use crate::working::{told, worked};
-use ap_events::Bytes;
+use crate::events::{expect_told, world_behind};
 use std::test::Fail;
 
 const EVENTS: &str = r#"(defun app (x y) (if (consp x) (cons (car x) (app (cdr x) y)) y))
@@ -65,13 +64,6 @@ LX 1";
 fn functions_on_lists_are_admitted_and_theorems_about_them_inducted(
     rt: HostRuntime,
 ) -> Result<(), Fail> {
-    let alloc = rt.alloc();
-    let mut printed = Bytes::new(alloc);
-    let world = worked(&rt, alloc, EVENTS, &mut printed)?;
-    assert_eq!(rt; printed.as_slice(), PRINTED.as_bytes());
-    for line in FUNCTIONS.lines() {
-        let name = line.split(' ').next().unwrap_or("");
-        assert_eq!(rt; told(alloc, &world, name)?.as_str(), line);
-    }
-    Ok(())
+    let world = world_behind(&rt, rt.alloc(), EVENTS, PRINTED)?;
+    expect_told(&rt, rt.alloc(), &world, FUNCTIONS)
 }

@@ -10,6 +10,8 @@ mod events;
 #[cfg(test)]
 mod hints;
 #[cfg(test)]
+mod including;
+#[cfg(test)]
 mod induction;
 #[cfg(test)]
 mod processes;

@@ -1,5 +1,4 @@
-use crate::working::{told, worked};
-use ap_events::Bytes;
+use crate::events::{expect_told, world_behind};
 use std::test::Fail;
 
 const EVENTS: &str = r#"(defun f (x) (+ 1 (f x)))
@@ -99,13 +98,6 @@ ACK none";
 fn functions_that_call_themselves_are_admitted_by_their_measure(
     rt: HostRuntime,
 ) -> Result<(), Fail> {
-    let alloc = rt.alloc();
-    let mut printed = Bytes::new(alloc);
-    let world = worked(&rt, alloc, EVENTS, &mut printed)?;
-    assert_eq!(rt; printed.as_slice(), PRINTED.as_bytes());
-    for line in FUNCTIONS.lines() {
-        let name = line.split(' ').next().unwrap_or("");
-        assert_eq!(rt; told(alloc, &world, name)?.as_str(), line);
-    }
-    Ok(())
+    let world = world_behind(&rt, rt.alloc(), EVENTS, PRINTED)?;
+    expect_told(&rt, rt.alloc(), &world, FUNCTIONS)
 }

@@ -8,10 +8,10 @@ use ap_ground::laws::ground_has_its_functions;
 use ap_reader::forms;
 use ap_rules::by_head;
 use ap_value::acl2;
-use ap_world::RuneKind;
+use ap_world::{Rune, RuneKind};
 use std::alloc::{AllocError, Global};
+use std::process::Abort;
 use std::sync::Wait;
-use std::test::Fail;
 use std::thread::Threads;
 
 /// Theorems whose hypotheses say what they conclude, so that they are proved whatever is enabled.
@@ -103,7 +103,7 @@ fn all_events<R: Threads + Wait + Sync>(
     requires { HasFunctions (function_of w.old.entries) }
 {
     for form in list {
-        let outcome = work(rt, alloc, w, form, limits, 1, &NoGate)?;
+        let outcome = work(rt, alloc, w, &[], form, limits, 1, &NoGate)?;
         printed.extend(outcome.text.as_slice())?;
     }
     Ok(())
@@ -118,7 +118,7 @@ fn first_world(alloc: Global) -> Result<Ruled, NoMemory>
     Ruled::of(alloc, world)
 }
 
-/// The world behind the events, where they print what is wanted.
+/// The world behind the events, with what they print.
 fn worked<R: Threads + Wait + Sync>(
     rt: &R,
     alloc: Global,
@@ -159,31 +159,49 @@ fn word(kind: RuneKind) -> &'static str {
     }
 }
 
+/// Writes the line of a rune.
+fn put_rune(text: &mut Bytes, rune: &Rune) -> Result<(), NoMemory> {
+    text.extend(b"(")?;
+    text.extend(word(rune.kind()).as_bytes())?;
+    text.extend(b" ")?;
+    text.extend(rune.symbol().name.as_slice())?;
+    text.extend(b")\n")
+}
+
 /// A line for each rune that is disabled.
 fn disabled(alloc: Global, w: &Ruled) -> Result<Bytes, NoMemory> {
     let mut text = Bytes::new(alloc);
     for rune in w.world().theory().disabled() {
-        text.extend(b"(")?;
-        text.extend(word(rune.kind()).as_bytes())?;
-        text.extend(b" ")?;
-        text.extend(rune.symbol().name.as_slice())?;
-        text.extend(b")\n")?;
+        put_rune(&mut text, rune)?;
     }
     Ok(text)
+}
+
+/// Compares the rules of each head with their line, and the runes that are disabled with theirs.
+fn expect_rules(rt: &impl Abort, alloc: Global, w: &Ruled) -> Result<(), NoMemory> {
+    for line in RULES.lines() {
+        let head = line.split(' ').next().unwrap_or("");
+        assert_eq!(rt; ruled(alloc, w, head)?.as_slice(), line.as_bytes());
+    }
+    assert_eq!(rt; disabled(alloc, w)?.as_slice(), DISABLED.as_bytes());
+    Ok(())
+}
+
+/// The world behind the events, which print what is wanted.
+fn world_behind<R: Threads + Wait + Sync + Abort>(
+    rt: &R,
+    alloc: Global,
+) -> Result<Ruled, NoMemory> {
+    let mut printed = Bytes::new(alloc);
+    let world = worked(rt, alloc, &mut printed)?;
+    assert_eq!(rt; printed.as_slice(), PRINTED.as_bytes());
+    Ok(world)
 }
 
 #[test]
 fn theorems_give_their_rules_and_names_are_enabled_and_disabled(
     rt: HostRuntime,
-) -> Result<(), Fail> {
-    let alloc = rt.alloc();
-    let mut printed = Bytes::new(alloc);
-    let world = worked(&rt, alloc, &mut printed)?;
-    assert_eq!(rt; printed.as_slice(), PRINTED.as_bytes());
-    for line in RULES.lines() {
-        let head = line.split(' ').next().unwrap_or("");
-        assert_eq!(rt; ruled(alloc, &world, head)?.as_slice(), line.as_bytes());
-    }
-    assert_eq!(rt; disabled(alloc, &world)?.as_slice(), DISABLED.as_bytes());
-    Ok(())
+) -> Result<(), NoMemory> {
+    let world = world_behind(&rt, rt.alloc())?;
+    expect_rules(&rt, rt.alloc(), &world)
 }

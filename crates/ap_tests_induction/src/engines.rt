@@ -63,6 +63,21 @@ fn answer_shown(alloc: Global, found: Option<Reduction>) -> Result<Bytes, NoMemo
     }
 }
 
+/// What an engine leaves of the clause of these literals in a world, as text.
+fn left_in(alloc: Global, engine: Engine, w: &World, literals: &str) -> Result<Bytes, NoMemory>
+    requires functions { HasFunctions (function_of w.now.entries) }
+{
+    let c = clause(w, all_terms(alloc, literals)?)?;
+    let found = answer(alloc, engine, w, &c)?;
+    answer_shown(alloc, found)
+}
+
+/// The same in the ground world.
+fn left(alloc: Global, engine: Engine, literals: &str) -> Result<Bytes, NoMemory> {
+    let world = first_world(alloc)?;
+    left_in(alloc, engine, &world, literals)
+}
+
 /// Compares what an engine leaves of the clause of these literals with what it is to be.
 fn expect_left(
     rt: &impl Abort,
@@ -71,10 +86,7 @@ fn expect_left(
     literals: &str,
     wanted: &str,
 ) -> Result<(), NoMemory> {
-    let world = first_world(alloc)?;
-    let c = clause(&world, all_terms(alloc, literals)?)?;
-    let found = answer(alloc, engine, &world, &c)?;
-    let text = answer_shown(alloc, found)?;
+    let text = left(alloc, engine, literals)?;
     expect(rt, text.as_slice(), wanted);
     Ok(())
 }

@@ -74,6 +74,25 @@ pub(crate) fn expect(rt: &impl Abort, found: &[u8], wanted: &str) {
     assert_eq!(rt; found, wanted);
 }
 
+/// The induction of the clause of these literals in the ground world, as text.
+fn text_by_clause(alloc: Global, theory: &Theory, literals: &str) -> Result<Bytes, NoMemory> {
+    let world = first_world(alloc)?;
+    let found = by_clause(alloc, &world, theory, literals)?;
+    answer(alloc, found)
+}
+
+/// The same by the call of a hint.
+fn text_by_hint(
+    alloc: Global,
+    theory: &Theory,
+    literals: &str,
+    hint: &str,
+) -> Result<Bytes, NoMemory> {
+    let world = first_world(alloc)?;
+    let found = by_hint(alloc, &world, theory, literals, hint)?;
+    answer(alloc, found)
+}
+
 /// Compares an induction in the ground world, where each rune is enabled, with what it is to be.
 fn expect_scheme(
     rt: &impl Abort,
@@ -81,10 +100,7 @@ fn expect_scheme(
     literals: &str,
     wanted: &str,
 ) -> Result<(), NoMemory> {
-    let world = first_world(alloc)?;
-    let theory = Theory::all_enabled();
-    let found = by_clause(alloc, &world, &theory, literals)?;
-    let text = answer(alloc, found)?;
+    let text = text_by_clause(alloc, &Theory::all_enabled(), literals)?;
     expect(rt, text.as_slice(), wanted);
     Ok(())
 }
@@ -97,22 +113,24 @@ fn expect_hinted(
     hint: &str,
     wanted: &str,
 ) -> Result<(), NoMemory> {
-    let world = first_world(alloc)?;
-    let theory = Theory::all_enabled();
-    let found = by_hint(alloc, &world, &theory, literals, hint)?;
-    let text = answer(alloc, found)?;
+    let text = text_by_hint(alloc, &Theory::all_enabled(), literals, hint)?;
     expect(rt, text.as_slice(), wanted);
     Ok(())
 }
 
-/// How many clauses an induction in the ground world has; 0 where there is none.
+/// How many clauses an induction has; 0 where there is none.
+fn clauses_in(found: &Option<Scheme>) -> usize {
+    match found {
+        Some(s) => s.reduction.to().len(),
+        None => 0,
+    }
+}
+
+/// The same of the induction of the clause of these literals in the ground world.
 fn clause_count(alloc: Global, literals: &str) -> Result<usize, NoMemory> {
     let world = first_world(alloc)?;
-    let theory = Theory::all_enabled();
-    match by_clause(alloc, &world, &theory, literals)? {
-        Some(s) => Ok(s.reduction.to().len()),
-        None => Ok(0),
-    }
+    let found = by_clause(alloc, &world, &Theory::all_enabled(), literals)?;
+    Ok(clauses_in(&found))
 }
 
 #[test]
@@ -182,15 +200,22 @@ fn each_literal_is_a_hypothesis_in_turn(rt: HostRuntime) -> Result<(), NoMemory>
     )
 }
 
-#[test]
-fn a_disabled_induction_is_no_candidate(rt: HostRuntime) -> Result<(), NoMemory> {
-    let alloc = rt.alloc();
-    let world = first_world(alloc)?;
+/// The theory that disables the induction by `len`.
+fn without_len(alloc: Global) -> Result<Theory, NoMemory> {
     let mut runes = Seq::new(alloc);
     runes.push(Rune::Induction(acl2(alloc, b"LEN")?))?;
-    let theory = Theory::disabling(alloc, runes)?;
-    let found = by_clause(alloc, &world, &theory, LENGTHS)?;
-    let text = answer(alloc, found)?;
+    Theory::disabling(alloc, runes)
+}
+
+/// The induction of the lengths' equation in that theory, as text.
+fn text_without_len(alloc: Global) -> Result<Bytes, NoMemory> {
+    let theory = without_len(alloc)?;
+    text_by_clause(alloc, &theory, LENGTHS)
+}
+
+#[test]
+fn a_disabled_induction_is_no_candidate(rt: HostRuntime) -> Result<(), NoMemory> {
+    let text = text_without_len(rt.alloc())?;
     expect(&rt, text.as_slice(), "none");
     Ok(())
 }

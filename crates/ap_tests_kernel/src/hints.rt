@@ -112,13 +112,30 @@ fn is_hint(w: &World, hint: &Hint) -> bool
         && is_scheme(w, &hint.scheme)
 }
 
+/// The ground world, and the index of its rules.
+fn first_ruled(alloc: Global) -> Result<Ruled, NoMemory>
+    ensures { IfOk result (λ w. HasFunctions (function_of w.entries)) }
+{
+    ground_has_its_functions();
+    let world = ground_world(alloc)?;
+    Ruled::of(alloc, world)
+}
+
 /// A plan of the ground world with one hint.
 fn plan(alloc: Global, hint: Hint) -> Result<Plan, NoMemory>
     ensures functions { IfOk result (λ p. HasFunctions (defs_of p)) }
     ensures hints { IfOk result (λ p. KnownHints p.world.entries p.hints) }
 {
-    ground_has_its_functions();
-    let world = Ruled::of(alloc, ground_world(alloc)?)?;
+    let world = first_ruled(alloc)?;
+    with_hint(alloc, world, hint)
+}
+
+/// The plan of a world with one hint.
+fn with_hint(alloc: Global, world: Ruled, hint: Hint) -> Result<Plan, NoMemory>
+    requires { HasFunctions (function_of world.entries) }
+    ensures functions { IfOk result (λ p. HasFunctions (defs_of p)) }
+    ensures hints { IfOk result (λ p. KnownHints p.world.entries p.hints) }
+{
     if !is_hint(world.world(), &hint) {
         return Err(AllocError);
     }
@@ -183,6 +200,24 @@ fn are_clauses(alloc: Global, clauses: &[Clause], wanted: &[&str]) -> Result<boo
     Ok(clauses.len() == wanted.len())
 }
 
+/// What a step did, and the names and the clauses of the goals that it made.
+fn all_told<J: Planned>(
+    alloc: Global,
+    stepped: &Stepped<Task<'_, J>>,
+) -> Result<(Bytes, Seq<Clause>), NoMemory> {
+    let found = told(alloc, stepped)?;
+    Ok((found, clauses_of(alloc, stepped)?))
+}
+
+/// The same of a task's step.
+fn task_told<J: Planned>(
+    alloc: Global,
+    task: &Task<'_, J>,
+) -> Result<(Bytes, Seq<Clause>), NoMemory> {
+    let stepped = Acl2Step::new(task.plan).step(alloc, task)?;
+    all_told(alloc, &stepped)
+}
+
 /// What the step of `Goal` does under a plan, with the names and the clauses of the goals that it makes.
 fn step_told<J: Planned>(
     alloc: Global,
@@ -194,10 +229,7 @@ fn step_told<J: Planned>(
     requires hints { KnownHints plan.now.world.entries plan.now.hints }
 {
     let task: Boxed<Task<'_, J>> = Boxed::new(alloc, root(alloc, plan, conjecture)?)?;
-    let stepped = Acl2Step::new(plan).step(alloc, task.get())?;
-    let found = told(alloc, &stepped)?;
-    let clauses = clauses_of(alloc, &stepped)?;
-    Ok((found, clauses))
+    task_told(alloc, task.get())
 }
 
 /// Compares what the step of `Goal` does under a plan, and the clauses that it makes, with what is wanted.
@@ -229,14 +261,26 @@ fn instance(alloc: Global, name: &[u8], text: &str) -> Result<(Symbol, Subst), N
     Ok((acl2(alloc, name)?, Subst(pairs)))
 }
 
+/// Two theorems of the ground world, an instance of each.
+fn instances(alloc: Global) -> Result<Seq<(Symbol, Subst)>, NoMemory> {
+    let mut uses = Seq::new(alloc);
+    uses.push(instance(alloc, b"CAR-CDR-ELIM", "Y")?)?;
+    uses.push(instance(alloc, b"UNICITY-OF-0", "(CAR Y)")?)?;
+    Ok(uses)
+}
+
+/// A hint for `Goal` by these.
+fn by_instances(alloc: Global) -> Result<Hint, NoMemory> {
+    let uses = instances(alloc)?;
+    let mut hint = blank(alloc, 0);
+    hint.uses = uses;
+    Ok(hint)
+}
+
 #[test]
 fn instances_stand_first_in_an_only_child(rt: HostRuntime) -> Result<(), NoMemory> {
     let alloc = rt.alloc();
-    let mut hint = blank(alloc, 0);
-    hint.uses.push(instance(alloc, b"CAR-CDR-ELIM", "Y")?)?;
-    hint.uses
-        .push(instance(alloc, b"UNICITY-OF-0", "(CAR Y)")?)?;
-    let plan = plan(alloc, hint)?;
+    let plan = plan(alloc, by_instances(alloc)?)?;
     expect_step(
         &rt,
         alloc,
@@ -251,8 +295,10 @@ fn instances_stand_first_in_an_only_child(rt: HostRuntime) -> Result<(), NoMemor
 
 /// A hint for a goal with so many primes, by whether X is a cons.
 fn by_cases(alloc: Global, primes: u32) -> Result<Hint, NoMemory> {
+    let mut cases = Seq::new(alloc);
+    cases.push(term(alloc, "(CONSP X)")?)?;
     let mut hint = blank(alloc, primes);
-    hint.cases.push(term(alloc, "(CONSP X)")?)?;
+    hint.cases = cases;
     Ok(hint)
 }
 
@@ -280,6 +326,18 @@ fn a_hint_for_another_goal_says_nothing(rt: HostRuntime) -> Result<(), NoMemory>
     expect_step(&rt, alloc, &plan, "(EQUAL X Y)", "missed", &[])
 }
 
+/// What a task's step does, and the names of the goals that it makes.
+fn names_told<J: Planned>(alloc: Global, task: &Task<'_, J>) -> Result<Bytes, NoMemory> {
+    let stepped = Acl2Step::new(task.plan).step(alloc, task)?;
+    told(alloc, &stepped)
+}
+
+/// The same of the induction of a task.
+fn inducted_told<J: Planned>(alloc: Global, task: &Task<'_, J>) -> Result<Bytes, NoMemory> {
+    let induction = Boxed::new(alloc, induct_task(alloc, task, 1)?)?;
+    names_told(alloc, induction.get())
+}
+
 /// What the step of the induction of `Goal` does, with the names of the goals that it makes.
 fn induction_told<J: Planned>(
     alloc: Global,
@@ -291,9 +349,7 @@ fn induction_told<J: Planned>(
     requires hints { KnownHints plan.now.world.entries plan.now.hints }
 {
     let task: Boxed<Task<'_, J>> = Boxed::new(alloc, root(alloc, plan, conjecture)?)?;
-    let induction = Boxed::new(alloc, induct_task(alloc, task.get(), 1)?)?;
-    let stepped = Acl2Step::new(plan).step(alloc, induction.get())?;
-    told(alloc, &stepped)
+    inducted_told(alloc, task.get())
 }
 
 /// Compares what the step of the induction of `Goal` does with what is wanted.
@@ -313,28 +369,46 @@ fn expect_induction(
     Ok(())
 }
 
-#[test]
-fn a_call_pushes_at_once_and_is_inducted_by(rt: HostRuntime) -> Result<(), NoMemory> {
-    let alloc = rt.alloc();
+/// A hint for `Goal` to induct by a call.
+fn by_call(alloc: Global) -> Result<Hint, NoMemory> {
+    let call = term(alloc, "(LEN X)")?;
     let mut hint = blank(alloc, 0);
-    hint.scheme = Some(term(alloc, "(LEN X)")?);
-    let plan = plan(alloc, hint)?;
-    expect_step(&rt, alloc, &plan, "(EQUAL X X)", "pushed", &[])?;
+    hint.scheme = Some(call);
+    Ok(hint)
+}
+
+fn expect_pushed(rt: &impl Abort, alloc: Global, plan: &Plan) -> Result<(), NoMemory>
+    requires functions { HasFunctions (defs_of plan.now) }
+    requires hints { KnownHints plan.now.world.entries plan.now.hints }
+{
+    expect_step(rt, alloc, plan, "(EQUAL X X)", "pushed", &[])?;
     expect_induction(
-        &rt,
+        rt,
         alloc,
-        &plan,
+        plan,
         "(EQUAL X X)",
         "inducted, Subgoal *1/2, Subgoal *1/1",
     )
 }
 
-/// A hint for `Goal` by whether X is a cons, in a theory without a rune.
-fn by_cases_without(alloc: Global) -> Result<Hint, NoMemory> {
+#[test]
+fn a_call_pushes_at_once_and_is_inducted_by(rt: HostRuntime) -> Result<(), NoMemory> {
+    let plan = plan(rt.alloc(), by_call(rt.alloc())?)?;
+    expect_pushed(&rt, rt.alloc(), &plan)
+}
+
+/// A theory without a rune.
+fn without_len(alloc: Global) -> Result<Theory, NoMemory> {
     let mut runes = Seq::new(alloc);
     runes.push(Rune::Definition(acl2(alloc, b"LEN")?))?;
+    Theory::disabling(alloc, runes)
+}
+
+/// A hint for `Goal` by whether X is a cons, in that theory.
+fn by_cases_without(alloc: Global) -> Result<Hint, NoMemory> {
+    let theory = without_len(alloc)?;
     let mut hint = by_cases(alloc, 0)?;
-    hint.theory = Some(Theory::disabling(alloc, runes)?);
+    hint.theory = Some(theory);
     Ok(hint)
 }
 
@@ -360,18 +434,36 @@ fn are_without<J: Planned>(
     Ok(true)
 }
 
+/// Whether the goals that the step of a task makes are in that theory.
+fn are_below_without<J: Planned>(alloc: Global, task: &Task<'_, J>) -> Result<bool, NoMemory> {
+    let stepped = Acl2Step::new(task.plan).step(alloc, task)?;
+    are_without(alloc, &stepped)
+}
+
+/// Whether the induction of a task is.
+fn is_inducted_without<J: Planned>(alloc: Global, task: &Task<'_, J>) -> Result<bool, NoMemory> {
+    let induction = Boxed::new(alloc, induct_task(alloc, task, 1)?)?;
+    is_without(alloc, induction.get())
+}
+
+fn expect_without<J: Planned>(
+    rt: &impl Abort,
+    alloc: Global,
+    task: &Task<'_, J>,
+) -> Result<(), NoMemory> {
+    assert!(rt; !is_without(alloc, task)?, "above");
+    assert!(rt; are_below_without(alloc, task)?, "below");
+    assert!(rt; is_inducted_without(alloc, task)?, "in the induction");
+    Ok(())
+}
+
 fn expect_theory<J: Planned, R: Abort>(rt: &R, alloc: Global, plan: &Plan) -> Result<(), NoMemory>
     requires brand { plan.now ≡ J.plan }
     requires functions { HasFunctions (defs_of plan.now) }
     requires hints { KnownHints plan.now.world.entries plan.now.hints }
 {
     let task: Boxed<Task<'_, J>> = Boxed::new(alloc, written_task(alloc, plan, "(EQUAL X Y)")?)?;
-    assert!(rt; !is_without(alloc, task.get())?, "above");
-    let stepped = Acl2Step::new(plan).step(alloc, task.get())?;
-    assert!(rt; are_without(alloc, &stepped)?, "below");
-    let induction = Boxed::new(alloc, induct_task(alloc, task.get(), 1)?)?;
-    assert!(rt; is_without(alloc, induction.get())?, "in the induction");
-    Ok(())
+    expect_without(rt, alloc, task.get())
 }
 
 #[test]

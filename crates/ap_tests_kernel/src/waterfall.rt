@@ -336,14 +336,24 @@ fn case_names<J: Planned>(
     }
 }
 
+/// The names of the cases that the step of a task makes.
+fn cases_of<J: Planned>(alloc: Global, task: &Task<'_, J>) -> Result<Bytes, NoMemory> {
+    let stepped = Acl2Step::new(task.plan).step(alloc, task)?;
+    case_names(alloc, &stepped)
+}
+
+/// The same of the induction of a task.
+fn induction_cases<J: Planned>(alloc: Global, task: &Task<'_, J>) -> Result<Bytes, NoMemory> {
+    let induction = Boxed::new(alloc, induct_task(alloc, task, 1)?)?;
+    cases_of(alloc, induction.get())
+}
+
 fn expect_cases<J: Planned>(
     rt: &impl Abort,
     alloc: Global,
     task: &Task<'_, J>,
 ) -> Result<(), NoMemory> {
-    let induction = Boxed::new(alloc, induct_task(alloc, task, 1)?)?;
-    let stepped = Acl2Step::new(task.plan).step(alloc, induction.get())?;
-    let names = case_names(alloc, &stepped)?;
+    let names = induction_cases(alloc, task)?;
     expect(
         rt,
         "the cases",

@@ -1,5 +1,6 @@
 use crate::text::{literal, shown, sides};
-use ap_list::NoMemory;
+use ap_list::{Bytes, NoMemory};
+use std::alloc::Global;
 
 /// A sign with a form, and the polynomials that hold where the form has that sign.
 const LITERALS: &str = r#"+ (< x y) => -1 -1 X 1 Y
@@ -24,15 +25,22 @@ const LITERALS: &str = r#"+ (< x y) => -1 -1 X 1 Y
 - (< (+ (* 170141183460469231731687303715884105727 x) x) x) => none
 - (< (- -170141183460469231731687303715884105728) x) => none"#;
 
+/// The polynomials of a literal as text, or `none`.
+fn answered(alloc: Global, text: &str) -> Result<Bytes, NoMemory> {
+    let polys = literal(alloc, text)?;
+    if polys.is_empty() {
+        return Bytes::from_slice(alloc, b"none");
+    }
+    shown(alloc, polys.as_slice())
+}
+
 #[test]
 fn each_literal_has_its_polynomials(rt: HostRuntime) -> Result<(), NoMemory> {
     assert_eq!(rt; LITERALS.lines().count(), 21);
     for line in LITERALS.lines() {
         let (text, wanted) = sides(line);
-        let polys = literal(rt.alloc(), text)?;
-        let found = shown(rt.alloc(), polys.as_slice())?;
+        let found = answered(rt.alloc(), text)?;
         let found = str::from_utf8(found.as_slice()).unwrap_or("no text");
-        let found = if polys.is_empty() { "none" } else { found };
         assert_eq!(rt; found, wanted, "{line}");
     }
     Ok(())

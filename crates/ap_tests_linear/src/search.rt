@@ -1,8 +1,9 @@
-use crate::text::{literals, sides};
+use crate::text::{literals, put_literals, sides};
 use ap_linear::{Linear, LinearOracle, Poly, refute};
 use ap_list::{Bytes, NoMemory, Seq};
 use ap_world::World;
 use std::alloc::Global;
+use std::process::Abort;
 
 /// Literals, and the multipliers that refute their polynomials.
 const LISTS: &str = r#"+ (< y x) ; - (< y x) => 1 1
@@ -36,16 +37,43 @@ fn shown(alloc: Global, found: Option<Seq<u64>>) -> Result<Bytes, NoMemory> {
     Ok(out)
 }
 
-#[test]
-fn each_list_has_its_first_certificate(rt: HostRuntime) -> Result<(), NoMemory> {
-    let world = World::bare(rt.alloc());
-    assert_eq!(rt; LISTS.lines().count(), 13);
+/// The multipliers that refute the polynomials of literals as text, or `none`.
+fn certificate(alloc: Global, w: &World, text: &str) -> Result<Bytes, NoMemory> {
+    let polys = literals(alloc, text)?;
+    let found = Linear.refute(alloc, w, &polys)?;
+    shown(alloc, found)
+}
+
+/// Compares each list's certificate with what its line says.
+fn expect_certificates(rt: &impl Abort, alloc: Global, w: &World) -> Result<(), NoMemory> {
     for line in LISTS.lines() {
         let (text, wanted) = sides(line);
-        let polys = literals(rt.alloc(), text)?;
-        let found = shown(rt.alloc(), Linear.refute(rt.alloc(), &world, &polys)?)?;
+        let found = certificate(alloc, w, text)?;
         let found = str::from_utf8(found.as_slice()).unwrap_or("no text");
         assert_eq!(rt; found, wanted, "{line}");
+    }
+    Ok(())
+}
+
+#[test]
+fn each_list_has_its_first_certificate(rt: HostRuntime) -> Result<(), NoMemory> {
+    assert_eq!(rt; LISTS.lines().count(), 13);
+    let world = World::bare(rt.alloc());
+    expect_certificates(&rt, rt.alloc(), &world)
+}
+
+/// Puts a literal's polynomials so many times, but for another one's at a place.
+fn put_many(
+    alloc: Global,
+    polys: &mut Seq<Poly>,
+    count: usize,
+    text: &str,
+    place: usize,
+    other: &str,
+) -> Result<(), NoMemory> {
+    for i in 0..count {
+        let text = if i == place { other } else { text };
+        put_literals(alloc, polys, text)?;
     }
     Ok(())
 }
@@ -53,18 +81,8 @@ fn each_list_has_its_first_certificate(rt: HostRuntime) -> Result<(), NoMemory> 
 /// So many times `x` and `100 - x`, but for one `x - 10` and one `9 - x`.
 fn crowd(alloc: Global, count: usize, low: usize, high: usize) -> Result<Seq<Poly>, NoMemory> {
     let mut polys = Seq::new(alloc);
-    for i in 0..count {
-        let text = if i == low { "- (< x 10)" } else { "- (< x 0)" };
-        polys.append(literals(alloc, text)?)?;
-    }
-    for i in 0..count {
-        let text = if i == high {
-            "- (< 9 x)"
-        } else {
-            "- (< 100 x)"
-        };
-        polys.append(literals(alloc, text)?)?;
-    }
+    put_many(alloc, &mut polys, count, "- (< x 0)", low, "- (< x 10)")?;
+    put_many(alloc, &mut polys, count, "- (< 100 x)", high, "- (< 9 x)")?;
     Ok(polys)
 }
 
@@ -80,14 +98,26 @@ fn is_refuted(
     Ok(refute(alloc, w, &polys)?.is_some())
 }
 
+/// Each row: a crowd's count and its two places, and whether it is refuted.
+const CROWDS: &[(usize, usize, usize, bool)] = &[
+    // 64 sums, the last one negative
+    (8, 7, 7, true),
+    // 81 sums: the 64th negative, the 65th, the last
+    (9, 7, 0, true),
+    (9, 7, 1, false),
+    (9, 8, 8, false),
+];
+
+fn expect_crowds(rt: &impl Abort, alloc: Global, w: &World) -> Result<(), NoMemory> {
+    for (count, low, high, wanted) in CROWDS {
+        let found = is_refuted(alloc, w, *count, *low, *high)?;
+        assert_eq!(rt; found, *wanted, "{count} {low} {high}");
+    }
+    Ok(())
+}
+
 #[test]
 fn of_more_than_64_sums_the_first_are_kept(rt: HostRuntime) -> Result<(), NoMemory> {
     let world = World::bare(rt.alloc());
-    // 64 sums, the last one negative
-    assert!(rt; is_refuted(rt.alloc(), &world, 8, 7, 7)?);
-    // 81 sums: the 64th negative, the 65th, the last
-    assert!(rt; is_refuted(rt.alloc(), &world, 9, 7, 0)?);
-    assert!(rt; !is_refuted(rt.alloc(), &world, 9, 7, 1)?);
-    assert!(rt; !is_refuted(rt.alloc(), &world, 9, 8, 8)?);
-    Ok(())
+    expect_crowds(&rt, rt.alloc(), &world)
 }

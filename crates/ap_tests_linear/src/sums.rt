@@ -2,6 +2,7 @@ use crate::text::{literals, put_poly, sides};
 use ap_list::{Bytes, NoMemory};
 use ap_poly::{Poly, add, scale};
 use std::alloc::Global;
+use std::process::Abort;
 
 /// A polynomial as a literal, a factor, and the multiple.
 const MULTIPLES: &str =
@@ -30,37 +31,41 @@ fn answered(alloc: Global, p: Option<Poly>) -> Result<Bytes, NoMemory> {
     Ok(out)
 }
 
+/// The multiple of a line's polynomial as text, or `none`.
+fn multiple(rt: &impl Abort, alloc: Global, line: &str) -> Result<Bytes, NoMemory> {
+    let (factor, text) = sides(line).0.split_once(' ').unwrap_or((line, ""));
+    let polys = literals(alloc, text)?;
+    assert_eq!(rt; polys.len(), 1, "{line}");
+    let product = scale(alloc, &polys.as_slice()[0], factor.parse().unwrap_or(9))?;
+    answered(alloc, product)
+}
+
 #[test]
 fn multiples_are_given_as_long_as_they_fit(rt: HostRuntime) -> Result<(), NoMemory> {
     assert_eq!(rt; MULTIPLES.lines().count(), 6);
     for line in MULTIPLES.lines() {
-        let (text, wanted) = sides(line);
-        let (factor, text) = text.split_once(' ').unwrap_or((text, ""));
-        let polys = literals(rt.alloc(), text)?;
-        assert_eq!(rt; polys.len(), 1, "{line}");
-        let product = scale(
-            rt.alloc(),
-            &polys.as_slice()[0],
-            factor.parse().unwrap_or(9),
-        )?;
-        let found = answered(rt.alloc(), product)?;
+        let found = multiple(&rt, rt.alloc(), line)?;
         let found = str::from_utf8(found.as_slice()).unwrap_or("no text");
-        assert_eq!(rt; found, wanted, "{line}");
+        assert_eq!(rt; found, sides(line).1, "{line}");
     }
     Ok(())
+}
+
+/// The sum of a line's two polynomials as text, or `none`.
+fn sum(rt: &impl Abort, alloc: Global, line: &str) -> Result<Bytes, NoMemory> {
+    let polys = literals(alloc, sides(line).0)?;
+    assert_eq!(rt; polys.len(), 2, "{line}");
+    let sum = add(alloc, &polys.as_slice()[0], &polys.as_slice()[1])?;
+    answered(alloc, sum)
 }
 
 #[test]
 fn sums_are_given_as_long_as_they_fit(rt: HostRuntime) -> Result<(), NoMemory> {
     assert_eq!(rt; SUMS.lines().count(), 6);
     for line in SUMS.lines() {
-        let (text, wanted) = sides(line);
-        let polys = literals(rt.alloc(), text)?;
-        assert_eq!(rt; polys.len(), 2, "{line}");
-        let sum = add(rt.alloc(), &polys.as_slice()[0], &polys.as_slice()[1])?;
-        let found = answered(rt.alloc(), sum)?;
+        let found = sum(&rt, rt.alloc(), line)?;
         let found = str::from_utf8(found.as_slice()).unwrap_or("no text");
-        assert_eq!(rt; found, wanted, "{line}");
+        assert_eq!(rt; found, sides(line).1, "{line}");
     }
     Ok(())
 }

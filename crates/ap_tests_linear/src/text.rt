@@ -79,23 +79,45 @@ pub(crate) fn literal(alloc: Global, text: &str) -> Result<Seq<Poly>, NoMemory> 
     of_literal(alloc, &t, sign == "+")
 }
 
-/// The polynomials of literals, between which a `;` stands.
-pub(crate) fn literals(alloc: Global, text: &str) -> Result<Seq<Poly>, NoMemory> {
-    let mut polys = Seq::new(alloc);
+/// Puts the polynomials of literals, between which a `;` stands.
+pub(crate) fn put_literals(
+    alloc: Global,
+    polys: &mut Seq<Poly>,
+    text: &str,
+) -> Result<(), NoMemory> {
     for part in text.split(';') {
         polys.append(literal(alloc, part)?)?;
     }
+    Ok(())
+}
+
+/// The polynomials of literals, between which a `;` stands.
+pub(crate) fn literals(alloc: Global, text: &str) -> Result<Seq<Poly>, NoMemory> {
+    let mut polys = Seq::new(alloc);
+    put_literals(alloc, &mut polys, text)?;
     Ok(polys)
+}
+
+/// Writes a number.
+fn put_number(alloc: Global, out: &mut Bytes, n: i128) -> Result<(), NoMemory> {
+    let number = format!(in alloc; "{n}")?;
+    out.extend(number.as_bytes())
+}
+
+/// Writes a term.
+fn put_term(alloc: Global, out: &mut Bytes, t: &Term) -> Result<(), NoMemory> {
+    let text = print_term(alloc, t)?;
+    out.extend(text.as_slice())
 }
 
 /// Writes a polynomial as its constant, and each coefficient with its atom.
 pub(crate) fn put_poly(alloc: Global, out: &mut Bytes, p: &Poly) -> Result<(), NoMemory> {
-    let constant = format!(in alloc; "{}", p.constant)?;
-    out.extend(constant.as_bytes())?;
+    put_number(alloc, out, p.constant)?;
     for (t, c) in p.parts.as_slice() {
-        let coefficient = format!(in alloc; " {} ", c)?;
-        out.extend(coefficient.as_bytes())?;
-        out.extend(print_term(alloc, t)?.as_slice())?;
+        out.push(b' ')?;
+        put_number(alloc, out, *c)?;
+        out.push(b' ')?;
+        put_term(alloc, out, t)?;
     }
     Ok(())
 }

@@ -3,16 +3,16 @@ ghost use Rattle.std.specs.Prelude.{◌≡◌, length, take, IfOk, OnOk};
 ghost use Rattle.ap_world.specs.Names.{implies_name};
 ghost use Rattle.ap_world.specs.Ground.{two};
 
-use crate::text::{classes, put_hyps, term, terms};
+use crate::text::{classes, put_hyps, put_term, term, terms};
 use ap_eval::is_known;
 use ap_ground::ground_world;
 use ap_list::{Bytes, NoMemory, Seq};
-use ap_print::print_term;
 use ap_rules::{LinearRule, Ruled, linear_for, linear_rule};
 use ap_term::{Term, copy_term};
 use ap_value::acl2;
 use ap_world::copy_theory;
 use std::alloc::{AllocError, Global};
+use std::process::Abort;
 
 /// Linear theorems, each by its name and the term that implies itself: its conjuncts are rules under all of them.
 const THEOREMS: &[(&[u8], &str)] = &[
@@ -66,12 +66,18 @@ fn add(alloc: Global, world: &mut Ruled, name: &[u8], text: &str) -> Result<(), 
     }
 }
 
+/// Adds the theorems.
+fn add_theorems(alloc: Global, world: &mut Ruled) -> Result<(), NoMemory> {
+    for (name, text) in THEOREMS {
+        add(alloc, world, *name, *text)?;
+    }
+    Ok(())
+}
+
 /// The ground world with the theorems.
 fn with_theorems(alloc: Global) -> Result<Ruled, NoMemory> {
     let mut world = Ruled::of(alloc, ground_world(alloc)?)?;
-    for (name, text) in THEOREMS {
-        add(alloc, &mut world, *name, *text)?;
-    }
+    add_theorems(alloc, &mut world)?;
     Ok(world)
 }
 
@@ -82,85 +88,122 @@ fn put_name(alloc: Global, out: &mut Bytes, rule: &LinearRule) -> Result<(), NoM
     out.extend(number.as_bytes())
 }
 
+/// Writes a rule.
+fn put_rule(alloc: Global, out: &mut Bytes, rule: &LinearRule) -> Result<(), NoMemory> {
+    put_name(alloc, out, rule)?;
+    out.extend(b" ")?;
+    put_term(alloc, out, &rule.trigger)?;
+    out.extend(if rule.sign { b": " } else { b": not " })?;
+    put_term(alloc, out, &rule.concl)?;
+    put_hyps(alloc, out, rule.hyps.as_slice())
+}
+
 /// A rule as text.
 fn shown(alloc: Global, rule: &LinearRule) -> Result<Bytes, NoMemory> {
     let mut out = Bytes::new(alloc);
-    put_name(alloc, &mut out, rule)?;
-    out.extend(b" ")?;
-    out.extend(print_term(alloc, &rule.trigger)?.as_slice())?;
-    out.extend(if rule.sign { b": " } else { b": not " })?;
-    out.extend(print_term(alloc, &rule.concl)?.as_slice())?;
-    put_hyps(alloc, &mut out, rule.hyps.as_slice())?;
+    put_rule(alloc, &mut out, rule)?;
     Ok(out)
+}
+
+/// Writes the names of the rules at places.
+fn put_names(
+    alloc: Global,
+    out: &mut Bytes,
+    world: &Ruled,
+    places: &[usize],
+) -> Result<(), NoMemory> {
+    for place in places {
+        if !out.is_empty() {
+            out.extend(b" ")?;
+        }
+        if let Some(rule) = linear_rule(world.rules(), *place) {
+            put_name(alloc, out, rule)?;
+        }
+    }
+    Ok(())
+}
+
+/// The places of the rules that may bear on atoms.
+fn places_for(alloc: Global, world: &Ruled, atoms: &str) -> Result<Seq<usize>, NoMemory> {
+    let atoms = terms(alloc, atoms)?;
+    linear_for(alloc, world.rules(), atoms.as_slice())
 }
 
 /// The rules that may bear on atoms.
 fn bearing(alloc: Global, world: &Ruled, atoms: &str) -> Result<Bytes, NoMemory> {
-    let index = world.rules();
-    let atoms = terms(alloc, atoms)?;
+    let places = places_for(alloc, world, atoms)?;
     let mut out = Bytes::new(alloc);
-    for place in linear_for(alloc, index, atoms.as_slice())?.as_slice() {
-        if !out.is_empty() {
-            out.extend(b" ")?;
-        }
-        if let Some(rule) = linear_rule(index, *place) {
-            put_name(alloc, &mut out, rule)?;
-        }
-    }
+    put_names(alloc, &mut out, world, places.as_slice())?;
     Ok(out)
 }
 
-#[test]
-fn each_conjunct_is_a_rule(rt: HostRuntime) -> Result<(), NoMemory> {
-    let world = with_theorems(rt.alloc())?;
+/// Compares a text with what it should be.
+fn expect(rt: &impl Abort, found: &[u8], wanted: &str, of: &str) {
+    let found = str::from_utf8(found).unwrap_or("no text");
+    assert_eq!(rt; found, wanted, "{of}");
+}
+
+/// Compares each linear rule with its line; there are no others.
+fn expect_rules(rt: &impl Abort, alloc: Global, world: &Ruled) -> Result<(), NoMemory> {
     for (place, wanted) in RULES.lines().enumerate() {
-        let rule = linear_rule(world.rules(), place).expect(&rt, "a rule");
-        let found = shown(rt.alloc(), rule)?;
-        assert_eq!(rt;
-            str::from_utf8(found.as_slice()).unwrap_or("no text"),
-            wanted
-        );
+        let rule = linear_rule(world.rules(), place).expect(rt, "a rule");
+        let found = shown(alloc, rule)?;
+        expect(rt, found.as_slice(), wanted, wanted);
     }
     assert!(rt; linear_rule(world.rules(), RULES.lines().count()).is_none());
     Ok(())
 }
 
 #[test]
-fn rules_are_found_by_the_heads_of_atoms(rt: HostRuntime) -> Result<(), NoMemory> {
+fn each_conjunct_is_a_rule(rt: HostRuntime) -> Result<(), NoMemory> {
     let world = with_theorems(rt.alloc())?;
+    expect_rules(&rt, rt.alloc(), &world)
+}
+
+/// Compares the rules that may bear on atoms with what they should be.
+fn expect_bearing(
+    rt: &impl Abort,
+    alloc: Global,
+    world: &Ruled,
+    atoms: &str,
+    wanted: &str,
+) -> Result<(), NoMemory> {
+    let found = bearing(alloc, world, atoms)?;
+    expect(rt, found.as_slice(), wanted, atoms);
+    Ok(())
+}
+
+/// The same for each row.
+fn expect_all_bearing(rt: &impl Abort, alloc: Global, world: &Ruled) -> Result<(), NoMemory> {
     for (atoms, wanted) in BEARING {
-        let found = bearing(rt.alloc(), &world, *atoms)?;
-        assert_eq!(rt;
-            str::from_utf8(found.as_slice()).unwrap_or("no text"),
-            *wanted,
-            "{atoms}"
-        );
+        expect_bearing(rt, alloc, world, *atoms, *wanted)?;
     }
     Ok(())
 }
 
-/// The rules that may bear on a call of `car` once a theorem more is added, and once it is taken away.
-fn there_and_back(alloc: Global, world: &mut Ruled) -> Result<(Bytes, Bytes), NoMemory> {
+#[test]
+fn rules_are_found_by_the_heads_of_atoms(rt: HostRuntime) -> Result<(), NoMemory> {
+    let world = with_theorems(rt.alloc())?;
+    expect_all_bearing(&rt, rt.alloc(), &world)
+}
+
+/// Compares the rules that may bear on a call of `car` once a theorem more is added, and once it is taken away.
+fn expect_there_and_back(
+    rt: &impl Abort,
+    alloc: Global,
+    world: &mut Ruled,
+) -> Result<(), NoMemory> {
     world.world().is_sound();
     let count = world.world().count();
     let theory = copy_theory(alloc, world.world().theory())?;
     add(alloc, world, b"D", "(< (car x) '9)")?;
-    let there = bearing(alloc, world, "(car a)")?;
+    expect_bearing(rt, alloc, world, "(car a)", "D0 C0 A1 A0")?;
     world.back_to(count, theory);
-    Ok((there, bearing(alloc, world, "(car a)")?))
+    expect_bearing(rt, alloc, world, "(car a)", "C0 A1 A0")
 }
 
 #[test]
 fn a_rule_goes_with_its_theorem(rt: HostRuntime) -> Result<(), NoMemory> {
     let mut world = with_theorems(rt.alloc())?;
-    let (there, back) = there_and_back(rt.alloc(), &mut world)?;
-    assert_eq!(rt;
-        str::from_utf8(there.as_slice()).unwrap_or("no text"),
-        "D0 C0 A1 A0"
-    );
-    assert_eq!(rt;
-        str::from_utf8(back.as_slice()).unwrap_or("no text"),
-        "C0 A1 A0"
-    );
-    Ok(())
+    expect_there_and_back(&rt, rt.alloc(), &mut world)
 }

@@ -97,23 +97,34 @@ pub(crate) fn classes(alloc: Global, text: &str) -> Result<Seq<RuleClass>, NoMem
     Ok(out)
 }
 
+/// Writes a term.
+pub(crate) fn put_term(alloc: Global, out: &mut Bytes, t: &Term) -> Result<(), NoMemory> {
+    let text = print_term(alloc, t)?;
+    out.extend(text.as_slice())
+}
+
 /// Writes hypotheses.
 pub(crate) fn put_hyps(alloc: Global, out: &mut Bytes, hyps: &[Term]) -> Result<(), NoMemory> {
     for hyp in hyps {
         out.extend(b" if ")?;
-        out.extend(print_term(alloc, hyp)?.as_slice())?;
+        put_term(alloc, out, hyp)?;
     }
     Ok(())
 }
 
-/// Writes a rule: its theorem's name and its number, its sides with `=` or `~` between, and its hypotheses.
-fn put_rule(alloc: Global, out: &mut Bytes, rule: &RewriteRule) -> Result<(), NoMemory> {
+/// Writes a rule's theorem's name and its number.
+fn put_place(alloc: Global, out: &mut Bytes, rule: &RewriteRule) -> Result<(), NoMemory> {
     out.extend(rule.theorem.name.as_slice())?;
     let number = format!(in alloc; " {} ", rule.part)?;
-    out.extend(number.as_bytes())?;
-    out.extend(print_term(alloc, &rule.lhs)?.as_slice())?;
+    out.extend(number.as_bytes())
+}
+
+/// Writes a rule: its theorem's name and its number, its sides with `=` or `~` between, and its hypotheses.
+fn put_rule(alloc: Global, out: &mut Bytes, rule: &RewriteRule) -> Result<(), NoMemory> {
+    put_place(alloc, out, rule)?;
+    put_term(alloc, out, &rule.lhs)?;
     out.extend(if rule.iff { b" ~ " } else { b" = " })?;
-    out.extend(print_term(alloc, &rule.rhs)?.as_slice())?;
+    put_term(alloc, out, &rule.rhs)?;
     put_hyps(alloc, out, rule.hyps.as_slice())
 }
 

@@ -83,12 +83,23 @@ fn compare(rt: &impl Abort, name: &str, a: &Entry, b: &Entry, alike: bool, same:
     assert_eq!(rt; same_entry(a, b), same, "{name}");
 }
 
+/// Compares the two functions of a row.
+fn expect_pair(
+    rt: &impl Abort,
+    alloc: Global,
+    w: &World,
+    row: &(&str, u16, u16, &str, bool, bool),
+) {
+    let (name, mask, other_mask, other_name, alike, same) = *row;
+    let a = masked(rt, alloc, w, name, mask);
+    let b = masked(rt, alloc, w, other_name, other_mask);
+    compare(rt, name, &a, &b, alike, same);
+}
+
 #[test]
 fn functions_are_alike_whatever_their_masks(rt: HostRuntime) {
     let w = first_world(&rt, rt.alloc());
-    for (name, mask, other_mask, other_name, alike, same) in PAIRS {
-        let a = masked(&rt, rt.alloc(), &w, *name, *mask);
-        let b = masked(&rt, rt.alloc(), &w, *other_name, *other_mask);
-        compare(&rt, *name, &a, &b, *alike, *same);
+    for row in PAIRS {
+        expect_pair(&rt, rt.alloc(), &w, row);
     }
 }

@@ -60,7 +60,7 @@ symbol_sync : IsSync symbol.the_row
 symbol_sync = search (sendable, crosses) depth 40 fits 100000
 
 rune_send : IsSend rune.the_row
-rune_send = search (sendable, crosses) depth 40 fits 100000
+rune_send = search (variants_send, symbol_send) depth 40
 
 runes_send : IsSend runes.the_row
 runes_send = search (sendable, crosses, symbol_send) depth 40 fits 100000
@@ -69,7 +69,7 @@ disabled_send : IsSend disabled.the_row
 disabled_send = search (sendable, crosses, seq_send, rune_send, runes_send) depth 40 fits 100000
 
 rune_sync : IsSync rune.the_row
-rune_sync = search (sendable, crosses) depth 40 fits 100000
+rune_sync = search (variants_sync, symbol_sync) depth 40
 
 runes_sync : IsSync runes.the_row
 runes_sync = search (sendable, crosses, symbol_sync) depth 40 fits 100000

@@ -164,18 +164,28 @@ fn counter_measure(alloc: Global) -> Result<Measure, NoMemory> {
     Ok(Measure(one(alloc, Term::Var(acl2(alloc, b"N")?))?))
 }
 
+/// The formal `n`.
+fn counter_formals(alloc: Global) -> Result<Seq<Symbol>, NoMemory> {
+    one(alloc, acl2(alloc, b"N")?)
+}
+
+/// That case alone.
+fn counter_cases(alloc: Global) -> Result<Seq<Case>, NoMemory> {
+    one(alloc, counter_case(alloc)?)
+}
+
 /// A function of one case.
 fn counter(alloc: Global) -> Result<Function, NoMemory> {
     let name = acl2(alloc, b"F")?;
-    let formals = one(alloc, acl2(alloc, b"N")?)?;
+    let formals = counter_formals(alloc)?;
+    let cases = counter_cases(alloc)?;
+    let measure = counter_measure(alloc)?;
     let body = same_sides(alloc)?;
-    let measure = Some(counter_measure(alloc)?);
-    let cases = one(alloc, counter_case(alloc)?)?;
     Ok(Function {
         name,
         formals,
         body,
-        measure,
+        measure: Some(measure),
         cases,
         mask: Mask(3),
     })
@@ -225,7 +235,7 @@ fn functions_are_copied(rt: HostRuntime) -> Result<(), NoMemory> {
 }
 
 fn copied_case(alloc: Global) -> Result<Seq<Case>, NoMemory> {
-    let cases = one(alloc, counter_case(alloc)?)?;
+    let cases = counter_cases(alloc)?;
     copy_cases(alloc, cases.as_slice())
 }
 
