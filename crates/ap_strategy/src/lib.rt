@@ -9,6 +9,7 @@
 #![tactic(auto)]
 
 mod clauses;
+mod fresh;
 mod hinting;
 mod later;
 mod oracles;

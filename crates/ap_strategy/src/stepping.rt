@@ -12,6 +12,7 @@ ghost use Rattle.ap_strategy.specs.Goals.{defs_of, hint_for, hinted};
 ghost use Rattle.ap_strategy.specs.Steps.{child, seen_below, counted_down, children, cases_in, done, stop_step, later, missed_step, open_step, pushed_or_open, hint_step, clause_step, induct_step, step_of};
 
 use crate::clauses::{copy_clause, is_alone};
+use crate::fresh::fresh_clause;
 use crate::hinting::{hint_for, hint_goals, makes_goals};
 use crate::later::later;
 use crate::plan::{Planned, copy_settings};
@@ -188,7 +189,7 @@ fn open_step<'a, J: Planned>(
     requires plain { task.now.induct ≡ false }
     ensures { IfOk result (λ s. s ≡ open_step task.now) }
 {
-    let clause = copy_clause(alloc, &task.clause)?;
+    let clause = fresh_clause(alloc, &task.clause)?;
     let Some(clauses) = simplify(alloc, task.plan, &task.settings, clause)? else {
         return missed_step(alloc, task, true);
     };
