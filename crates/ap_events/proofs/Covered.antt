@@ -57,7 +57,7 @@ use Rattle.ap_events.proofs.Nestings.{LeavesCover}
 use Rattle.ap_world.proofs.Covering.{same_self, covers_self, covers_grown, covers_added, covers_included, covers_world}
 use Rattle.ap_translate.proofs.More.{Below, after, then_ok as translation_ok, more_translated, more_all, covers_knows}
 
-no_world : {A : Type 0} (w : Shown) → None ≡ Some w → A
+pub no_world : {A : Type 0} (w : Shown) → None ≡ Some w → A
 no_world w h = absurd (no h)
   where
     no : None ≡ Some w → ⊥
@@ -213,7 +213,7 @@ admitted_meets x text e u grown fits w h =
     let same : x ≡ w = cc in
     record { grows = subst (λ y. Covers u.entries y.entries) same grown; fits = subst (λ y. Fits e y.entries) same fits }
 
-silent_next : (d : Done) → (silent d).next ≡ d.next
+pub silent_next : (d : Done) → (silent d).next ≡ d.next
 silent_next d = go d.next refl
   where
     go : (o : Option Shown) → d.next ≡ o → (silent_by d o).next ≡ d.next

@@ -87,7 +87,7 @@ all_meet g h grows meets (f ∷ fs) u v w c k = go (g f u).next refl k (λ x y d
     go (Some x) e q r = onward x e (all_grows g grows fs x w q) (λ y d. r x y d q) (h f v).next refl
 
 -- where a second pass gives a world it is that of its events
-closed_next : (d : Done) (o : Option Shown) (e : Done) (w : Shown) → d.next ≡ o → (closing_by d o e).next ≡ Some w → e.next ≡ Some w
+pub closed_next : (d : Done) (o : Option Shown) (e : Done) (w : Shown) → d.next ≡ o → (closing_by d o e).next ≡ Some w → e.next ≡ Some w
 closed_next d None e w is h = absurd (no (sym is ∙ h))
   where
     no : None ≡ Some w → ⊥
@@ -114,7 +114,7 @@ module _ (first again : Leaf) (cover : LeavesCover first again) where
       no : None ≡ Some w → ⊥
       no q = cc
 
-  redo_grows : (n : ℕ) → Grows (redo n)
+  pub redo_grows : (n : ℕ) → Grows (redo n)
   unfolding agains
   redo_grows zero f u w h = never f w h
   redo_grows (suc n) f u w h = by_nesting (nesting_of f) h (redo_grows n)
@@ -136,7 +136,7 @@ module _ (first again : Leaf) (cover : LeavesCover first again) where
       by_nesting (group fs) q r = all_grows (work n) r fs u w q
       by_nesting (closed fs) q r = all_grows (redo n) (redo_grows n) fs u w (closed_next (all (work n) fs u) (all (work n) fs u).next (all (redo n) fs u) w refl q)
 
-  redo_covers : (n : ℕ) → Meets (redo n) (redo n)
+  pub redo_covers : (n : ℕ) → Meets (redo n) (redo n)
   unfolding agains
   redo_covers zero f u v w c h = never f w h
   redo_covers (suc n) f u v w c h = by_nesting (nesting_of f) h (redo_covers n)

@@ -13,16 +13,23 @@ use Rattle.ap_events.specs.Again.{AgainIsCovered}
 use Rattle.ap_events.specs.Backing.{Backed}
 use Rattle.ap_events.specs.Books.{Earlier, first_event, again_event, worked, worked_again}
 use Rattle.ap_events.specs.Laws.{AreGood, WorkedKeepGood, AgainKeepsGood, WorkedGrows, WorkedTells}
+use Rattle.ap_events.specs.Missing.{AgainMissesName}
 use Rattle.ap_events.specs.Nested.{all, agains, firsts}
 use Rattle.ap_events.proofs.Covered.{AreDistinct, leaves_cover}
 use Rattle.ap_events.proofs.Keeping.{step_covers, backed_by, all_backed_first, all_backed_next, agains_redone, firsts_good, second_backed}
 use Rattle.ap_events.proofs.Leaves.{first_step, again_step, first_good, again_redone}
+use Rattle.ap_events.proofs.Missing.{leaves_miss}
 use Rattle.ap_events.proofs.Nestings.{do_covers}
+use Rattle.ap_events.proofs.Passing.{do_loses}
 use Rattle.ap_events.proofs.Steps.{Step, agains_step, firsts_step}
 
 pub again_is_covered : AgainIsCovered
 again_is_covered limits earlier distinct f u v w covered h =
     do_covers (first_event limits earlier) (again_event earlier) (leaves_cover limits earlier distinct) 400 f u v w covered h
+
+pub again_misses_name : AgainMissesName
+again_misses_name limits earlier distinct f u v w covered h none =
+    do_loses (first_event limits earlier) (again_event earlier) (leaves_cover limits earlier distinct) (leaves_miss limits earlier distinct) 400 f u v w covered h none
 
 are_distinct_too : (earlier : Earlier) → AreGood earlier → AreDistinct earlier
 are_distinct_too earlier books = each_same earlier (λ p (good : GoodWorld p.1). good.distinct) books

@@ -2,7 +2,9 @@ pub mod Again
 pub mod Backing
 pub mod Books
 pub mod Ends
+pub mod Held
 pub mod Joining
 pub mod Laws
 pub mod Lent
+pub mod Missing
 pub mod Nested

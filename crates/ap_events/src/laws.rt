@@ -1,11 +1,18 @@
 //! What nested events keep. Each law is the contract of a function that does nothing.
 ghost use Rattle.ap_events.specs.Again.{AgainIsCovered};
 ghost use Rattle.ap_events.specs.Laws.{WorkedKeepGood, AgainKeepsGood, WorkedGrows, WorkedTells};
+ghost use Rattle.ap_events.specs.Missing.{AgainMissesName};
 
 /// What is made when a form is done again is covered by what was made when it was done first, where the world before is
-/// covered by the world before then. So a second pass proves nothing, and refuses a name alone that isn't there any more.
+/// covered by the world before then.
 pub fn again_is_covered()
     ensures { AgainIsCovered }
+{}
+
+/// Where the same is refused when it is done again, a name isn't there any more: the line of one event alone is printed, with
+/// `4.1 UnknownName`, and the world behind the first pass has a name that no world of the second one has.
+pub fn again_misses_a_name()
+    ensures { AgainMissesName }
 {}
 
 /// Each world that a form's events pass through is sound, its names are distinct, and it has the functions of the ground

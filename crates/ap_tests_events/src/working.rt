@@ -1,5 +1,6 @@
 //! Events worked one after another.
-ghost use Rattle.std.specs.Prelude.{◌≡◌, IfOk};
+ghost use Rattle.std.specs.Prelude.{◌≡◌, [], IfOk};
+ghost use Rattle.ap_world.specs.Ground.{ground};
 ghost use Rattle.ap_world.specs.Sound.{HasFunctions};
 ghost use Rattle.ap_world.specs.World.{function_of};
 ghost use Rattle.ap_events.specs.Ends.{world_in};
@@ -63,7 +64,8 @@ fn all_events<R: Threads + Wait + Sync>(
 
 /// The world that every book begins with.
 pub(crate) fn first_world(alloc: Global) -> Result<World, NoMemory>
-    ensures { IfOk result (λ w. HasFunctions (function_of w.entries)) }
+    ensures is { IfOk result (λ w. w ≡ record { entries = ground; theory = record { disabled = [] } }) }
+    ensures functions { IfOk result (λ w. HasFunctions (function_of w.entries)) }
 {
     ground_has_its_functions();
     ground_world(alloc)
