@@ -109,7 +109,7 @@ worked_kept (f ∷ fs) s h = go (admits s f).refused h (worked_kept fs (admits s
     go true k more = absurd (true≢false (sym k))
     go false k more = let p = more k in (p.0, told_right (admits s f).log rest.log (kept_of rest) p.1)
 
-by_kept : (events : Result (List Form) (List ℕ)) (s : Working) → (body_by admits ends events s).certified ≡ true
+pub by_kept : (events : Result (List Form) (List ℕ)) (s : Working) → (body_by admits ends events s).certified ≡ true
     → (has_failed (body_by admits ends events s).state.second ≡ false) × IsTold (body_by admits ends events s).log (kept_of (body_by admits ends events s))
 by_kept (Err text) s h = absurd (true≢false (sym h))
 by_kept (Ok fs) s h = worked_kept fs s h

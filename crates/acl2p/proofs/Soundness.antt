@@ -21,9 +21,10 @@ use Rattle.ap_events.specs.Books.{Earlier, worked as first_worked, worked_again}
 use Rattle.ap_events.specs.Laws.{AreGood, WorkedKeepGood, AgainKeepsGood, WorkedGrows, WorkedTells}
 use Rattle.acl2p.specs.declared.second.Second.{Second}
 use Rattle.acl2p.specs.declared.second.Second.TheVariants.{SoFar, Failed}
-use Rattle.acl2p.specs.Command.{Command}
+use Rattle.acl2p.specs.Command.{Command, of_books, of_demo}
+use Rattle.acl2p.specs.Demo.{demo_read}
 use Rattle.acl2p.specs.Working.{Working, start, begin, second_by, one_more, after, admits, end_text, has_failed, end_told, ends, IfSoFar, Stands}
-use Rattle.acl2p.specs.Session.{Session, begun, kept_by, kept_of, kept_more, then_book, books_of, session, read_body}
+use Rattle.acl2p.specs.Session.{Session, begun, kept_by, kept_of, kept_more, then_book, books_of, session, demo_session, read_body}
 use Rattle.acl2p.proofs.Passing.{next_backs, both_cover}
 use Rattle.acl2p.proofs.Starting.{start_has}
 
@@ -148,5 +149,7 @@ sounds (u ∷ us) h = (h.0.sound, sounds us h.1)
 pub session_sound : WorkedKeepGood → AgainKeepsGood → WorkedGrows → WorkedTells → AgainIsCovered → Sound ground → (command : Option Command) (reads : List BookRead)
     → Each (λ w. Sound w.entries) (worlds_in (session command reads).told)
 session_sound kept redone grows tells covers h None reads = tt
-session_sound kept redone grows tells covers h (Some c) reads =
-    sounds (worlds_in (session (Some c) reads).told) (books_good kept redone grows tells covers c.limits begun c.books reads (start_good h) tt tt)
+session_sound kept redone grows tells covers h (Some (of_books o)) reads =
+    sounds (worlds_in (session (Some (of_books o)) reads).told) (books_good kept redone grows tells covers o.limits begun o.books reads (start_good h) tt tt)
+session_sound kept redone grows tells covers h (Some (of_demo d)) reads =
+    sounds (worlds_in (demo_session d).told) (by_good kept redone grows tells covers (events_in (demo_read d.number)) (begin d.limits []) (begin_good d.limits [] (start_good h) tt)).told

@@ -5,12 +5,13 @@ use Rattle.ap_outside.specs.declared.library.BookRead.{BookRead}
 use Rattle.ap_outside.specs.Gains.{Gained}
 use Rattle.ap_outside.specs.Files.{Files, told_at}
 use Rattle.ap_outside.specs.Books.{answer_of}
+use Rattle.ap_reader.specs.declared.form.Form.{Form}
 use Rattle.ap_table.specs.declared.link.DropNote.{DropNote}
 use Rattle.ap_books.specs.declared.admitter.BookSeen.{BookSeen}
-use Rattle.ap_books.specs.Bodies.{Body, body_of, opened}
+use Rattle.ap_books.specs.Bodies.{Body, body_of, forms_of, opened}
 use Rattle.ap_books.specs.Texts.{closing}
 use Rattle.ap_plain.specs.declared.limits.Limits.{Limits}
-use Rattle.ap_plain.specs.Ends.{Told, walks_in}
+use Rattle.ap_plain.specs.Ends.{Told, walks_in, goals_in}
 use Rattle.ap_plain.specs.Drops.{DividedWalks}
 use Rattle.ap_events.specs.Books.{Earlier}
 use Rattle.acl2p.specs.declared.report.Status.{Status}
@@ -20,7 +21,10 @@ use Rattle.acl2p.specs.declared.fault.Fault.TheVariants as faults
 use Rattle.acl2p.specs.declared.second.Second.{Second}
 use Rattle.acl2p.specs.declared.second.Second.TheVariants.{SoFar, Failed}
 use Rattle.acl2p.specs.Admitting.{AdmittingSeen, notes_in, left_in, IsTold}
-use Rattle.acl2p.specs.Command.{Command}
+use Rattle.acl2p.specs.Certs.{Seen, files_by}
+use Rattle.acl2p.specs.Command.{Command, Demo, of_books, of_demo}
+use Rattle.acl2p.specs.Demo.{demo_read, admitted_of, demo_line}
+use Rattle.acl2p.specs.Storing.{Stored}
 use Rattle.acl2p.specs.Texts.{usage_text, trace_text}
 use Rattle.acl2p.specs.Working.{Working, start, begin, admits, ends}
 
@@ -48,30 +52,34 @@ kept_more earlier name b = earlier ++ cond b.certified ((name, kept_of b) ∷ []
 abbrev pub last_of : Body Working Told → Shown
 last_of b = cond b.certified (kept_of b) b.state.world
 
--- a session so far: its text, whether each of its books is certified, what was told on the way, the kept worlds of the
--- certified ones, by their names, and the last world
+-- a session so far: its text, whether each of its books is certified, the books as they were read, the certificates that
+-- were stored, what was told on the way, the kept worlds of the certified books, by their names, and the last world
 pub record Session : Type 0 where
   pub text : List ℕ
   pub certified : Bool
+  pub seen : Seen
+  pub files : Files
   pub told : List Told
   pub earlier : Earlier
   pub last : Shown
 
 abbrev pub begun : Session
-begun = record { text = []; certified = true; told = []; earlier = []; last = start }
+begun = record { text = []; certified = true; seen = []; files = []; told = []; earlier = []; last = start }
 
 -- one book more
-abbrev pub with_body : Session → List ℕ → Body Working Told → Session
-with_body s name b = record {
+abbrev pub with_body : Session → List ℕ → BookRead → Body Working Told → Session
+with_body s name read b = record {
   text = s.text ++ book_text name b;
   certified = s.certified && b.certified;
+  seen = s.seen ++ (name, read) ∷ [];
+  files = s.files ++ files_by s.seen name read b.certified;
   told = s.told ++ b.log;
   earlier = kept_more s.earlier name b;
   last = last_of b;
 }
 
 abbrev pub then_book : Limits → Session → List ℕ → BookRead → Session
-then_book limits s name read = with_body s name (read_body limits s.earlier read)
+then_book limits s name read = with_body s name read (read_body limits s.earlier read)
 
 -- the books of these names, as they were read; the reads may be fewer than the names
 abbrev pub books_of : Limits → Session → List (List ℕ) → List BookRead → Session
@@ -81,12 +89,28 @@ books_of limits s (name ∷ names) (read ∷ reads) = books_of limits (then_book
 
 -- the session that words which are no command give
 abbrev pub usage : Session
-usage = record { text = usage_text; certified = false; told = []; earlier = []; last = start }
+usage = record { text = usage_text; certified = false; seen = []; files = []; told = []; earlier = []; last = start }
+
+-- the demo: its book is worked as any other is behind none, and of all that it prints one line tells
+abbrev pub demo_worked : Demo → List Form → Body Working Told → Session
+demo_worked d fs b = record {
+  text = demo_line d.number (admitted_of fs (begin d.limits [])) (goals_in b.log) b.certified;
+  certified = b.certified;
+  seen = [];
+  files = [];
+  told = b.log;
+  earlier = [];
+  last = last_of b;
+}
+
+abbrev pub demo_session : Demo → Session
+demo_session d = demo_worked d (forms_of (demo_read d.number)) (read_body d.limits [] (demo_read d.number))
 
 -- by what the words command, and by what the reads of the books answered
 abbrev pub session : Option Command → List BookRead → Session
 session None reads = usage
-session (Some c) reads = books_of c.limits begun c.books reads
+session (Some (of_books o)) reads = books_of o.limits begun o.books reads
+session (Some (of_demo d)) reads = demo_session d
 
 abbrev pub status_of : Option Command → Bool → Status
 status_of None certified = Usage
@@ -95,7 +119,8 @@ status_of (Some c) certified = cond certified Certified NotCertified
 -- where the words ask for it, what was dropped is told at the end
 abbrev pub traced : Option Command → List DropNote → List ℕ
 traced None drops = []
-traced (Some c) drops = cond c.trace (trace_text drops) []
+traced (Some (of_books o)) drops = cond o.trace (trace_text drops) []
+traced (Some (of_demo d)) drops = []
 
 -- all that is printed
 abbrev pub output : Option Command → Session → List DropNote → List ℕ
@@ -114,8 +139,9 @@ abbrev pub worked_books : AdmittingSeen → List (List ℕ) → List BookSeen �
 worked_books a names books = books_of a.working.limits begun names (reads_in books)
 
 -- all books were worked, and this is what they gave
-pub record Worked (before after : Option (List ℕ)) (s : Session) (all : Bool) (a : AdmittingSeen) : Type 0 where
+pub record Worked (before after : Option (List ℕ)) (old new : Option Files) (s : Session) (all : Bool) (a : AdmittingSeen) : Type 0 where
   pub text : Gained before after s.text
+  pub files : Stored old new s.files
   pub certified : s.certified ≡ all
   pub earlier : s.earlier ≡ a.working.earlier
   pub last : s.last ≡ left_in a

@@ -5,14 +5,13 @@ ghost use Rattle.ap_world.specs.Sound.{Sound, HasFunctions};
 ghost use Rattle.ap_world.specs.World.{function_of, are_distinct};
 ghost use Rattle.ap_books.specs.Bodies.{Shows};
 ghost use Rattle.ap_plain.specs.Drops.{DividedWalks};
-ghost use Rattle.ap_plain.specs.Ends.{walks_in};
+ghost use Rattle.ap_plain.specs.Ends.{goals_in, walks_in};
 ghost use Rattle.ap_events.specs.Backing.{Backed};
 ghost use Rattle.ap_events.specs.Books.{worked_again};
 ghost use Rattle.acl2p.specs.Admitting.{notes_in, last_world, left_in, IsTold, Behind};
 ghost use Rattle.acl2p.specs.Session.{kept_by};
 ghost use Rattle.acl2p.specs.Working.{working_in, begin, admits, ends, has_failed, one_more, IfSoFar, Stands};
 
-use crate::command::Command;
 use crate::second::Second;
 use crate::start::starting_world;
 use ap_attempt::{DropNote, Gate};
@@ -26,6 +25,14 @@ use std::marker::Model;
 use std::mem;
 use std::sync::Wait;
 use std::thread::Threads;
+
+/// What an event came to: what it printed, whether it was refused, and how many goals its attempts visited.
+#[derive(Drop)]
+pub(crate) struct Done {
+    pub(crate) text: Bytes,
+    pub(crate) refused: bool,
+    pub(crate) goals: usize,
+}
 
 /// What works the events of books: the world of the first pass, the second pass, the kept worlds of the certified books
 /// before, and whether the last book is among these; the limits of attempts, how many goals are worked at a time, and the
@@ -104,6 +111,7 @@ fn work_both<R: Threads + Wait + Sync, G: Gate + Sync>(
     ensures text { IfOk result (λ e. (admits (working_in limits.now earlier.now world.old second.old) form.now).text ≡ e.text) }
     ensures refused { IfOk result (λ e. (admits (working_in limits.now earlier.now world.old second.old) form.now).refused ≡ not e.admitted) }
     ensures next { OnOk result ((admits (working_in limits.now earlier.now world.old second.old) form.now).next ≡ working_in limits.now earlier.now world.new second.new) }
+    ensures goals { IfOk result (λ e. e.goals ≡ goals_in (admits (working_in limits.now earlier.now world.old second.old) form.now).log) }
     ensures left { (world.new ≡ world.old) ⊎ IsTold (admits (working_in limits.now earlier.now world.old second.old) form.now).log world.new }
     ensures drops { IfOk result (λ e. DividedWalks e.drops (walks_in (admits (working_in limits.now earlier.now world.old second.old) form.now).log)) }
     ensures alone { IfOk result (λ e. workers ≤ 1 → e.drops ≡ []) }
@@ -140,18 +148,19 @@ fn last_world(mut earlier: Seq<KeptBook>, world: Ruled) -> World
 }
 
 impl<'a, G> Admitting<'a, G> {
-    /// What works the events that a command names. Nothing is kept or noted yet, and no book is begun.
+    /// What works events under these limits. Nothing is kept or noted yet, and no book is begun.
     pub(crate) fn new(
         alloc: Global,
-        command: &Command<'_>,
+        limits: Limits,
+        workers: u32,
         world: Ruled,
         gate: &'a G,
     ) -> Admitting<'a, G>
         requires { HasFunctions (function_of world.entries) }
-        ensures limits { result.working.limits ≡ command.now.limits }
+        ensures limits { result.working.limits ≡ limits }
         ensures earlier { result.working.earlier ≡ [] }
         ensures left { left_in result ≡ world }
-        ensures workers { result.workers ≡ command.now.workers }
+        ensures workers { result.workers ≡ workers }
         ensures notes { notes_in result ≡ [] }
     {
         Admitting {
@@ -159,8 +168,8 @@ impl<'a, G> Admitting<'a, G> {
             second: Second::Failed(Bytes::new(alloc)),
             earlier: Seq::new(alloc),
             kept: false,
-            limits: command.limits,
-            workers: command.workers,
+            limits,
+            workers,
             gate,
             noted: Vec::new(alloc),
             last: Vec::new(alloc),
@@ -246,8 +255,9 @@ impl<G: Gate + Sync> Admitting<'_, G> {
         rt: &R,
         alloc: Global,
         form: &Form,
-    ) -> Result<Ended, NoMemory>
-        ensures turn { IfOk result (λ e. Shows (admits self.old.working form.now) e.text e.refused self.new.working) }
+    ) -> Result<Done, NoMemory>
+        ensures turn { IfOk result (λ d. Shows (admits self.old.working form.now) d.text d.refused self.new.working) }
+        ensures goals { IfOk result (λ d. d.goals ≡ goals_in (admits self.old.working form.now).log) }
         ensures behind { Behind self.old self.new (admits self.old.working form.now).log }
     {
         self.noted.append(&mut self.last)?;
@@ -263,9 +273,10 @@ impl<G: Gate + Sync> Admitting<'_, G> {
             self.gate,
         )?;
         self.last = done.drops.into_vec();
-        Ok(Ended {
+        Ok(Done {
             text: done.text,
             refused: !done.admitted,
+            goals: done.goals,
         })
     }
 }

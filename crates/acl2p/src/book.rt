@@ -1,18 +1,23 @@
-ghost use Rattle.std.specs.Prelude.{◌≡◌, ◌≢◌, ◌≤◌, ◌++◌, ◌∷◌, [], false, IfOk, IfErr, OnOk, OnErr};
+ghost use Rattle.std.specs.Prelude.{◌≡◌, ◌≢◌, ◌≤◌, ◌⊎◌, ◌++◌, ◌∷◌, [], false, is_some, string_bytes, IfOk, IfErr, IfSome, OnOk, OnErr};
 ghost use Rattle.ap_outside.specs.Faults.{Rose};
 ghost use Rattle.ap_outside.specs.Gains.{Gained, GainedPart};
-ghost use Rattle.ap_books.specs.Bodies.{worked, body_by, body_of, opened};
+ghost use Rattle.ap_books.specs.Bodies.{worked, body_by, body_of, forms_by, forms_of, opened};
 ghost use Rattle.ap_books.specs.Texts.{closing};
+ghost use Rattle.ap_events.specs.Held.{held_in};
+ghost use Rattle.acl2p.specs.Certs.{seen_in, cert_name, files_by};
+ghost use Rattle.acl2p.specs.Storing.{Stored, StoredPart};
 ghost use Rattle.acl2p.specs.Working.{start, admits, ends, has_failed};
 ghost use Rattle.acl2p.specs.Admitting.{notes_in, left_in, Behind, Led};
 ghost use Rattle.acl2p.specs.Session.{read_body, kept_by, kept_more, last_of, book_text};
 
 use crate::admitting::Admitting;
+use crate::certs::{cert_text, held_of};
 use crate::fault::{Fault, at_write};
 use ap_attempt::Gate;
 use ap_books::{BookSeen, Events, closing, events_in, opening};
+use ap_events::Held;
 use ap_list::Bytes;
-use ap_outside::{Sink, WriteFault, put_all};
+use ap_outside::{Library, Sink, WriteFault, put_all};
 use ap_reader::Form;
 use std::alloc::Global;
 use std::sync::Wait;
@@ -34,9 +39,9 @@ fn show_event<R: Threads + Wait + Sync, G: Gate + Sync, S: Sink>(
     ensures later { S.faults sink.old ≤ S.faults sink.new }
     ensures failed { result ≡ Err WriteFault.Failed → Rose (S.faults sink.old) (S.faults sink.new) }
 {
-    let ended = admitting.admit(rt, alloc, form)?;
-    put_all(sink, ended.text.as_slice())?;
-    Ok(ended.refused)
+    let done = admitting.admit(rt, alloc, form)?;
+    put_all(sink, done.text.as_slice())?;
+    Ok(done.refused)
 }
 
 /// Ends a book whose events were all admitted, and puts what its second pass printed. Answers whether that refused one.
@@ -131,7 +136,32 @@ fn put_closing<S: Sink>(
     put_all(sink, last.as_slice())
 }
 
-/// Puts a book's first line and its body. Answers whether the book is certified.
+/// Puts the text between a book's first and last lines. Answers what the book's events hold, where it is certified.
+#[tactic(auto, using(ap_outside::proofs::Gains::part_all))]
+fn show_held<R: Threads + Wait + Sync, G: Gate + Sync, S: Sink>(
+    rt: &R,
+    alloc: Global,
+    events: &Result<Events, Bytes>,
+    admitting: &mut Admitting<'_, G>,
+    sink: &mut S,
+) -> Result<Option<Held>, WriteFault>
+    ensures text { OnOk result (Gained (S.content sink.old) (S.content sink.new) (body_by admits ends events.now admitting.old.working).text) }
+    ensures certified { IfOk result (λ o. (body_by admits ends events.now admitting.old.working).certified ≡ is_some o) }
+    ensures held { IfOk result (λ o. IfSome o (λ h. h ≡ held_in (forms_by events.now))) }
+    ensures behind { Behind admitting.old admitting.new (body_by admits ends events.now admitting.old.working).log }
+    ensures state { OnOk result ((body_by admits ends events.now admitting.old.working).state ≡ admitting.new.working) }
+    ensures part { OnErr result (GainedPart (S.content sink.old) (S.content sink.new) (body_by admits ends events.now admitting.old.working).text) }
+    ensures later { S.faults sink.old ≤ S.faults sink.new }
+    ensures failed { result ≡ Err WriteFault.Failed → Rose (S.faults sink.old) (S.faults sink.new) }
+{
+    if !show_body(rt, alloc, events, admitting, sink)? {
+        return Ok(None);
+    }
+    let held = held_of(alloc, events)?;
+    Ok(Some(held))
+}
+
+/// Puts a book's first line and its body. Answers what the book's events hold, where it is certified.
 #[tactic(auto, using(ap_outside::proofs::Gains::gains), unfolding(ap_books::specs::Bodies::opened))]
 fn show_opened<R: Threads + Wait + Sync, G: Gate + Sync, S: Sink>(
     rt: &R,
@@ -139,9 +169,10 @@ fn show_opened<R: Threads + Wait + Sync, G: Gate + Sync, S: Sink>(
     book: &BookSeen,
     admitting: &mut Admitting<'_, G>,
     sink: &mut S,
-) -> Result<bool, WriteFault>
+) -> Result<Option<Held>, WriteFault>
     ensures text { OnOk result (Gained (S.content sink.old) (S.content sink.new) (opened book.now.name.0 (body_of admits ends book.now.read admitting.old.working))) }
-    ensures certified { IfOk result (λ b. (body_of admits ends book.now.read admitting.old.working).certified ≡ b) }
+    ensures certified { IfOk result (λ o. (body_of admits ends book.now.read admitting.old.working).certified ≡ is_some o) }
+    ensures held { IfOk result (λ o. IfSome o (λ h. h ≡ held_in (forms_of book.now.read))) }
     ensures state { OnOk result ((body_of admits ends book.now.read admitting.old.working).state ≡ admitting.new.working) }
     ensures part { OnErr result (GainedPart (S.content sink.old) (S.content sink.new) (opened book.now.name.0 (body_of admits ends book.now.read admitting.old.working))) }
     ensures behind { Behind admitting.old admitting.new (body_of admits ends book.now.read admitting.old.working).log }
@@ -151,49 +182,111 @@ fn show_opened<R: Threads + Wait + Sync, G: Gate + Sync, S: Sink>(
     let first = opening(alloc, book.name.0.as_slice())?;
     put_all(sink, first.as_slice())?;
     let events = events_in(alloc, &book.read)?;
-    show_body(rt, alloc, &events, admitting, sink)
+    show_held(rt, alloc, &events, admitting, sink)
 }
 
-/// Puts a book's text, from its first line to its last. Answers whether the book is certified.
-#[tactic(auto, using(ap_outside::proofs::Gains::gains), unfolding(crate::specs::Session::book_text))]
-fn show_book<R: Threads + Wait + Sync, G: Gate + Sync, S: Sink>(
+/// Stores the text of a certificate under a book's name.
+#[tactic(auto, using(crate::proofs::Storing::stored_one, crate::proofs::Storing::part_failed, crate::proofs::Storing::part_none))]
+fn store_text<L: Library>(
+    alloc: Global,
+    name: &String,
+    text: &[u8],
+    library: &mut L,
+) -> Result<(), WriteFault>
+    ensures stored { OnOk result (Stored (L.files library.old) (L.files library.new) ((cert_name (string_bytes name.now), text.now) ∷ [])) }
+    ensures part { OnErr result (StoredPart (L.files library.old) (L.files library.new) ((cert_name (string_bytes name.now), text.now) ∷ [])) }
+    ensures reads { L.read_faults library.new ≡ L.read_faults library.old }
+    ensures later { L.store_faults library.old ≤ L.store_faults library.new }
+    ensures failed { result ≡ Err WriteFault.Failed → Rose (L.store_faults library.old) (L.store_faults library.new) }
+{
+    let file = format!(in alloc; "{name}.cert")?;
+    library.store(alloc, file.as_str(), text)
+}
+
+/// Stores the certificate of a book that is certified, by what its events hold. Answers whether it is.
+#[tactic(auto, using(crate::proofs::Storing::stored_none, crate::proofs::Storing::part_none))]
+fn store_cert<L: Library>(
+    alloc: Global,
+    name: &String,
+    before: &[BookSeen],
+    book: &BookSeen,
+    held: Option<&Held>,
+    library: &mut L,
+) -> Result<(), WriteFault>
+    requires named { string_bytes name.now ≡ book.now.name.0 }
+    requires held { IfSome held (λ h. h.now ≡ held_in (forms_of book.now.read)) }
+    ensures files { OnOk result (Stored (L.files library.old) (L.files library.new) (files_by (seen_in before.now) book.now.name.0 book.now.read (is_some held.entry))) }
+    ensures part { OnErr result (StoredPart (L.files library.old) (L.files library.new) (files_by (seen_in before.now) book.now.name.0 book.now.read (is_some held.entry))) }
+    ensures reads { L.read_faults library.new ≡ L.read_faults library.old }
+    ensures later { L.store_faults library.old ≤ L.store_faults library.new }
+    ensures failed { result ≡ Err WriteFault.Failed → Rose (L.store_faults library.old) (L.store_faults library.new) }
+{
+    let Some(held) = held else {
+        return Ok(());
+    };
+    let text = cert_text(alloc, before, book, held)?;
+    store_text(alloc, name, text.as_slice(), library)
+}
+
+/// Puts a book's text, from its first line to its last, and stores its certificate before the last line where it is
+/// certified. Answers whether it is.
+#[tactic(auto, using(ap_outside::proofs::Gains::gains, crate::proofs::Storing::part_none, crate::proofs::Storing::part_all), unfolding(crate::specs::Session::book_text))]
+fn show_book<R: Threads + Wait + Sync, L: Library, G: Gate + Sync, S: Sink>(
     rt: &R,
     alloc: Global,
+    name: &String,
+    before: &[BookSeen],
     book: &BookSeen,
     admitting: &mut Admitting<'_, G>,
+    library: &mut L,
     sink: &mut S,
 ) -> Result<bool, WriteFault>
+    requires named { string_bytes name.now ≡ book.now.name.0 }
     ensures text { OnOk result (Gained (S.content sink.old) (S.content sink.new) (book_text book.now.name.0 (body_of admits ends book.now.read admitting.old.working))) }
     ensures certified { IfOk result (λ b. (body_of admits ends book.now.read admitting.old.working).certified ≡ b) }
     ensures state { OnOk result ((body_of admits ends book.now.read admitting.old.working).state ≡ admitting.new.working) }
+    ensures files { OnOk result (Stored (L.files library.old) (L.files library.new) (files_by (seen_in before.now) book.now.name.0 book.now.read (body_of admits ends book.now.read admitting.old.working).certified)) }
     ensures part { OnErr result (GainedPart (S.content sink.old) (S.content sink.new) (book_text book.now.name.0 (body_of admits ends book.now.read admitting.old.working))) }
+    ensures stored { OnErr result (StoredPart (L.files library.old) (L.files library.new) (files_by (seen_in before.now) book.now.name.0 book.now.read (body_of admits ends book.now.read admitting.old.working).certified)) }
     ensures behind { Behind admitting.old admitting.new (body_of admits ends book.now.read admitting.old.working).log }
+    ensures reads { L.read_faults library.new ≡ L.read_faults library.old }
+    ensures stores { L.store_faults library.old ≤ L.store_faults library.new }
     ensures later { S.faults sink.old ≤ S.faults sink.new }
-    ensures failed { result ≡ Err WriteFault.Failed → Rose (S.faults sink.old) (S.faults sink.new) }
+    ensures failed { result ≡ Err WriteFault.Failed → Rose (L.store_faults library.old) (L.store_faults library.new) ⊎ Rose (S.faults sink.old) (S.faults sink.new) }
 {
-    let certified = show_opened(rt, alloc, book, admitting, sink)?;
+    let held = show_opened(rt, alloc, book, admitting, sink)?;
+    store_cert(alloc, name, before, book, held.as_ref(), library)?;
+    let certified = held.is_some();
     put_closing(alloc, book, certified, sink)?;
     Ok(certified)
 }
 
 /// The same, with the fault as the session's.
-fn show_whole<R: Threads + Wait + Sync, G: Gate + Sync, S: Sink>(
+fn show_whole<R: Threads + Wait + Sync, L: Library, G: Gate + Sync, S: Sink>(
     rt: &R,
     alloc: Global,
+    name: &String,
+    before: &[BookSeen],
     book: &BookSeen,
     admitting: &mut Admitting<'_, G>,
+    library: &mut L,
     sink: &mut S,
 ) -> Result<bool, Fault>
+    requires named { string_bytes name.now ≡ book.now.name.0 }
     ensures text { OnOk result (Gained (S.content sink.old) (S.content sink.new) (book_text book.now.name.0 (body_of admits ends book.now.read admitting.old.working))) }
     ensures certified { IfOk result (λ b. (body_of admits ends book.now.read admitting.old.working).certified ≡ b) }
     ensures state { OnOk result ((body_of admits ends book.now.read admitting.old.working).state ≡ admitting.new.working) }
+    ensures files { OnOk result (Stored (L.files library.old) (L.files library.new) (files_by (seen_in before.now) book.now.name.0 book.now.read (body_of admits ends book.now.read admitting.old.working).certified)) }
     ensures part { OnErr result (GainedPart (S.content sink.old) (S.content sink.new) (book_text book.now.name.0 (body_of admits ends book.now.read admitting.old.working))) }
     ensures behind { Behind admitting.old admitting.new (body_of admits ends book.now.read admitting.old.working).log }
+    ensures stored { OnErr result (StoredPart (L.files library.old) (L.files library.new) (files_by (seen_in before.now) book.now.name.0 book.now.read (body_of admits ends book.now.read admitting.old.working).certified)) }
+    ensures reads { L.read_faults library.new ≡ L.read_faults library.old }
+    ensures stores { L.store_faults library.old ≤ L.store_faults library.new }
     ensures later { S.faults sink.old ≤ S.faults sink.new }
-    ensures failed { result ≡ Err Fault.Write → Rose (S.faults sink.old) (S.faults sink.new) }
+    ensures failed { result ≡ Err Fault.Write → Rose (L.store_faults library.old) (L.store_faults library.new) ⊎ Rose (S.faults sink.old) (S.faults sink.new) }
     ensures unread { result ≢ Err Fault.Read }
 {
-    match show_book(rt, alloc, book, admitting, sink) {
+    match show_book(rt, alloc, name, before, book, admitting, library, sink) {
         Ok(certified) => Ok(certified),
         Err(fault) => Err(at_write(fault)),
     }
@@ -217,27 +310,35 @@ fn keep<G>(alloc: Global, book: &BookSeen, admitting: &mut Admitting<'_, G>) -> 
 }
 
 /// Works a book that was begun, puts its text, and keeps its world where it is certified, which is answered.
-#[tactic(auto, using(ap_outside::proofs::Gains::gains))]
-fn work_begun<R: Threads + Wait + Sync, G: Gate + Sync, S: Sink>(
+#[tactic(auto, using(ap_outside::proofs::Gains::gains, crate::proofs::Storing::part_all))]
+fn work_begun<R: Threads + Wait + Sync, L: Library, G: Gate + Sync, S: Sink>(
     rt: &R,
     alloc: Global,
+    name: &String,
+    before: &[BookSeen],
     book: &BookSeen,
     admitting: &mut Admitting<'_, G>,
+    library: &mut L,
     sink: &mut S,
 ) -> Result<bool, Fault>
     requires begun { admitting.old.working.world ≡ start }
     requires unkept { admitting.old.kept ≡ false }
+    requires named { string_bytes name.now ≡ book.now.name.0 }
     ensures text { OnOk result (Gained (S.content sink.old) (S.content sink.new) (book_text book.now.name.0 (body_of admits ends book.now.read admitting.old.working))) }
     ensures certified { IfOk result (λ b. (body_of admits ends book.now.read admitting.old.working).certified ≡ b) }
     ensures earlier { OnOk result (kept_more admitting.old.working.earlier book.now.name.0 (body_of admits ends book.now.read admitting.old.working) ≡ admitting.new.working.earlier) }
     ensures last { OnOk result (last_of (body_of admits ends book.now.read admitting.old.working) ≡ left_in admitting.new) }
+    ensures files { OnOk result (Stored (L.files library.old) (L.files library.new) (files_by (seen_in before.now) book.now.name.0 book.now.read (body_of admits ends book.now.read admitting.old.working).certified)) }
     ensures part { OnErr result (GainedPart (S.content sink.old) (S.content sink.new) (book_text book.now.name.0 (body_of admits ends book.now.read admitting.old.working))) }
     ensures led { Led admitting.old admitting.new (body_of admits ends book.now.read admitting.old.working).log }
+    ensures stored { OnErr result (StoredPart (L.files library.old) (L.files library.new) (files_by (seen_in before.now) book.now.name.0 book.now.read (body_of admits ends book.now.read admitting.old.working).certified)) }
+    ensures reads { L.read_faults library.new ≡ L.read_faults library.old }
+    ensures stores { L.store_faults library.old ≤ L.store_faults library.new }
     ensures later { S.faults sink.old ≤ S.faults sink.new }
-    ensures failed { result ≡ Err Fault.Write → Rose (S.faults sink.old) (S.faults sink.new) }
+    ensures failed { result ≡ Err Fault.Write → Rose (L.store_faults library.old) (L.store_faults library.new) ⊎ Rose (S.faults sink.old) (S.faults sink.new) }
     ensures unread { result ≢ Err Fault.Read }
 {
-    let certified = show_whole(rt, alloc, book, admitting, sink)?;
+    let certified = show_whole(rt, alloc, name, before, book, admitting, library, sink)?;
     if !certified {
         return Ok(false);
     }
@@ -247,25 +348,34 @@ fn work_begun<R: Threads + Wait + Sync, G: Gate + Sync, S: Sink>(
 
 /// Works a book that was read, from the world that each book begins with, and puts its text. A certified one's world is
 /// kept. Answers whether it is certified.
-pub(crate) fn work_book<R: Threads + Wait + Sync, G: Gate + Sync, S: Sink>(
+#[tactic(auto, using(crate::proofs::Storing::part_none))]
+pub(crate) fn work_book<R: Threads + Wait + Sync, L: Library, G: Gate + Sync, S: Sink>(
     rt: &R,
     alloc: Global,
+    name: &String,
+    before: &[BookSeen],
     book: &BookSeen,
     admitting: &mut Admitting<'_, G>,
+    library: &mut L,
     sink: &mut S,
 ) -> Result<bool, Fault>
+    requires named { string_bytes name.now ≡ book.now.name.0 }
     ensures text { OnOk result (Gained (S.content sink.old) (S.content sink.new) (book_text book.now.name.0 (read_body admitting.old.working.limits admitting.old.working.earlier book.now.read))) }
     ensures certified { IfOk result (λ b. (read_body admitting.old.working.limits admitting.old.working.earlier book.now.read).certified ≡ b) }
     ensures earlier { OnOk result (kept_more admitting.old.working.earlier book.now.name.0 (read_body admitting.old.working.limits admitting.old.working.earlier book.now.read) ≡ admitting.new.working.earlier) }
     ensures last { OnOk result (last_of (read_body admitting.old.working.limits admitting.old.working.earlier book.now.read) ≡ left_in admitting.new) }
+    ensures files { OnOk result (Stored (L.files library.old) (L.files library.new) (files_by (seen_in before.now) book.now.name.0 book.now.read (read_body admitting.old.working.limits admitting.old.working.earlier book.now.read).certified)) }
     ensures part { OnErr result (GainedPart (S.content sink.old) (S.content sink.new) (book_text book.now.name.0 (read_body admitting.old.working.limits admitting.old.working.earlier book.now.read))) }
     ensures led { Led admitting.old admitting.new (read_body admitting.old.working.limits admitting.old.working.earlier book.now.read).log }
+    ensures stored { OnErr result (StoredPart (L.files library.old) (L.files library.new) (files_by (seen_in before.now) book.now.name.0 book.now.read (read_body admitting.old.working.limits admitting.old.working.earlier book.now.read).certified)) }
+    ensures reads { L.read_faults library.new ≡ L.read_faults library.old }
+    ensures stores { L.store_faults library.old ≤ L.store_faults library.new }
     ensures later { S.faults sink.old ≤ S.faults sink.new }
-    ensures failed { result ≡ Err Fault.Write → Rose (S.faults sink.old) (S.faults sink.new) }
+    ensures failed { result ≡ Err Fault.Write → Rose (L.store_faults library.old) (L.store_faults library.new) ⊎ Rose (S.faults sink.old) (S.faults sink.new) }
     ensures unread { result ≢ Err Fault.Read }
 {
     match admitting.begin(alloc) {
-        Ok(()) => work_begun(rt, alloc, book, admitting, sink),
+        Ok(()) => work_begun(rt, alloc, name, before, book, admitting, library, sink),
         Err(_) => Err(Fault::NoMemory),
     }
 }

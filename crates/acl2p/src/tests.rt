@@ -29,7 +29,7 @@ const REFL: &[u8] = b"(in-package \"ACL2\")\n(defthm refl (equal x x) :rule-clas
 const CERTIFIED: &[u8] =
     b"Book refl\nDEFTHM REFL\nGoal simplify 0\nDEFTHM REFL proved\nBook refl certified\n";
 
-const ROWS: [Row; 40] = [
+const ROWS: [Row; 39] = [
     Row {
         words: &["refl"],
         book: Some(REFL),
@@ -298,13 +298,6 @@ const ROWS: [Row; 40] = [
         text: USAGE,
     },
     Row {
-        words: &["--demo", "1"],
-        book: Some(REFL),
-        failing: NONE,
-        status: Status::Usage,
-        text: USAGE,
-    },
-    Row {
         words: &["refl"],
         book: Some(REFL),
         failing: (&[1], &[]),
@@ -324,6 +317,123 @@ const ROWS: [Row; 40] = [
         failing: (&[], &[3]),
         status: Status::WriteFault,
         text: b"Book refl\nDEFTHM REFL\nGoal simplify 0\nDEFTHM REFL proved\n",
+    },
+];
+
+const DEMO: &[u8] = b"Demo 1 events 2 goals 8 certified\n";
+
+const DEMO_ROWS: [Row; 16] = [
+    Row {
+        words: &["--demo", "1"],
+        book: None,
+        failing: NONE,
+        status: Status::Certified,
+        text: DEMO,
+    },
+    Row {
+        words: &["--workers", "8", "--demo", "1"],
+        book: None,
+        failing: NONE,
+        status: Status::Certified,
+        text: DEMO,
+    },
+    Row {
+        words: &["--demo", "1", "--workers", "8"],
+        book: None,
+        failing: NONE,
+        status: Status::Certified,
+        text: DEMO,
+    },
+    Row {
+        words: &["--demo", "1"],
+        book: None,
+        failing: (&[1], &[]),
+        status: Status::Certified,
+        text: DEMO,
+    },
+    Row {
+        words: &["--demo", "1"],
+        book: None,
+        failing: (&[], &[1]),
+        status: Status::WriteFault,
+        text: b"",
+    },
+    Row {
+        words: &["--demo", "0"],
+        book: None,
+        failing: NONE,
+        status: Status::Usage,
+        text: USAGE,
+    },
+    Row {
+        words: &["--demo", "1001"],
+        book: None,
+        failing: NONE,
+        status: Status::Usage,
+        text: USAGE,
+    },
+    Row {
+        words: &["--demo", "01"],
+        book: None,
+        failing: NONE,
+        status: Status::Usage,
+        text: USAGE,
+    },
+    Row {
+        words: &["--demo"],
+        book: None,
+        failing: NONE,
+        status: Status::Usage,
+        text: USAGE,
+    },
+    Row {
+        words: &["--workers", "8", "--demo"],
+        book: None,
+        failing: NONE,
+        status: Status::Usage,
+        text: USAGE,
+    },
+    Row {
+        words: &["--demo", "1", "refl"],
+        book: None,
+        failing: NONE,
+        status: Status::Usage,
+        text: USAGE,
+    },
+    Row {
+        words: &["refl", "--demo", "1"],
+        book: None,
+        failing: NONE,
+        status: Status::Usage,
+        text: USAGE,
+    },
+    Row {
+        words: &["--demo", "1", "--trace"],
+        book: None,
+        failing: NONE,
+        status: Status::Usage,
+        text: USAGE,
+    },
+    Row {
+        words: &["--demo", "1", "--steps", "5"],
+        book: None,
+        failing: NONE,
+        status: Status::Usage,
+        text: USAGE,
+    },
+    Row {
+        words: &["--goals", "5", "--demo", "1"],
+        book: None,
+        failing: NONE,
+        status: Status::Usage,
+        text: USAGE,
+    },
+    Row {
+        words: &["--demo", "1", "--demo", "1"],
+        book: None,
+        failing: NONE,
+        status: Status::Usage,
+        text: USAGE,
     },
 ];
 
@@ -394,6 +504,14 @@ fn prints<R: Abort + Threads + Wait + Sync>(
 #[test]
 fn the_session_prints_its_text_and_each_fault_has_its_cause(rt: HostRuntime) -> Result<(), Fail> {
     for row in &ROWS {
+        shows(&rt, rt.alloc(), row, row.book)?;
+    }
+    Ok(())
+}
+
+#[test]
+fn the_demo_reads_nothing_and_prints_one_line(rt: HostRuntime) -> Result<(), Fail> {
+    for row in &DEMO_ROWS {
         shows(&rt, rt.alloc(), row, row.book)?;
     }
     Ok(())
@@ -577,6 +695,134 @@ fn a_book_includes_the_certified_ones_before_it(rt: HostRuntime) -> Result<(), F
     let alloc = rt.alloc();
     sessions_print(&rt, alloc, INCLUDED, Status::Certified, 5)?;
     sessions_print(&rt, alloc, UNINCLUDED, Status::NotCertified, 6)
+}
+
+/// Certifies these books in their order, while these calls of the library and of the sink fail: the status, how many lines
+/// are put, and the library.
+fn stored_by<R: Abort + Threads + Wait + Sync>(
+    rt: &R,
+    alloc: Global,
+    books: &str,
+    failing: (&[u32], &[u32]),
+) -> Result<(Status, usize, MemoryLibrary), Fail> {
+    let mut words = Vec::new(alloc);
+    let mut files = Seq::new(alloc);
+    row_books(alloc, books, &mut words, &mut files)?;
+    let mut library = MemoryLibrary::new(files, Seq::from_slice(alloc, failing.0)?);
+    let mut sink = MemorySink::new(alloc, Seq::from_slice(alloc, failing.1)?);
+    let (status, _) = seen(certify(
+        rt,
+        alloc,
+        words.as_slice(),
+        &mut library,
+        &mut sink,
+        &NoGate,
+    ));
+    let lines = sink.content().iter().filter(|byte| **byte == 10).count();
+    Ok((status, lines, library))
+}
+
+/// Certifies these books in their order, and answers what is then stored in a file; nothing where there is no such file.
+fn stored_of<R: Abort + Threads + Wait + Sync>(
+    rt: &R,
+    alloc: Global,
+    books: &str,
+    failing: &[u32],
+    name: &str,
+) -> Result<Vec<u8>, Fail> {
+    let (_, _, library) = stored_by(rt, alloc, books, (failing, &[]))?;
+    match library.stored(name) {
+        Some(text) => Ok(Vec::from_slice(alloc, text)?),
+        None => Ok(Vec::new(alloc)),
+    }
+}
+
+/// Books, which calls of the library fail, a file, and what is stored in it; nothing where it isn't.
+type Stored = (&'static str, &'static [u32], &'static str, &'static [u8]);
+
+const STORED: [Stored; 6] = [
+    (
+        "refl: (defthm refl (equal x x) :rule-classes nil)",
+        &[],
+        "refl.cert",
+        b"acl2p certificate 1\nbook refl\nsha256 be899e77109c580c5dcb9c41207e46f3e3e5afd9b1862e2b27bd03ad6b065e7a\nevents 1\nend\n",
+    ),
+    (
+        "refl: (defthm refl (equal x x) :rule-classes nil) | a: (defun f (x) x)",
+        &[3],
+        "refl.cert",
+        b"acl2p certificate 1\nbook refl\nsha256 be899e77109c580c5dcb9c41207e46f3e3e5afd9b1862e2b27bd03ad6b065e7a\nevents 1\nend\n",
+    ),
+    ("a: (defun f (x) x)", &[2], "a.cert", b""),
+    ("a: (defun f (x) x) (defun f (x) x)", &[], "a.cert", b""),
+    (
+        "a: (local (defun g (x) x)) (defun f (x) (g x))",
+        &[],
+        "a.cert",
+        b"",
+    ),
+    (
+        "a: (defun f (x) x) | u: (include-book \"a\") (local (include-book \"a\")) (progn (local (defun g (x) x)) (encapsulate () (defun h (x) x) (defconst *c* 3)))",
+        &[],
+        "u.cert",
+        b"acl2p certificate 1\nbook u\nsha256 c8774a14e8ec6d3957a2f366671dfe4f0acb9c9fec578ff82835ff3f497e806c\ninclude a c159457df1e97b5b23919e164936796a1868c65652b072062c9a825222f69bd4\nevents 5\nend\n",
+    ),
+];
+
+#[test]
+fn a_certified_book_leaves_its_certificate(rt: HostRuntime) -> Result<(), Fail> {
+    let alloc = rt.alloc();
+    for (books, failing, name, text) in STORED {
+        let stored = stored_of(&rt, alloc, books, failing, name)?;
+        assert_eq!(rt; stored.as_slice(), text);
+    }
+    Ok(())
+}
+
+/// Two books, which put three pieces each: their first line, their event's text, and their last line.
+const TWO: &str = "refl: (defthm refl (equal x x) :rule-classes nil) | a: (defun f (x) x)";
+
+/// Which calls of the library and of the sink fail, the status, how many lines are put, and whether the first book's
+/// certificate is stored, and the second one's.
+type Cut = (
+    (&'static [u32], &'static [u32]),
+    Status,
+    usize,
+    (bool, bool),
+);
+
+const CUTS: [Cut; 11] = [
+    (NONE, Status::Certified, 9, (true, true)),
+    ((&[], &[1]), Status::WriteFault, 0, (false, false)),
+    ((&[], &[2]), Status::WriteFault, 1, (false, false)),
+    ((&[], &[3]), Status::WriteFault, 4, (true, false)),
+    ((&[], &[4]), Status::WriteFault, 5, (true, false)),
+    ((&[], &[5]), Status::WriteFault, 6, (true, false)),
+    ((&[], &[6]), Status::WriteFault, 8, (true, true)),
+    ((&[1], &[]), Status::ReadFault, 0, (false, false)),
+    ((&[2], &[]), Status::WriteFault, 4, (false, false)),
+    ((&[3], &[]), Status::ReadFault, 5, (true, false)),
+    ((&[4], &[]), Status::WriteFault, 8, (true, false)),
+];
+
+/// Asserts what is put and stored where these calls fail.
+fn cuts<R: Abort + Threads + Wait + Sync>(rt: &R, alloc: Global, cut: &Cut) -> Result<(), Fail> {
+    let (failing, status, lines, stored) = *cut;
+    let seen = stored_by(rt, alloc, TWO, failing)?;
+    assert_eq!(rt; seen.0, status);
+    assert_eq!(rt; seen.1, lines);
+    let first = seen.2.stored("refl.cert").is_some();
+    let second = seen.2.stored("a.cert").is_some();
+    assert_eq!(rt; (first, second), stored);
+    Ok(())
+}
+
+#[test]
+fn a_certificate_is_stored_before_the_last_line(rt: HostRuntime) -> Result<(), Fail> {
+    for cut in &CUTS {
+        cuts(&rt, rt.alloc(), cut)?;
+    }
+    Ok(())
 }
 
 /// A theorem whose goal splits into two that are pushed, so that the walk reverts, and one that is proved.
