@@ -2,9 +2,11 @@
 # many_workers.sh [RUNS]: wall time of acl2p with 1, 2 and 4 workers, the medians of so many runs (default 5), on books
 # whose one theorem, an exclusive or of eight variables in two groupings, is split by a hint into 16 and into 64 cases of
 # equal work, beside the one in which none holds, which is nothing; and on a book of 1,000 small theorems. Prints a line
-# for each book: the times in milliseconds, and the ratios to one worker. VARIABLES=N has N variables (2 to 8) in place of
-# eight: with each more a case takes about four times as long. Run it on a machine that does nothing else, with four
-# processors free.
+# for each book: the times in milliseconds, and the ratios to one worker; and of the first how many runs with one worker the
+# machine does in the time of one where two and where four run side by side, which is the most that any program gets there.
+# It says besides how much of the processors' time the host took away meanwhile (steal, in /proc/stat): where that is more
+# than a few of a hundred, four processors weren't free. VARIABLES=N has N variables (2 to 8) in place of eight: with each
+# more a case takes about four times as long. Run it on a machine that does nothing else, with four processors.
 here=$(cd "$(dirname "$0")/.." && pwd)
 acl2p=${ACL2P:-$here/crates/acl2p/out/acl2p}
 [ -x "$acl2p" ] || { echo "many_workers: no program at $acl2p; build it by ../acl2p" >&2; exit 1; }
@@ -40,17 +42,41 @@ runs=${1:-5}
 python3 - "$acl2p" "$runs" <<'END'
 import statistics, subprocess, sys, time
 program, runs = sys.argv[1], int(sys.argv[2])
+
+def processors():
+    with open("/proc/stat") as lines:
+        return [int(it) for it in lines.readline().split()[1:9]]
+
+def timed(what):
+    began = time.perf_counter()
+    answer = what()
+    return (time.perf_counter() - began) * 1000, answer
+
+def one(workers, book):
+    done = subprocess.run([program, "--workers", str(workers), book], capture_output=True)
+    return done.returncode, done.stdout
+
+def beside(many, book):
+    each = [subprocess.Popen([program, "--workers", "1", book], stdout=subprocess.DEVNULL) for _ in range(many)]
+    for it in each:
+        it.wait()
+
 for book in ("wide16", "wide64", "small"):
-    times, texts = {1: [], 2: [], 4: []}, set()
+    times, side, texts = {1: [], 2: [], 4: []}, {2: [], 4: []} if book == "wide16" else {}, set()
+    before = processors()
     for _ in range(runs):
         for workers in times:
-            began = time.perf_counter()
-            done = subprocess.run([program, "--workers", str(workers), book], capture_output=True)
-            times[workers].append((time.perf_counter() - began) * 1000)
-            texts.add((done.returncode, done.stdout))
+            took, text = timed(lambda: one(workers, book))
+            times[workers].append(took)
+            texts.add(text)
+        for many in side:
+            side[many].append(timed(lambda: beside(many, book))[0])
+    spent = [now - then for now, then in zip(processors(), before)]
     assert len(texts) == 1, f"{book}: the bytes differ"
     status = next(iter(texts))[0]
     middle = {w: statistics.median(t) for w, t in times.items()}
     print(f"{book}: status {status}; " + ", ".join(f"{w} workers {m:.0f} ms" for w, m in middle.items())
-          + f"; ratios {middle[1] / middle[2]:.2f} with 2, {middle[1] / middle[4]:.2f} with 4")
+          + f"; ratios {middle[1] / middle[2]:.2f} with 2, {middle[1] / middle[4]:.2f} with 4"
+          + "".join(f"; {many} runs side by side count as {many * middle[1] / statistics.median(t):.2f}" for many, t in side.items())
+          + f"; the host took away {100 * spent[7] / max(1, sum(spent)):.1f} of a hundred")
 END

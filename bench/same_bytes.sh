@@ -4,7 +4,10 @@
 here=$(cd "$(dirname "$0")/.." && pwd)
 acl2p=${ACL2P:-$here/crates/acl2p/out/acl2p}
 [ -x "$acl2p" ] || { echo "same_bytes: no program at $acl2p; build it by ../acl2p" >&2; exit 1; }
-cd "$here/books" || exit 1
+folder=$(mktemp -d)
+trap 'rm -rf "$folder"' EXIT
+cp "$here"/books/*.lisp "$folder"
+cd "$folder" || exit 1
 status=0
 for book in *.lisp; do
     name=${book%.lisp}
