@@ -1,10 +1,10 @@
 -- Calls whose parts agree: an `if`, and any other call.
-use Rattle.std.proofs.Common.{◌≡◌, ◌≢◌, ◌↔◌, ℕ, Bool, true, false, cond, List, [], ◌∷◌, length, Some, refl, ap, sym, ◌∙◌, subst, eqb-true, arith}
+use Rattle.std.proofs.Common.{◌≡◌, ◌≢◌, ◌↔◌, ℕ, Bool, true, false, cond, ◌&&◌, List, [], ◌∷◌, length, Some, refl, ap, sym, ◌∙◌, subst, eqb-true, arith}
 use Rattle.std.proofs.Math.ListN.{length-map}
 use Rattle.ap_list.specs.Lists.{Each}
 use Rattle.ap_value.specs.declared.symbol.Symbol.{Symbol}
 use Rattle.ap_value.specs.Values.{V, symbol_eq, value_eq}
-use Rattle.ap_value.proofs.Equals.{symbol_eq-true}
+use Rattle.ap_value.proofs.Equals.{both, symbol_eq-true}
 use Rattle.ap_term.specs.declared.term.Term.{Term, Call}
 use Rattle.ap_world.specs.Names.{if_name, not_name}
 use Rattle.ap_world.specs.Primitives.{nil, truth, prim_of}
@@ -13,20 +13,21 @@ use Rattle.ap_world.specs.Clauses.{not_of}
 use Rattle.ap_world.specs.Sound.{known, is_head, takes, not_function}
 use Rattle.ap_world.specs.Facts.{KnownFacts, FactsHold}
 use Rattle.ap_world.specs.Assume.{assume}
+use Rattle.ap_world.specs.Shapes.{is_constant}
 use Rattle.ap_world.proofs.Knowing.{known_by, true_each}
 use Rattle.ap_world.proofs.TotalMeaning.{Apply, Models, models, val, values_of, val_call, head_val}
 use Rattle.ap_world.proofs.Equations.{val_if, nil-eq, eq-not_nil, prim_of_if, prim_of_not}
 use Rattle.ap_world.proofs.Starting.{val_not}
-use Rattle.ap_world.proofs.Assumed.{assume_holds}
+use Rattle.ap_world.proofs.Assumed.{Signed, constant_signed, assume_holds}
 use Rattle.ap_kernel.specs.declared.objects.Ctx.{Ctx}
 use Rattle.ap_kernel.specs.declared.objects.Mode.{Mode}
 use Rattle.ap_kernel.specs.declared.objects.Mode.TheVariants.{Equal, Iff}
 use Rattle.ap_world.specs.World.{Shown, function_of}
 use Rattle.ap_kernel.specs.declared.objects.Sequent.{Sequent}
 use Rattle.ap_kernel.specs.declared.objects.Equiv.{Equiv}
-use Rattle.ap_kernel.specs.Standing.{HasGround, Same, Holds}
-use Rattle.ap_kernel.specs.Answers.{if_of, branch_made, ModeFits, IsArgument, ArgumentHolds, said, lefts, rights, cong_made}
-use Rattle.ap_kernel.proofs.Standing.{agree, stand}
+use Rattle.ap_kernel.specs.Standing.{HasGround, Same, Holds, SameSides}
+use Rattle.ap_kernel.specs.Answers.{if_of, refl_made, branch_made, chosen_made, ModeFits, IsArgument, ArgumentHolds, said, lefts, rights, are_unchanged, cong_made}
+use Rattle.ap_kernel.proofs.Standing.{same_refl, agree, stand}
 
 -- values that are the same are both nil or both not
 pub both_nil : (m : Mode) (v w : V) → Same m v w → (v ≡ nil) ↔ (w ≡ nil)
@@ -73,6 +74,39 @@ branch_stands D total ground m test on off s p q on_mode off_mode on_facts off_f
         (λ k. subst (λ o. Same o (val A on.lhs e) (val A on.rhs e)) on_mode (agree D A ms on p e (yes_holds k)))
         (λ k. subst (λ o. Same o (val A off.lhs e) (val A off.rhs e)) off_mode (agree D A ms off q e (no_holds k))) in
         subst (λ x. Same m x (val A (if_of test.rhs on.rhs off.rhs) e)) (sym l) (subst (λ y. Same m (cond (value_eq (val A test.lhs e) nil) (val A off.lhs e) (val A on.lhs e)) y) (sym r) same)
+
+-- the parts of an `if` are unchanged, and so is the `if`
+pub branch_same : (m : Mode) (test on off : Equiv) → SameSides test → SameSides on → SameSides off → (test.unchanged && (on.unchanged && off.unchanged)) ≡ true
+    → (branch_made m test.says on.says off.says).lhs ≡ (branch_made m test.says on.says off.says).rhs
+branch_same m test on off a b c k =
+    let h = both test.unchanged (on.unchanged && off.unchanged) k in
+    let i = both on.unchanged off.unchanged h.1 in
+    rw (a h.0, b i.0, c i.1) refl
+
+-- an `if` whose test leads to a constant is the branch that this chooses
+chosen_value : (m : Mode) (s : Bool) (x y : V) (A : Apply) (e : Env) (b c : Term) → ((x ≡ nil) ↔ (y ≡ nil)) → Signed s y → Same m (cond (value_eq x nil) (val A c e) (val A b e)) (val A (cond s b c) e)
+chosen_value m true x y A e b c h s = rw (nil_test x y h) (go (value_eq y nil) refl)
+  where
+    go : (k : Bool) → value_eq y nil ≡ k → Same m (cond k (val A c e) (val A b e)) (val A b e)
+    go true q = absurd (s (nil-eq y q))
+    go false q = same_refl m (val A b e)
+chosen_value m false x y A e b c h s = rw (nil_test x y h) (go (value_eq y nil) refl)
+  where
+    go : (k : Bool) → value_eq y nil ≡ k → Same m (cond k (val A c e) (val A b e)) (val A c e)
+    go true q = same_refl m (val A c e)
+    go false q = absurd (eq-not_nil y q s)
+
+chosen_known : (D : Defs) (s : Bool) (b c : Term) → known D b ≡ true → known D c ≡ true → known D (cond s b c) ≡ true
+chosen_known D true b c p q = p
+chosen_known D false b c p q = q
+
+pub chosen_stands : (D : Defs) → Total D → HasGround D → (m : Mode) (test : Sequent) (s : Bool) (b c : Term) → Holds D test → is_constant s test.rhs ≡ true → known D b ≡ true → known D c ≡ true
+    → Holds D (chosen_made m test s b c)
+chosen_stands D total ground m test s b c h constant p q =
+    let (A, ms) = models D total in
+    stand D A ms (chosen_made m test s b c) h.facts (known_if D test.lhs b c h.left p q) (chosen_known D s b c p q)
+    (λ e k. subst (λ x. Same m x (val A (cond s b c) e)) (sym (val_if A test.lhs b c e))
+    (chosen_value m s (val A test.lhs e) (val A test.rhs e) A e b c (both_nil test.mode (val A test.lhs e) (val A test.rhs e) (agree D A ms test h e k)) (constant_signed D A ms ground e s test.rhs constant)))
 
 -- one argument, where the list has so many
 one_argument : (P : List Sequent → Type 0) (qs : List Sequent) → ((q : Sequent) → P (q ∷ [])) → 1 ≡ length qs → P qs
@@ -133,7 +167,32 @@ cong_stands D total ground c f qs facts head es =
     (known_call_of D A ms ground c f qs (rights qs) (length-map qs (λ (q : Sequent). q.rhs)) head (rights_known D A ms ground c f qs es))
     (λ e h. same_calls D A ms ground c f e h qs head es)
 
+-- where all are unchanged, the left sides are the right sides
+pub sides_same : (qs : List Equiv) → Each SameSides qs → are_unchanged qs ≡ true → lefts (said qs) ≡ rights (said qs)
+sides_same [] es k = refl
+sides_same (q ∷ qs) es k =
+    let h = both q.unchanged (are_unchanged qs) k in
+    rw (es.0 h.0, sides_same qs es.1 h.1) refl
+
+arguments_same : (w : Shown) (c : Ctx) (f : Symbol) (qs : List Equiv) → Each (IsArgument w c f) qs → Each SameSides qs
+arguments_same w c f [] es = tt
+arguments_same w c f (q ∷ qs) es = (es.0.stands.same, arguments_same w c f qs es.1)
+
+pub cong_same : (w : Shown) (c : Ctx) (f : Symbol) (qs : List Equiv) → Each (IsArgument w c f) qs → are_unchanged qs ≡ true → (cong_made c f (said qs)).lhs ≡ (cong_made c f (said qs)).rhs
+cong_same w c f qs es k = ap (Call f) (sides_same qs (arguments_same w c f qs es) k)
+
+-- what is made then from the left call to itself
+pub cong_of_one : (w : Shown) (c : Ctx) (f : Symbol) (qs : List Equiv) (s : Sequent) → Each (IsArgument w c f) qs → are_unchanged qs ≡ true → s ≡ refl_made c Equal (Call f (lefts (said qs))) → s ≡ cong_made c f (said qs)
+cong_of_one w c f qs s es k e = e ∙ ap (λ u. record { ctx = c; mode = Equal; lhs = Call f (lefts (said qs)); rhs = u }) (cong_same w c f qs es k)
+
 -- what is handed in as arguments holds
 pub arguments_hold : (w : Shown) (c : Ctx) (f : Symbol) (qs : List Equiv) → Each (IsArgument w c f) qs → Each (ArgumentHolds (function_of w.entries) c f) (said qs)
 arguments_hold w c f [] es = tt
 arguments_hold w c f (q ∷ qs) es = (record { holds = es.0.stands.says; fits = es.0.fits }, arguments_hold w c f qs es.1)
+
+pub cong_holds : (w : Shown) → Total (function_of w.entries) → HasGround (function_of w.entries) → (c : Ctx) (f : Symbol) (qs : List Equiv) → KnownFacts (function_of w.entries) c.0
+    → is_head (function_of w.entries) f (prim_of f) (length qs) ≡ true → Each (IsArgument w c f) qs → Holds (function_of w.entries) (cong_made c f (said qs))
+cong_holds w total ground c f qs facts head es =
+    cong_stands (function_of w.entries) total ground c f (said qs) facts
+    (subst (λ n. is_head (function_of w.entries) f (prim_of f) n ≡ true) (sym (length-map qs (λ (q : Equiv). q.says))) head)
+    (arguments_hold w c f qs es)

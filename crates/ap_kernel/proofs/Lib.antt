@@ -29,3 +29,5 @@ pub mod Candidate
 pub mod Inducting
 pub mod InductFollows
 pub mod Listed
+pub mod Heads
+pub mod PlainForm

@@ -139,6 +139,9 @@ to_one_reduces D total c ts k ks h =
     let (A, ms) = models D total in
     record { start = k; goals = (ks, tt); valid = λ valid. valid_of D A ms c.0 (true_each (known D) c.0 k) (λ e. h A ms e (valid_is D A ms ts valid.0 e)) }
 
+pub kept_reduces : (D : Defs) → Total D → (c : Clause) → KnownClause D c → Follows D (to_one c c.0)
+kept_reduces D total c k = to_one_reduces D total c c.0 k k (λ A ms e h. h)
+
 pub dropped_reduces : (D : Defs) → Total D → (c : Clause) (i : ℕ) → KnownClause D c → Follows D (dropped c i)
 dropped_reduces D total c i k =
     to_one_reduces D total c (others i c.0) k (each_put (λ u. known D u ≡ true) i [] c.0 tt k) (λ A ms e h. any_others (λ u. val A u e ≢ nil) i c.0 h)

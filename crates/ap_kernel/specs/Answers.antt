@@ -1,5 +1,6 @@
 -- What each row's answer says, and what a row asks of what it is handed.
-use Rattle.std.specs.Prelude.{◌≡◌, Bool, true, false, List, [], ◌∷◌, map}
+use Rattle.std.specs.Prelude.{◌≡◌, Bool, true, false, cond, List, [], ◌∷◌, map}
+use Rattle.ap_list.specs.Lists.{all_true}
 use Rattle.ap_value.specs.declared.symbol.Symbol.{Symbol}
 use Rattle.ap_value.specs.Values.{symbol_eq}
 use Rattle.ap_term.specs.declared.term.Term.{Term, Call}
@@ -34,6 +35,10 @@ weakened a = record { ctx = a.ctx; mode = Iff; lhs = a.lhs; rhs = a.rhs }
 abbrev pub branch_made : Mode → Sequent → Sequent → Sequent → Sequent
 branch_made m test on off = record { ctx = test.ctx; mode = m; lhs = if_of test.lhs on.lhs off.lhs; rhs = if_of test.rhs on.rhs off.rhs }
 
+-- the `if` of a test's left side and two branches, and the branch of the sign, under the test's facts
+abbrev pub chosen_made : Mode → Sequent → Bool → Term → Term → Sequent
+chosen_made m test s b c = record { ctx = test.ctx; mode = m; lhs = if_of test.lhs b c; rhs = cond s b c }
+
 -- an argument of a call is replaced under equality, one of `not` under either mode
 abbrev pub ModeFits : Bool → Mode → Type 0
 ModeFits true m = Unit {0}
@@ -63,6 +68,10 @@ lefts ss = map (λ (s : Sequent). s.lhs) ss
 
 abbrev pub rights : List Sequent → List Term
 rights ss = map (λ (s : Sequent). s.rhs) ss
+
+-- of each of a list the two sides are known to be one term
+abbrev pub are_unchanged : List Equiv → Bool
+are_unchanged qs = all_true (map (λ (q : Equiv). q.unchanged) qs)
 
 -- the call of f on the left sides and the call of f on the right sides
 abbrev pub cong_made : Ctx → Symbol → List Sequent → Sequent

@@ -1,5 +1,5 @@
 -- When a sequent holds in a world: wherever its facts hold, its two sides have values that agree.
-use Rattle.std.specs.Prelude.{◌≡◌, ◌↔◌, IsTrue, Some}
+use Rattle.std.specs.Prelude.{◌≡◌, ◌↔◌, IsTrue, true, Some}
 use Rattle.ap_value.specs.Values.{V}
 use Rattle.ap_term.specs.declared.term.Term.{Term}
 use Rattle.ap_world.specs.Names.{not_name}
@@ -33,6 +33,11 @@ pub record Holds (D : Defs) (s : Sequent) : Type 0 where
   pub right : IsTrue (known D s.rhs)
   pub same : (e : Env) → FactsHold D e s.ctx.0 → SameValue D e s.mode s.lhs s.rhs
 
--- an equivalence stands in a world where what it says holds there
+-- what is known of its sides is so: they are one term
+abbrev pub SameSides : Equiv → Type 0
+SameSides q = q.unchanged ≡ true → q.says.lhs ≡ q.says.rhs
+
+-- an equivalence stands in a world where what it says holds there, and what is known of its sides is so
 pub record Stands (w : Shown) (q : Equiv) : Type 0 where
   pub says : Holds (function_of w.entries) q.says
+  pub same : SameSides q

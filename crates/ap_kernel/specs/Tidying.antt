@@ -24,6 +24,17 @@ plain_by p = cond p.1 (negated_bare (shape_of p.0) p.0) p.0
 abbrev pub plain : Term → Term
 plain u = plain_by (bare u)
 
+-- no constant and no negation
+abbrev pub is_bare : Shape Term → Bool
+is_bare (constant v) = false
+is_bare (negation a) = false
+is_bare y = true
+
+-- in plain form at sight: no negation, or the negation of what is neither a constant nor a negation
+abbrev pub is_plain : Shape Term → Bool
+is_plain (negation a) = is_bare (shape_of a)
+is_plain y = true
+
 -- the literals that count: no 'NIL, and none that stands before
 abbrev pub kept : List Term → List Term → List Term
 kept before [] = []

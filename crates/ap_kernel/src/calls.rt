@@ -1,4 +1,4 @@
-ghost use Rattle.std.specs.Prelude.{◌≡◌, IsTrue, IfOk, true, false, length, [], ◌∷◌};
+ghost use Rattle.std.specs.Prelude.{◌≡◌, ◌&&◌, IsTrue, IfOk, true, false, cond, length, [], ◌∷◌};
 ghost use Rattle.ap_list.specs.Lists.{Each};
 ghost use Rattle.ap_term.specs.declared.term.Term.TheVariants.{Call};
 ghost use Rattle.ap_world.specs.Primitives.{prim_of};
@@ -6,9 +6,11 @@ ghost use Rattle.ap_world.specs.Sound.{known, is_head};
 ghost use Rattle.ap_world.specs.World.{function_of};
 ghost use Rattle.ap_world.specs.Facts.{KnownFacts};
 ghost use Rattle.ap_world.specs.Assume.{assume};
+ghost use Rattle.ap_world.specs.Shapes.{is_constant};
 ghost use Rattle.ap_kernel.specs.Standing.{HasGround, Stands};
-ghost use Rattle.ap_kernel.specs.Answers.{if_of, branch_made, IsArgument, said, lefts, rights, cong_made};
+ghost use Rattle.ap_kernel.specs.Answers.{if_of, branch_made, chosen_made, IsArgument, said, lefts, rights, cong_made};
 
+use crate::choices::copied_if;
 use crate::constants::if_symbol;
 use crate::lists::three;
 use crate::objects::{Ctx, Equiv, Mode};
@@ -60,7 +62,8 @@ fn right_call(alloc: Global, f: &Symbol, args: &[Equiv]) -> Result<Term, NoMemor
 
 /// From a call of `f` to the call on what its arguments lead to, under equality. Each argument leads under
 /// the facts `ctx` and under equality, or, where `f` is `not`, under either mode. It copies `f`, once for each
-/// side, and the sides of the arguments, of which each copy costs a count.
+/// side, and the sides of the arguments, of which each copy costs a count. Where all arguments are unchanged
+/// the right side is a copy of the left one, at a count, and so is the answer unchanged.
 pub fn cong(
     alloc: Global,
     w: &World,
@@ -78,6 +81,10 @@ pub fn cong(
     w.is_sound();
     let ctx = ctx.share()?;
     let lhs = left_call(alloc, f, args)?;
+    if Equiv::are_unchanged(args) {
+        let answer = Equiv::of_one(alloc, ctx, Mode::Equal, lhs)?;
+        return Ok(answer);
+    }
     let rhs = right_call(alloc, f, args)?;
     Ok(Equiv::made(ctx, Mode::Equal, lhs, rhs))
 }
@@ -140,8 +147,16 @@ fn if_parts(test: Equiv, yes: Equiv, no: Equiv) -> (Ctx, IfParts, IfParts)
     (ctx, left, right)
 }
 
+/// Whether of an `if`'s parts the two sides are known to be one term. Takes no memory.
+fn are_parts_unchanged(test: &Equiv, yes: &Equiv, no: &Equiv) -> bool
+    ensures { result ≡ (test.now.unchanged && (yes.now.unchanged && no.now.unchanged)) }
+{
+    test.is_unchanged() && yes.is_unchanged() && no.is_unchanged()
+}
+
 /// From an `if` to the `if` of what its parts lead to. The branches lead under what the new test's truth
-/// and its falsehood add to the test's facts. It copies nothing.
+/// and its falsehood add to the test's facts. It copies nothing. Where all parts are unchanged, so is the
+/// answer.
 pub fn branch(
     alloc: Global,
     w: &World,
@@ -162,8 +177,43 @@ pub fn branch(
     ensures made { IfOk result (λ q. q.says ≡ branch_made mode test.says yes.says no.says) }
 {
     w.is_sound();
+    let unchanged = are_parts_unchanged(&test, &yes, &no);
     let (ctx, left, right) = if_parts(test, yes, no);
     let lhs = left.into_term(alloc)?;
     let rhs = right.into_term(alloc)?;
+    Ok(Equiv::made(ctx, mode, lhs, rhs).marked(unchanged))
+}
+
+/// The branch of a sign, lent. Takes no memory.
+fn branch_of<'a>(sign: bool, b: &'a Term, c: &'a Term) -> &'a Term
+    ensures { result.now ≡ cond sign b.now c.now }
+{
+    if sign { b } else { c }
+}
+
+/// From an `if` to the branch that the constant chooses to which its test leads: the sign is true where that
+/// isn't `nil`. It copies the test's left side and the branches, and the one that is chosen once more, at a count
+/// each.
+pub fn choose_branch(
+    alloc: Global,
+    w: &World,
+    mode: Mode,
+    test: Equiv,
+    sign: bool,
+    b: &Term,
+    c: &Term,
+) -> Result<Equiv, NoMemory>
+    requires ground { HasGround (function_of w.now.entries) }
+    requires test { Stands w.now test }
+    requires constant { IsTrue (is_constant sign test.says.rhs) }
+    requires yes { IsTrue (known (function_of w.now.entries) b.now) }
+    requires no { IsTrue (known (function_of w.now.entries) c.now) }
+    ensures stands { IfOk result (λ q. Stands w.now q) }
+    ensures made { IfOk result (λ q. q.says ≡ chosen_made mode test.says sign b.now c.now) }
+{
+    w.is_sound();
+    let ctx = test.ctx().share()?;
+    let lhs = copied_if(alloc, test.lhs(), b, c)?;
+    let rhs = copy_term(alloc, branch_of(sign, b, c))?;
     Ok(Equiv::made(ctx, mode, lhs, rhs))
 }

@@ -138,7 +138,7 @@ pub fn not_term(alloc: Global, a: Term) -> Result<Term, NoMemory>
 }
 
 /// `(if a b c)` of copies.
-fn copied_if(alloc: Global, a: &Term, b: &Term, c: &Term) -> Result<Term, NoMemory>
+pub(crate) fn copied_if(alloc: Global, a: &Term, b: &Term, c: &Term) -> Result<Term, NoMemory>
     ensures { IfOk result (λ u. u ≡ if_of a.now b.now c.now) }
 {
     let mut parts = Seq::new(alloc);

@@ -1,4 +1,4 @@
-ghost use Rattle.std.specs.Prelude.{◌≡◌, ◌<◌, IfOk, IfSome, length, slice_get, Some};
+ghost use Rattle.std.specs.Prelude.{◌≡◌, ◌<◌, IfOk, IfSome, length, slice_get, Some, false};
 ghost use Rattle.ap_world.specs.World.{function_of};
 ghost use Rattle.ap_world.specs.Facts.{KnownFacts};
 ghost use Rattle.ap_kernel.specs.Standing.{Stands};
@@ -21,7 +21,8 @@ fn fact_at(facts: &[(Term, bool)], index: usize) -> &(Term, bool)
 
 /// A fact as an equivalence.
 fn fact_equiv(alloc: Global, ctx: &Ctx, t: &Term, sign: bool) -> Result<Equiv, NoMemory>
-    ensures { IfOk result (λ q. q.says ≡ fact_made ctx.now t.now sign) }
+    ensures says { IfOk result (λ q. q.says ≡ fact_made ctx.now t.now sign) }
+    ensures unchanged { IfOk result (λ q. q.unchanged ≡ false) }
 {
     if sign {
         return Equiv::from_copy(alloc, ctx, Mode::Iff, t, t_term());

@@ -15,8 +15,9 @@
 //! | [`refl`] | a term to itself | the term, once for each side |
 //! | [`trans`] | the first left side to the last right side | nothing |
 //! | [`weaken_mode`] | the same, equality as equivalence under `iff` | nothing |
-//! | [`cong`] | a call to the call of what its arguments lead to | the function's name, for each side, and the arguments' sides |
+//! | [`cong`] | a call to the call of what its arguments lead to | the function's name, for each side, and the arguments' sides; where all are unchanged one side, and the call |
 //! | [`branch`] | an `if` to the `if` of what its parts lead to | nothing |
+//! | [`choose_branch`] | an `if` to the branch that the constant chooses to which its test leads | the parts, and the branch that is chosen once more |
 //! | [`by_fact`] | a fact's term to `'T` or `'NIL` | the fact's term |
 //! | [`by_type`] | a term to the one value that its mask leaves | the term |
 //! | [`cons_equal`] | an equation to what its sides, a fact or the parts of conses say | the equation, and the conses' parts |
@@ -27,6 +28,10 @@
 //! | [`fold`] | a call on constants to its value | nothing |
 //! | [`by_certificate`] | a call of `<` or of `equal` to `'T` or `'NIL`, by polynomials that can't all hold | the term |
 //! | [`both_not_less`] | an equation of integers to `'T`, where neither side is less | nothing |
+//!
+//! Of some equivalences it is known that their two sides are one term ([`Equiv::is_unchanged`]): [`refl`] makes
+//! them, and [`trans`], [`weaken_mode`], [`cong`] and [`branch`] where all that they are handed are such. So who
+//! rewrites a term needn't build again what didn't change.
 //!
 //! An equivalence owns its sides, so that it can be taken apart and its terms moved into the next one. A row
 //! that is lent a term copies it, and a copy shares the arguments and the names: it costs a count for each,
@@ -40,6 +45,7 @@
 //! | row | leads from a clause to | what it copies |
 //! |---|---|---|
 //! | [`rewrite_literal`] | the clause with a literal as an equivalence leads from it | the other literals |
+//! | [`keep`] | itself | the literals |
 //! | [`drop_literal`] | the clause without a literal | the other literals |
 //! | [`chain`] | what the clauses of a reduction are reduced to in their turn | nothing |
 //! | [`split_if`] | its two cases, for an `if` within a literal | the literals, for each case |
@@ -100,38 +106,104 @@ mod swapping;
 mod tidying;
 mod types;
 
-pub use ap_list::{NoMemory, Seq, Shared};
-pub use ap_term::{Clause, Subst, Term, is_same, is_symbol, pairs_of, subst, subst_all};
-pub use ap_value::{Symbol, Value};
-pub use ap_world::{Mask, World};
-pub use applying::{apply_theorem, has_part};
-pub use assuming::{all_false, assume, assumed_facts_hold, is_constant, others_false};
-pub use calls::{branch, cong, if_term};
+pub use ap_list::NoMemory;
+pub use ap_list::Seq;
+pub use ap_list::Shared;
+pub use ap_term::Clause;
+pub use ap_term::Subst;
+pub use ap_term::Term;
+pub use ap_term::is_same;
+pub use ap_term::is_symbol;
+pub use ap_term::pairs_of;
+pub use ap_term::subst;
+pub use ap_term::subst_all;
+pub use ap_value::Symbol;
+pub use ap_value::Value;
+pub use ap_world::Mask;
+pub use ap_world::World;
+pub use applying::apply_theorem;
+pub use applying::has_part;
+pub use assuming::all_false;
+pub use assuming::assume;
+pub use assuming::assumed_facts_hold;
+pub use assuming::is_constant;
+pub use assuming::others_false;
+pub use calls::branch;
+pub use calls::choose_branch;
+pub use calls::cong;
+pub use calls::if_term;
 pub use chaining::chain;
-pub use choices::{bare_test, if_shape, is_choice, not_term};
-pub use constants::{
-    equal_symbol, if_symbol, is_acl2, is_nil, is_nil_term, is_t, nil_term, not_symbol, t_term,
-};
+pub use choices::bare_test;
+pub use choices::if_shape;
+pub use choices::is_choice;
+pub use choices::not_term;
+pub use constants::equal_symbol;
+pub use constants::if_symbol;
+pub use constants::is_acl2;
+pub use constants::is_nil;
+pub use constants::is_nil_term;
+pub use constants::is_t;
+pub use constants::nil_term;
+pub use constants::not_symbol;
+pub use constants::t_term;
 pub use eliminating::eliminate;
-pub use equations::{cons_equal, equal_term, equation_leads, truth_term};
+pub use equations::cons_equal;
+pub use equations::equal_term;
+pub use equations::equation_leads;
+pub use equations::truth_term;
 pub use facts::by_fact;
 pub use fertilising::fertilise;
 pub use generalising::generalise;
-pub use hints::{cases, use_fact};
-pub use induction::{induct, variable_of};
-pub use linear::{LinearOracle, both_not_less, by_certificate, is_comparison};
-pub use literals::{drop_literal, put_at, rewrite_literal};
+pub use hints::cases;
+pub use hints::use_fact;
+pub use induction::induct;
+pub use induction::variable_of;
+pub use linear::LinearOracle;
+pub use linear::both_not_less;
+pub use linear::by_certificate;
+pub use linear::is_comparison;
+pub use literals::drop_literal;
+pub use literals::keep;
+pub use literals::put_at;
+pub use literals::rewrite_literal;
 pub use negations::double_not;
-pub use objects::{Ctx, Equiv, Mode, Sequent};
-pub use opening::{can_open, fold, is_constant_call, open_def};
-pub use parts::{conclusion, conclusion_part, hypotheses, is_iff};
-pub use places::{is_led, mentions};
-pub use plain::{refl, trans, weaken_mode};
-pub use reductions::{Inference, Reduction};
+pub use objects::Ctx;
+pub use objects::Equiv;
+pub use objects::Mode;
+pub use objects::Sequent;
+pub use opening::can_open;
+pub use opening::fold;
+pub use opening::is_constant_call;
+pub use opening::open_def;
+pub use parts::conclusion;
+pub use parts::conclusion_part;
+pub use parts::hypotheses;
+pub use parts::is_iff;
+pub use places::is_led;
+pub use places::mentions;
+pub use plain::refl;
+pub use plain::trans;
+pub use plain::weaken_mode;
+pub use reductions::Inference;
+pub use reductions::Reduction;
 pub use relieving::are_relieved;
-pub use shapes::{Head, ShapeRef, head_of, is_equal, is_if, is_implies, is_not, shape_of};
-pub use solving::{is_solvable, occurs_in, use_equality};
-pub use splits::{is_choice_in, negated, split_if};
-pub use swapping::{contains, some_contains};
-pub use tidying::{is_among, tidy};
-pub use types::{TypeOracle, by_type};
+pub use shapes::Head;
+pub use shapes::ShapeRef;
+pub use shapes::head_of;
+pub use shapes::is_equal;
+pub use shapes::is_if;
+pub use shapes::is_implies;
+pub use shapes::is_not;
+pub use shapes::shape_of;
+pub use solving::is_solvable;
+pub use solving::occurs_in;
+pub use solving::use_equality;
+pub use splits::is_choice_in;
+pub use splits::negated;
+pub use splits::split_if;
+pub use swapping::contains;
+pub use swapping::some_contains;
+pub use tidying::is_among;
+pub use tidying::tidy;
+pub use types::TypeOracle;
+pub use types::by_type;

@@ -1,4 +1,4 @@
-ghost use Rattle.std.specs.Prelude.{◌≡◌, IsTrue, IfOk, IfSome};
+ghost use Rattle.std.specs.Prelude.{◌≡◌, IsTrue, IfOk, IfSome, false};
 ghost use Rattle.ap_term.specs.declared.term.Term.{Term, Call};
 ghost use Rattle.ap_world.specs.Names.{equal_name};
 ghost use Rattle.ap_world.specs.Sound.{known};
@@ -98,7 +98,8 @@ fn equated(alloc: Global, call: Term) -> Result<Term, NoMemory>
 /// From that equation to `'T`.
 fn equal_equiv(alloc: Global, ctx: &Ctx, call: Term) -> Result<Equiv, NoMemory>
     requires { (a : Term) × (b : Term) × (call ≡ less_of a b) }
-    ensures { IfOk result (λ q. (a b : Term) → call ≡ less_of a b → q.says ≡ equal_made ctx.now a b) }
+    ensures says { IfOk result (λ q. (a b : Term) → call ≡ less_of a b → q.says ≡ equal_made ctx.now a b) }
+    ensures unchanged { IfOk result (λ q. q.unchanged ≡ false) }
 {
     let ctx = ctx.share()?;
     let lhs = equated(alloc, call)?;

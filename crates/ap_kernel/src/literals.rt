@@ -36,6 +36,18 @@ pub(crate) fn to_one(alloc: Global, from: Clause, to: Seq<Term>) -> Result<Reduc
     Ok(Reduction::made(from, goals))
 }
 
+/// From a clause to itself. It copies the literals, since the reduction owns both clauses.
+pub fn keep(alloc: Global, w: &World, c: Clause) -> Result<Reduction, NoMemory>
+    requires clause { KnownClause (function_of w.now.entries) c }
+    ensures stands { IfOk result (λ r. Reduces w.now r) }
+    ensures made { IfOk result (λ r. r.says ≡ record { from = c; to = c ∷ [] }) }
+{
+    w.is_sound();
+    let literals = copy_terms(alloc, c.0.as_slice())?;
+    let answer = to_one(alloc, c, literals)?;
+    Ok(answer)
+}
+
 /// From a clause to the clause without the literal at a place. It copies the other literals, since the
 /// reduction owns both clauses.
 pub fn drop_literal(

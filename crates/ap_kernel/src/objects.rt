@@ -1,4 +1,5 @@
-ghost use Rattle.std.specs.Prelude.{◌≡◌, IfOk};
+ghost use Rattle.std.specs.Prelude.{◌≡◌, IfOk, true, false};
+ghost use Rattle.ap_kernel.specs.Answers.{are_unchanged};
 
 use ap_list::{NoMemory, Seq, Shared};
 use ap_term::{Term, copy_term};
@@ -27,15 +28,20 @@ pub struct Sequent {
     pub rhs: Term,
 }
 
-/// A sequent that holds. The field is private, so that the kernel's calls alone make one.
+/// A sequent that holds. The fields are private, so that the kernel's calls alone make one.
 pub struct Equiv {
     says: Sequent,
+    /// Whether the two sides are known to be one term; where it is false they may still be.
+    unchanged: bool,
 }
 
 // One call wherever an equivalence is let go, whatever its sides are.
 impl Drop for Equiv {
     fn drop(self) {
-        let Equiv { says: _says } = self;
+        let Equiv {
+            says: _says,
+            unchanged: _,
+        } = self;
     }
 }
 
@@ -63,9 +69,11 @@ impl Ctx {
 }
 
 impl Equiv {
-    /// Each row makes its answer by this call, having shown that it stands.
+    /// Each row makes its answer by this call, having shown that it stands. Of the sides it isn't known that
+    /// they are one term.
     pub(crate) fn made(ctx: Ctx, mode: Mode, lhs: Term, rhs: Term) -> Equiv
-        ensures { result.says ≡ record { ctx = ctx; mode = mode; lhs = lhs; rhs = rhs } }
+        ensures says { result.says ≡ record { ctx = ctx; mode = mode; lhs = lhs; rhs = rhs } }
+        ensures unchanged { result.unchanged ≡ false }
     {
         Equiv {
             says: Sequent {
@@ -74,7 +82,27 @@ impl Equiv {
                 lhs,
                 rhs,
             },
+            unchanged: false,
         }
+    }
+
+    /// The same from a term to itself, which is known of it: one side is moved, the other a copy.
+    pub(crate) fn of_one(alloc: Global, ctx: Ctx, mode: Mode, t: Term) -> Result<Equiv, NoMemory>
+        ensures says { IfOk result (λ q. q.says ≡ record { ctx = ctx; mode = mode; lhs = t; rhs = t }) }
+        ensures unchanged { IfOk result (λ q. q.unchanged ≡ true) }
+    {
+        let rhs = copy_term(alloc, &t)?;
+        let answer = Equiv::made(ctx, mode, t, rhs).marked(true);
+        Ok(answer)
+    }
+
+    /// The same, and whether its sides are known to be one term.
+    pub(crate) fn marked(self, unchanged: bool) -> Equiv
+        ensures says { result.says ≡ self.says }
+        ensures unchanged { result.unchanged ≡ unchanged }
+    {
+        let Equiv { says, unchanged: _ } = self;
+        Equiv { says, unchanged }
     }
 
     /// The same from a copy of a term, under facts that are shared.
@@ -85,7 +113,8 @@ impl Equiv {
         t: &Term,
         rhs: Term,
     ) -> Result<Equiv, NoMemory>
-        ensures { IfOk result (λ q. q.says ≡ record { ctx = ctx.now; mode = mode; lhs = t.now; rhs = rhs }) }
+        ensures says { IfOk result (λ q. q.says ≡ record { ctx = ctx.now; mode = mode; lhs = t.now; rhs = rhs }) }
+        ensures unchanged { IfOk result (λ q. q.unchanged ≡ false) }
     {
         let ctx = ctx.share()?;
         let lhs = copy_term(alloc, t)?;
@@ -96,7 +125,7 @@ impl Equiv {
     pub fn into_sequent(self) -> Sequent
         ensures { result ≡ self.says }
     {
-        let Equiv { says } = self;
+        let Equiv { says, unchanged: _ } = self;
         says
     }
 
@@ -118,6 +147,25 @@ impl Equiv {
         ensures { result.now ≡ self.now.says }
     {
         &self.says
+    }
+
+    /// Whether the two sides are known to be one term. Takes no memory.
+    pub fn is_unchanged(&self) -> bool
+        ensures { result ≡ self.now.unchanged }
+    {
+        self.unchanged
+    }
+
+    /// Whether that is known of each of a list. Takes no memory.
+    pub fn are_unchanged(list: &[Equiv]) -> bool
+        ensures { result ≡ are_unchanged list.now }
+    {
+        for q in list {
+            if !q.is_unchanged() {
+                return false;
+            }
+        }
+        true
     }
 
     /// The facts. Takes no memory.

@@ -1,4 +1,4 @@
-ghost use Rattle.std.specs.Prelude.{◌≡◌, IsTrue, IfOk, IsOkAnd};
+ghost use Rattle.std.specs.Prelude.{◌≡◌, ◌&&◌, IsTrue, IfOk, IsOkAnd};
 ghost use Rattle.ap_world.specs.Sound.{known};
 ghost use Rattle.ap_world.specs.World.{function_of};
 ghost use Rattle.ap_world.specs.Facts.{KnownFacts};
@@ -20,9 +20,17 @@ pub fn refl(alloc: Global, w: &World, ctx: &Ctx, mode: Mode, t: &Term) -> Result
     ensures made { IfOk result (λ q. q.says ≡ refl_made ctx.now mode t.now) }
 {
     w.is_sound();
-    let rhs = copy_term(alloc, t)?;
-    let answer = Equiv::from_copy(alloc, ctx, mode, t, rhs)?;
+    let ctx = ctx.share()?;
+    let side = copy_term(alloc, t)?;
+    let answer = Equiv::of_one(alloc, ctx, mode, side)?;
     Ok(answer)
+}
+
+/// Whether of both the two sides are known to be one term. Takes no memory.
+fn are_both_unchanged(a: &Equiv, b: &Equiv) -> bool
+    ensures { result ≡ (a.now.unchanged && b.now.unchanged) }
+{
+    a.is_unchanged() && b.is_unchanged()
 }
 
 /// From the left side of the first to the right side of the second, where the first leads to what the
@@ -37,9 +45,10 @@ pub fn trans(alloc: Global, w: &World, a: Equiv, b: Equiv) -> Result<Equiv, NoMe
     ensures made { IsOkAnd result (λ q. q.says ≡ trans_made a.says b.says) }
 {
     w.is_sound();
+    let unchanged = are_both_unchanged(&a, &b);
     let (ctx, mode, lhs, _) = a.into_parts();
     let (_, _, _, rhs) = b.into_parts();
-    Ok(Equiv::made(ctx, mode, lhs, rhs))
+    Ok(Equiv::made(ctx, mode, lhs, rhs).marked(unchanged))
 }
 
 /// Equality as equivalence under `iff`. It copies nothing, and always has an answer.
@@ -50,6 +59,7 @@ pub fn weaken_mode(alloc: Global, w: &World, a: Equiv) -> Result<Equiv, NoMemory
     ensures made { IsOkAnd result (λ q. q.says ≡ weakened a.says) }
 {
     w.is_sound();
+    let unchanged = a.is_unchanged();
     let (ctx, _, lhs, rhs) = a.into_parts();
-    Ok(Equiv::made(ctx, Mode::Iff, lhs, rhs))
+    Ok(Equiv::made(ctx, Mode::Iff, lhs, rhs).marked(unchanged))
 }

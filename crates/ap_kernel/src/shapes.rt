@@ -1,7 +1,7 @@
 ghost use Rattle.std.specs.Prelude.{◌≡◌, IfOk, [], ◌∷◌};
 ghost use Rattle.ap_value.specs.Values.{acl2, symbol_eq};
 ghost use Rattle.ap_world.specs.Names.{if_name, not_name, equal_name, cons_name, implies_name};
-ghost use Rattle.ap_world.specs.Shapes.{head_of, shape_of, constant_says};
+ghost use Rattle.ap_world.specs.Shapes.{head_of, call_shape, shape_of};
 ghost use Rattle.ap_kernel.specs.Shapes.{seen, seen_head};
 
 use ap_term::Term;
@@ -88,18 +88,56 @@ pub fn head_of(symbol: &Symbol) -> Head
     Head::Other
 }
 
-/// A term by what its head is, its parts lent. Takes no memory.
+/// A call of one argument.
+#[tactic(auto, using(crate::proofs::Heads::one_negation, crate::proofs::Heads::one_other))]
+fn of_one<'a>(f: &Symbol, a: &'a Term) -> ShapeRef<'a>
+    ensures { seen result ≡ call_shape (head_of f.now) (a.now ∷ []) }
+{
+    if is_not(f) {
+        ShapeRef::Not(a)
+    } else {
+        ShapeRef::Other
+    }
+}
+
+/// A call of two arguments.
+#[tactic(auto, using(crate::proofs::Heads::two_equation, crate::proofs::Heads::two_pair, crate::proofs::Heads::two_other))]
+fn of_two<'a>(f: &Symbol, a: &'a Term, b: &'a Term) -> ShapeRef<'a>
+    ensures { seen result ≡ call_shape (head_of f.now) (a.now ∷ b.now ∷ []) }
+{
+    if is_equal(f) {
+        ShapeRef::Equal(a, b)
+    } else if is_cons(f) {
+        ShapeRef::Cons(a, b)
+    } else {
+        ShapeRef::Other
+    }
+}
+
+/// A call of three arguments.
+#[tactic(auto, using(crate::proofs::Heads::three_choice, crate::proofs::Heads::three_other))]
+fn of_three<'a>(f: &Symbol, a: &'a Term, b: &'a Term, c: &'a Term) -> ShapeRef<'a>
+    ensures { seen result ≡ call_shape (head_of f.now) (a.now ∷ b.now ∷ c.now ∷ []) }
+{
+    if is_if(f) {
+        ShapeRef::If(a, b, c)
+    } else {
+        ShapeRef::Other
+    }
+}
+
+/// A term by what its head is, its parts lent: only the heads that take so many arguments are looked for. Takes no
+/// memory.
 pub fn shape_of(t: &Term) -> ShapeRef<'_>
     ensures { seen result ≡ shape_of t.now }
 {
     match t {
         Term::Var(_) => ShapeRef::Other,
         Term::Quote(v) => ShapeRef::Constant(v),
-        Term::Call(f, ts) => match (head_of(f), ts.as_slice()) {
-            (Head::If, [a, b, c]) => ShapeRef::If(a, b, c),
-            (Head::Not, [a]) => ShapeRef::Not(a),
-            (Head::Equal, [a, b]) => ShapeRef::Equal(a, b),
-            (Head::Cons, [a, b]) => ShapeRef::Cons(a, b),
+        Term::Call(f, ts) => match ts.as_slice() {
+            [a] => of_one(f, a),
+            [a, b] => of_two(f, a, b),
+            [a, b, c] => of_three(f, a, b, c),
             _ => ShapeRef::Other,
         },
     }

@@ -5,7 +5,7 @@ ghost use Rattle.ap_world.specs.World.{function_of};
 ghost use Rattle.ap_world.specs.Shapes.{shape_of};
 ghost use Rattle.ap_kernel.specs.Standing.{HasGround};
 ghost use Rattle.ap_kernel.specs.Reductions.{KnownClause, Reduces};
-ghost use Rattle.ap_kernel.specs.Tidying.{negated_bare, plain, tidied, is_opposed, decides, holds_by_itself, tidy_goals, tidy_made};
+ghost use Rattle.ap_kernel.specs.Tidying.{negated_bare, is_bare, is_plain, plain, tidied, is_opposed, decides, holds_by_itself, tidy_goals, tidy_made};
 
 use crate::assuming::is_constant;
 use crate::choices::{bare, not_term};
@@ -28,10 +28,34 @@ fn negated_bare(alloc: Global, t: &Term) -> Result<Term, NoMemory>
     }
 }
 
+/// Whether a term is neither a constant nor a negation. Takes no memory.
+fn is_bare(t: &Term) -> bool
+    ensures { result ≡ is_bare (shape_of t.now) }
+{
+    match shape_of(t) {
+        ShapeRef::Constant(_) | ShapeRef::Not(_) => false,
+        _ => true,
+    }
+}
+
+/// Whether a literal is in plain form at sight. Takes no memory.
+fn is_plain(t: &Term) -> bool
+    ensures { result ≡ is_plain (shape_of t.now) }
+{
+    match shape_of(t) {
+        ShapeRef::Not(a) => is_bare(a),
+        _ => true,
+    }
+}
+
 /// A literal with `(not (not a))` taken for `a`, and the negation of a constant for its constant.
+#[tactic(auto, using(crate::proofs::PlainForm::plain_is))]
 fn plain(alloc: Global, t: &Term) -> Result<Term, NoMemory>
     ensures { IfOk result (λ u. u ≡ plain t.now) }
 {
+    if is_plain(t) {
+        return copy_term(alloc, t);
+    }
     let (term, odd) = bare(t);
     if odd {
         negated_bare(alloc, term)

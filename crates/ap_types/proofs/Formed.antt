@@ -25,6 +25,14 @@ item_size [] i u l h = absurd (omega arith)
 item_size (t ∷ ts) zero u l h = rw h (omega arith)
 item_size (t ∷ ts) (suc i) u l h = let le = item_size ts i u (omega arith) h in omega arith
 
+no_parts_one : {A : Type 0} (o : Option Prim) (a : A) → if_parts o (a ∷ []) ≡ None
+no_parts_one (Some If) a = refl
+no_parts_one o a = refl
+
+no_parts_two : {A : Type 0} (o : Option Prim) (a b : A) → if_parts o (a ∷ b ∷ []) ≡ None
+no_parts_two (Some If) a b = refl
+no_parts_two o a b = refl
+
 module _ (K : Symbol → ℕ) where
   abbrev pub typed : Term → Term × (Facts → ℕ)
   typed u = (u, types_by K u)
@@ -73,6 +81,14 @@ module _ (K : Symbol → ℕ) where
       ap (split_types K f o (map typed ts) fs) (parts_none o ts h)
       ∙ ap (λ us. call_types K f o us (map (λ p. p.1 fs) (map typed ts))) (firsts ts)
       ∙ ap (call_types K f o ts) (seconds ts fs)
+
+  -- a call of one argument or of two isn't such an `if`
+  pub head_one : (f : Symbol) (o : Option Prim) (a : Term) (fs : Facts) → head_types K f o (map typed (a ∷ [])) fs ≡ call_types K f o (a ∷ []) (types_by K a fs ∷ [])
+  head_one f o a fs = head_other f o (a ∷ []) fs (no_parts_one o a)
+
+  pub head_two : (f : Symbol) (o : Option Prim) (a b : Term) (fs : Facts)
+      → head_types K f o (map typed (a ∷ b ∷ [])) fs ≡ call_types K f o (a ∷ b ∷ []) (types_by K a fs ∷ types_by K b fs ∷ [])
+  head_two f o a b fs = head_other f o (a ∷ b ∷ []) fs (no_parts_two o a b)
 
   -- a call's types, cut by the facts on it
   pub call_cut : {E : Type 0} (r : Result ℕ E) (u : Term) (f : Symbol) (ts : List Term) (fs : Facts) → u ≡ Call f ts

@@ -15,7 +15,7 @@ use Rattle.ap_term.specs.Equal.{term_eq}
 use Rattle.ap_term.proofs.Equals.{term_eq-true, term_eq-same}
 use Rattle.ap_term.proofs.Induction.{fold_var, fold_quote, fold_call}
 use Rattle.ap_world.specs.declared.primitive.Primitive.{Primitive as Prim}
-use Rattle.ap_world.specs.declared.primitive.Primitive.TheVariants.{If, Equal, Less, Coerce}
+use Rattle.ap_world.specs.declared.primitive.Primitive.TheVariants.{Equal, Less, Coerce}
 use Rattle.ap_world.specs.Names.{if_name, not_name, list_name}
 use Rattle.ap_world.specs.Primitives.{symbol_value, prim_of}
 use Rattle.ap_world.specs.Types.{nil_bit, proper_bit, string_bit, positive_bit, negative_bit}
@@ -29,7 +29,7 @@ use Rattle.ap_world.specs.Typing.{any_empty, if_parts, chosen_types, two_types, 
 use Rattle.ap_world.proofs.Equations.{val_of_int, val_of_sym, prim_of_if}
 use Rattle.ap_world.proofs.Shaped.{HeadSays, head_says, shape_call}
 use Rattle.ap_world.proofs.Parts.{assumed_whole}
-use Rattle.ap_types.proofs.Formed.{types_var, types_quote, types_call, head_if, head_other}
+use Rattle.ap_types.proofs.Formed.{types_var, types_quote, types_call, head_if, head_one, head_two}
 
 pub data Sketch : Type 0 where
   variable : Symbol → Sketch
@@ -290,14 +290,6 @@ coerced_is (one f a) = ap coerce_by (shape_call f (term a ∷ [])) ∙ no_coerce
 coerced_is (two f a b) = ap coerce_by (shape_call f (term a ∷ term b ∷ [])) ∙ no_coerce (head_of f) (term a ∷ term b ∷ [])
 coerced_is (choose a b c) = ap coerce_by (shape_call if_name (term a ∷ term b ∷ term c ∷ [])) ∙ no_coerce (head_of if_name) (term a ∷ term b ∷ term c ∷ [])
 
-no_choice_one : {A : Type 0} (o : Option Prim) (a : A) → if_parts o (a ∷ []) ≡ None
-no_choice_one (Some If) a = refl
-no_choice_one o a = refl
-
-no_choice_two : {A : Type 0} (o : Option Prim) (a b : A) → if_parts o (a ∷ b ∷ []) ≡ None
-no_choice_two (Some If) a b = refl
-no_choice_two o a b = refl
-
 module _ (K : Symbol → ℕ) where
   abbrev pair_types : Symbol → Option Prim → Sketch → ℕ → ℕ → ℕ
   pair_types f (Some Coerce) b m n = coerced b
@@ -328,13 +320,13 @@ module _ (K : Symbol → ℕ) where
   types_are (one f a) ms k =
       types_call K f (term a ∷ []) (facts ms)
       ∙ ap (cut (facts ms) (term (one f a)))
-      (head_other K f (prim_of f) (term a ∷ []) (facts ms) (no_choice_one (prim_of f) (term a)) ∙ ap (λ m. call_types K f (prim_of f) (term a ∷ []) (m ∷ [])) (types_are a ms k))
+      (head_one K f (prim_of f) (term a) (facts ms) ∙ ap (λ m. call_types K f (prim_of f) (term a ∷ []) (m ∷ [])) (types_are a ms k))
       ∙ cut_is ms (one f a) (call_types K f (prim_of f) [] (sketch_types a ms ∷ []))
   types_are (two f a b) ms k =
       let l = both (tests_plainly a) (tests_plainly b) k in
       types_call K f (term a ∷ term b ∷ []) (facts ms)
       ∙ ap (cut (facts ms) (term (two f a b)))
-      (head_other K f (prim_of f) (term a ∷ term b ∷ []) (facts ms) (no_choice_two (prim_of f) (term a) (term b))
+      (head_two K f (prim_of f) (term a) (term b) (facts ms)
       ∙ ap (λ m. call_types K f (prim_of f) (term a ∷ term b ∷ []) (m ∷ types_by K (term b) (facts ms) ∷ [])) (types_are a ms l.0)
       ∙ ap (λ n. call_types K f (prim_of f) (term a ∷ term b ∷ []) (sketch_types a ms ∷ n ∷ [])) (types_are b ms l.1)
       ∙ ap (λ n. cond (any_empty (sketch_types a ms ∷ sketch_types b ms ∷ [])) 0 n) (pair_types_are f (prim_of f) a b (sketch_types a ms) (sketch_types b ms)))

@@ -1,3 +1,4 @@
 pub mod Scopes
 pub mod Settings
 pub mod Laws
+pub mod Sides

@@ -1,14 +1,18 @@
 ghost use Rattle.std.specs.Prelude.{◌≡◌};
+ghost use Rattle.ap_value.specs.Values.{val_of};
 ghost use Rattle.ap_term.specs.declared.term.Term.{out-Term};
+ghost use Rattle.ap_term.specs.Equal.{term_eq};
 ghost use Rattle.ap_world.specs.Primitives.{prim_of};
 ghost use Rattle.ap_world.specs.Shapes.{shape_of};
-ghost use Rattle.ap_world.specs.Narrowing.{signed, by_itself, by_recogniser, by_kind, by_constant, by_equation, is_zero, by_bound, by_pair, by_parts, leaves, cut};
+ghost use Rattle.ap_world.specs.Narrowing.{signed, by_itself, by_recogniser, by_kind, by_pair, by_parts, leaves, cut};
+ghost use Rattle.ap_types.specs.Sides.{by_value, by_side};
 
 use crate::constants::{is_zero_value, kind_of};
 use crate::kinds::{ALL, NIL, bit, without};
 use crate::rows::{is_single, recognised};
 use ap_kernel::is_same;
 use ap_term::Term;
+use ap_value::{Symbol, Value};
 use ap_world::{Kind, Primitive, primitive_of};
 
 /// The types where the sign is true, the others where it is false.
@@ -52,57 +56,47 @@ fn by_kind(sign: bool, kind: Kind) -> u16
     ALL
 }
 
-/// What an equation with this term leaves.
-fn by_constant(sign: bool, t: &Term) -> u16
-    ensures { result ≡ by_constant sign (shape_of t.now) }
+/// What an equation or an inequality with a value leaves of its other side: an inequality with 0 leaves this mask or
+/// takes it away.
+fn by_value(sign: bool, head: Option<Primitive>, mask: u16, v: &Value) -> u16
+    ensures { result ≡ by_value sign head mask (val_of v.now) }
 {
-    match t {
-        Term::Quote(v) => by_kind(sign, kind_of(v)),
+    match head {
+        Some(Primitive::Equal) => by_kind(sign, kind_of(v)),
+        Some(Primitive::Less) => {
+            if is_zero_value(v) {
+                signed(sign, mask)
+            } else {
+                ALL
+            }
+        }
         _ => ALL,
     }
 }
 
-/// What an equation of two terms leaves of the first.
-fn by_equation(t: &Term, sign: bool, a: &Term, b: &Term) -> u16
-    ensures { result ≡ by_equation t.now sign a.now b.now }
+/// What an equation or an inequality, of which `a` is one side and `b` the other, leaves of a term that is `a`, where `b`
+/// is a constant. Whether it is one costs least, and is asked first; the head costs most, and is asked last.
+fn by_side(t: &Term, sign: bool, f: &Symbol, mask: u16, a: &Term, b: &Term) -> u16
+    ensures { result ≡ by_side (term_eq a.now t.now) sign (prim_of f.now) mask (shape_of b.now) }
 {
-    if is_same(a, t) {
-        by_constant(sign, b)
-    } else {
-        ALL
-    }
-}
-
-/// Whether a term is the constant 0.
-fn is_zero(t: &Term) -> bool
-    ensures { result ≡ is_zero (shape_of t.now) }
-{
-    match t {
-        Term::Quote(v) => is_zero_value(v),
-        _ => false,
-    }
-}
-
-/// What an inequality of a term with 0 leaves of it.
-fn by_bound(t: &Term, sign: bool, mask: u16, a: &Term, b: &Term) -> u16
-    ensures { result ≡ by_bound t.now sign mask a.now b.now }
-{
-    if is_same(a, t) && is_zero(b) {
-        signed(sign, mask)
-    } else {
-        ALL
+    match b {
+        Term::Quote(v) => {
+            if is_same(a, t) {
+                by_value(sign, primitive_of(f), mask, v)
+            } else {
+                ALL
+            }
+        }
+        _ => ALL,
     }
 }
 
 /// What an equation or an inequality leaves.
-fn by_pair(t: &Term, sign: bool, head: Option<Primitive>, a: &Term, b: &Term) -> u16
-    ensures { result ≡ by_pair t.now sign head a.now b.now }
+#[tactic(auto, using(crate::proofs::Sides::by_both))]
+fn by_pair(t: &Term, sign: bool, f: &Symbol, a: &Term, b: &Term) -> u16
+    ensures { result ≡ by_pair t.now sign (prim_of f.now) a.now b.now }
 {
-    match head {
-        Some(Primitive::Equal) => by_equation(t, sign, a, b) & by_equation(t, sign, b, a),
-        Some(Primitive::Less) => by_bound(t, sign, 4, a, b) & by_bound(t, sign, 2, b, a),
-        _ => ALL,
-    }
+    by_side(t, sign, f, 4, a, b) & by_side(t, sign, f, 2, b, a)
 }
 
 /// What a fact on a part of which the term is leaves.
@@ -118,13 +112,7 @@ fn by_parts(t: &Term, sign: bool, fact: &Term) -> u16
                     ALL
                 }
             }
-            [a, b] => {
-                if is_same(a, t) || is_same(b, t) {
-                    by_pair(t, sign, primitive_of(f), a, b)
-                } else {
-                    ALL
-                }
-            }
+            [a, b] => by_pair(t, sign, f, a, b),
             _ => ALL,
         },
         _ => ALL,

@@ -31,10 +31,10 @@ pub fn types_of(alloc: Global, w: &World, ctx: &Ctx, t: &Term) -> Result<Mask, N
     let setting = Setting {
         alloc,
         w,
+        base: ctx.facts(),
         own: None,
     };
     let mut scopes = Seq::new(alloc);
-    scopes.push(ctx.share()?)?;
     Ok(Mask(types_at(&setting, &mut scopes, t)?))
 }
 

@@ -1,4 +1,5 @@
 ghost use Rattle.std.specs.Prelude.{◌≡◌, length, take, OnOk};
+ghost use Rattle.ap_world.specs.Facts.{Facts};
 ghost use Rattle.ap_world.specs.Assume.{assume};
 ghost use Rattle.ap_world.specs.Narrowing.{cut};
 ghost use Rattle.ap_types.specs.Scopes.{in_scope};
@@ -9,11 +10,11 @@ use ap_list::{NoMemory, Seq};
 use ap_term::Term;
 use std::alloc::Global;
 
-/// A mask of a term cut by the facts of each context.
-pub(crate) fn cut_by_each(scopes: &[Ctx], t: &Term, mask: u16) -> u16
-    ensures { result ≡ cut (in_scope scopes.now) t.now mask }
+/// A mask of a term cut by the facts that it is asked under, and by those of each context.
+pub(crate) fn cut_by_each(base: &[(Term, bool)], scopes: &[Ctx], t: &Term, mask: u16) -> u16
+    ensures { result ≡ cut (in_scope base.now scopes.now) t.now mask }
 {
-    let mut out = mask;
+    let mut out = cut(base, t, mask);
     for scope in scopes {
         out = cut(scope.facts(), t, out);
     }
@@ -28,7 +29,7 @@ pub(crate) fn enter(
     test: &Term,
     sign: bool,
 ) -> Result<(), NoMemory>
-    ensures facts { OnOk result (in_scope scopes.new ≡ assume (in_scope scopes.old) test.now sign) }
+    ensures facts { OnOk result ((fs : Facts) → in_scope fs scopes.new ≡ assume (in_scope fs scopes.old) test.now sign) }
     ensures kept { OnOk result (take (length scopes.old) scopes.new ≡ scopes.old) }
 {
     let nothing = Ctx::new(alloc, Seq::new(alloc))?;

@@ -1,10 +1,10 @@
-ghost use Rattle.std.specs.Prelude.{◌≡◌, true, false, map, IfOk, OnOk};
+ghost use Rattle.std.specs.Prelude.{◌≡◌, true, false, [], ◌∷◌, map, IfOk, OnOk};
 ghost use Rattle.std.specs.Option.{option_map};
 ghost use Rattle.ap_world.specs.Primitives.{prim_of};
 ghost use Rattle.ap_world.specs.Assume.{assume};
 ghost use Rattle.ap_world.specs.Kinds.{if_so};
 ghost use Rattle.ap_world.specs.Narrowing.{cut};
-ghost use Rattle.ap_world.specs.Typing.{if_parts, head_types, types_by, chosen_types};
+ghost use Rattle.ap_world.specs.Typing.{if_parts, call_types, head_types, types_by, chosen_types};
 ghost use Rattle.ap_types.specs.Scopes.{in_scope};
 ghost use Rattle.ap_types.specs.Settings.{types_in};
 
@@ -18,24 +18,25 @@ use ap_term::Term;
 use ap_value::Symbol;
 use ap_world::{Primitive, primitive_of};
 
-/// The types of a term under the facts of the contexts. On the way contexts are added and taken away again.
+/// The types of a term under the setting's facts and those of the contexts. On the way contexts are added and taken
+/// away again.
 #[cycle(typing)]
 pub(crate) fn types_at(
     s: &Setting<'_, '_>,
     scopes: &mut Seq<Ctx>,
     t: &Term,
 ) -> Result<u16, NoMemory>
-    ensures is { IfOk result (λ m. m ≡ types_by (types_in s.now.w.now s.now.own) t.now (in_scope scopes.old)) }
+    ensures is { IfOk result (λ m. m ≡ types_by (types_in s.now.w.now s.now.own) t.now (in_scope s.now.base.now scopes.old)) }
     ensures scopes { OnOk result (scopes.new ≡ scopes.old) }
 {
     let mask = form_types(s, scopes, t)?;
-    Ok(cut_by_each(scopes.as_slice(), t, mask))
+    Ok(cut_by_each(s.base, scopes.as_slice(), t, mask))
 }
 
 /// The types of a term by its form; the facts on the term itself cut them.
 #[cycle(typing)]
 fn form_types(s: &Setting<'_, '_>, scopes: &mut Seq<Ctx>, t: &Term) -> Result<u16, NoMemory>
-    ensures is { IfOk result (λ m. cut (in_scope scopes.old) t.now m ≡ types_by (types_in s.now.w.now s.now.own) t.now (in_scope scopes.old)) }
+    ensures is { IfOk result (λ m. cut (in_scope s.now.base.now scopes.old) t.now m ≡ types_by (types_in s.now.w.now s.now.own) t.now (in_scope s.now.base.now scopes.old)) }
     ensures scopes { OnOk result (scopes.new ≡ scopes.old) }
 {
     match t {
@@ -63,10 +64,65 @@ fn head_types(
     f: &Symbol,
     ts: &[Term],
 ) -> Result<u16, NoMemory>
-    ensures is { IfOk result (λ m. m ≡ head_types (types_in s.now.w.now s.now.own) f.now (prim_of f.now) (map (λ u. (u, types_by (types_in s.now.w.now s.now.own) u)) ts.now) (in_scope scopes.old)) }
+    ensures is { IfOk result (λ m. m ≡ head_types (types_in s.now.w.now s.now.own) f.now (prim_of f.now) (map (λ u. (u, types_by (types_in s.now.w.now s.now.own) u)) ts.now) (in_scope s.now.base.now scopes.old)) }
     ensures scopes { OnOk result (scopes.new ≡ scopes.old) }
 {
     let p = primitive_of(f);
+    match ts {
+        [a] => call_of_one(s, scopes, f, p, ts, a),
+        [a, b] => call_of_two(s, scopes, f, p, ts, a, b),
+        _ => other_call(s, scopes, f, p, ts),
+    }
+}
+
+/// The types of a call by the mask of its one argument.
+#[cycle(typing)]
+fn call_of_one(
+    s: &Setting<'_, '_>,
+    scopes: &mut Seq<Ctx>,
+    f: &Symbol,
+    p: Option<Primitive>,
+    ts: &[Term],
+    a: &Term,
+) -> Result<u16, NoMemory>
+    ensures is { IfOk result (λ m. m ≡ call_types (types_in s.now.w.now s.now.own) f.now p ts.now (types_by (types_in s.now.w.now s.now.own) a.now (in_scope s.now.base.now scopes.old) ∷ [])) }
+    ensures scopes { OnOk result (scopes.new ≡ scopes.old) }
+{
+    let mask = types_at(s, scopes, a)?;
+    Ok(call_types(s, f, p, ts, &[mask]))
+}
+
+/// The types of a call by the masks of its two arguments.
+#[cycle(typing)]
+fn call_of_two(
+    s: &Setting<'_, '_>,
+    scopes: &mut Seq<Ctx>,
+    f: &Symbol,
+    p: Option<Primitive>,
+    ts: &[Term],
+    a: &Term,
+    b: &Term,
+) -> Result<u16, NoMemory>
+    ensures is { IfOk result (λ m. m ≡ call_types (types_in s.now.w.now s.now.own) f.now p ts.now (types_by (types_in s.now.w.now s.now.own) a.now (in_scope s.now.base.now scopes.old) ∷ types_by (types_in s.now.w.now s.now.own) b.now (in_scope s.now.base.now scopes.old) ∷ [])) }
+    ensures scopes { OnOk result (scopes.new ≡ scopes.old) }
+{
+    let first = types_at(s, scopes, a)?;
+    let second = types_at(s, scopes, b)?;
+    Ok(call_types(s, f, p, ts, &[first, second]))
+}
+
+/// The types of another call: an `if`, or one whose masks are listed.
+#[cycle(typing)]
+fn other_call(
+    s: &Setting<'_, '_>,
+    scopes: &mut Seq<Ctx>,
+    f: &Symbol,
+    p: Option<Primitive>,
+    ts: &[Term],
+) -> Result<u16, NoMemory>
+    ensures is { IfOk result (λ m. m ≡ head_types (types_in s.now.w.now s.now.own) f.now p (map (λ u. (u, types_by (types_in s.now.w.now s.now.own) u)) ts.now) (in_scope s.now.base.now scopes.old)) }
+    ensures scopes { OnOk result (scopes.new ≡ scopes.old) }
+{
     match if_parts(p, ts) {
         Some((a, b, c)) => if_types(s, scopes, a, b, c),
         None => {
@@ -85,7 +141,7 @@ fn if_types(
     b: &Term,
     c: &Term,
 ) -> Result<u16, NoMemory>
-    ensures is { IfOk result (λ m. m ≡ chosen_types (types_by (types_in s.now.w.now s.now.own) a.now (in_scope scopes.old)) (types_by (types_in s.now.w.now s.now.own) b.now (assume (in_scope scopes.old) a.now true)) (types_by (types_in s.now.w.now s.now.own) c.now (assume (in_scope scopes.old) a.now false))) }
+    ensures is { IfOk result (λ m. m ≡ chosen_types (types_by (types_in s.now.w.now s.now.own) a.now (in_scope s.now.base.now scopes.old)) (types_by (types_in s.now.w.now s.now.own) b.now (assume (in_scope s.now.base.now scopes.old) a.now true)) (types_by (types_in s.now.w.now s.now.own) c.now (assume (in_scope s.now.base.now scopes.old) a.now false))) }
     ensures scopes { OnOk result (scopes.new ≡ scopes.old) }
 {
     let test = types_at(s, scopes, a)?;
@@ -105,7 +161,7 @@ fn types_under(
     sign: bool,
     t: &Term,
 ) -> Result<u16, NoMemory>
-    ensures is { IfOk result (λ m. m ≡ if_so chosen (types_by (types_in s.now.w.now s.now.own) t.now (assume (in_scope scopes.old) test.now sign))) }
+    ensures is { IfOk result (λ m. m ≡ if_so chosen (types_by (types_in s.now.w.now s.now.own) t.now (assume (in_scope s.now.base.now scopes.old) test.now sign))) }
     ensures scopes { OnOk result (scopes.new ≡ scopes.old) }
 {
     if !chosen {
@@ -121,7 +177,7 @@ fn types_under(
 /// The masks of a call's arguments.
 #[cycle(typing)]
 fn masks_of(s: &Setting<'_, '_>, scopes: &mut Seq<Ctx>, ts: &[Term]) -> Result<Seq<u16>, NoMemory>
-    ensures is { IfOk result (λ ms. ms ≡ map (λ u. types_by (types_in s.now.w.now s.now.own) u (in_scope scopes.old)) ts.now) }
+    ensures is { IfOk result (λ ms. ms ≡ map (λ u. types_by (types_in s.now.w.now s.now.own) u (in_scope s.now.base.now scopes.old)) ts.now) }
     ensures scopes { OnOk result (scopes.new ≡ scopes.old) }
 {
     let mut masks = Seq::new(s.alloc);

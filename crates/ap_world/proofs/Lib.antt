@@ -39,3 +39,4 @@ pub mod Natural
 pub mod Grounded
 pub mod KnownTerms
 pub mod Chosen
+pub mod ByLength

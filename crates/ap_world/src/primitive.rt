@@ -41,31 +41,45 @@ fn find_named(symbol: &Symbol, table: &[(&'static [u8], Primitive)]) -> Option<P
     None
 }
 
-/// The primitive of a name, if it has one. Takes no memory.
+/// The primitive of a name, if it has one: the names of its length are looked through. Takes no memory.
 pub fn primitive_of(name: &Symbol) -> Option<Primitive>
     ensures { result ≡ prim_of name.now }
 {
-    find_named(
-        name,
-        &[
-            (b"IF", Primitive::If),
-            (b"EQUAL", Primitive::Equal),
-            (b"CONSP", Primitive::Consp),
-            (b"INTEGERP", Primitive::Integerp),
-            (b"SYMBOLP", Primitive::Symbolp),
-            (b"STRINGP", Primitive::Stringp),
-            (b"CHARACTERP", Primitive::Characterp),
-            (b"CONS", Primitive::Cons),
-            (b"CAR", Primitive::Car),
-            (b"CDR", Primitive::Cdr),
-            (b"BINARY-+", Primitive::Plus),
-            (b"BINARY-*", Primitive::Times),
-            (b"UNARY--", Primitive::Minus),
-            (b"<", Primitive::Less),
-            (b"CHAR-CODE", Primitive::CharCode),
-            (b"CODE-CHAR", Primitive::CodeChar),
-            (b"SYMBOL-NAME", Primitive::SymbolName),
-            (b"COERCE", Primitive::Coerce),
-        ],
-    )
+    match name.name.len() {
+        1 => find_named(name, &[(b"<", Primitive::Less)]),
+        2 => find_named(name, &[(b"IF", Primitive::If)]),
+        3 => find_named(name, &[(b"CAR", Primitive::Car), (b"CDR", Primitive::Cdr)]),
+        4 => find_named(name, &[(b"CONS", Primitive::Cons)]),
+        5 => find_named(
+            name,
+            &[(b"EQUAL", Primitive::Equal), (b"CONSP", Primitive::Consp)],
+        ),
+        6 => find_named(name, &[(b"COERCE", Primitive::Coerce)]),
+        7 => find_named(
+            name,
+            &[
+                (b"SYMBOLP", Primitive::Symbolp),
+                (b"STRINGP", Primitive::Stringp),
+                (b"UNARY--", Primitive::Minus),
+            ],
+        ),
+        8 => find_named(
+            name,
+            &[
+                (b"INTEGERP", Primitive::Integerp),
+                (b"BINARY-+", Primitive::Plus),
+                (b"BINARY-*", Primitive::Times),
+            ],
+        ),
+        9 => find_named(
+            name,
+            &[
+                (b"CHAR-CODE", Primitive::CharCode),
+                (b"CODE-CHAR", Primitive::CodeChar),
+            ],
+        ),
+        10 => find_named(name, &[(b"CHARACTERP", Primitive::Characterp)]),
+        11 => find_named(name, &[(b"SYMBOL-NAME", Primitive::SymbolName)]),
+        _ => None,
+    }
 }

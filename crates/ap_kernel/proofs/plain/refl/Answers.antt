@@ -1,9 +1,10 @@
-use Rattle.std.proofs.Common.{rules}
+use Rattle.std.proofs.Common.{refl, rules}
 use Rattle.ap_world.specs.World.{function_of}
-use Rattle.ap_kernel.proofs.Standing.{stands_by, refl_stands}
+use Rattle.ap_kernel.specs.Answers.{refl_made}
+use Rattle.ap_kernel.proofs.Standing.{stands_same, refl_stands}
 use Rattle.ap_kernel.proofs.plain.refl.Goals as goal
 
 pub returns-clause-stands : goal.returns-clause-stands
 returns-clause-stands c =
-    stands_by c.args.w.now c.in_ok-answer.answer _ (search rules)
+    stands_same c.args.w.now c.in_ok-answer.answer (refl_made c.args.ctx.now c.args.mode c.args.t.now) (search rules) (λ k. refl)
     (refl_stands (function_of c.args.w.now.entries) c.is_sound.ensures.total c.args.ctx.now c.args.mode c.args.t.now c.requires.facts c.requires.term)

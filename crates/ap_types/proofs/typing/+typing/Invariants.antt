@@ -14,7 +14,16 @@ abbrev pub decreases-form_types : goal.decreases-form_types
 decreases-form_types l = 8 * term_size l.t.now + 2
 
 abbrev pub decreases-head_types : goal.decreases-head_types
-decreases-head_types l = 8 * sum_of (map term_size l.ts.now) + 6
+decreases-head_types l = 8 * sum_of (map term_size l.ts.now) + 7
+
+abbrev pub decreases-call_of_one : goal.decreases-call_of_one
+decreases-call_of_one l = 8 * term_size l.a.now + 4
+
+abbrev pub decreases-call_of_two : goal.decreases-call_of_two
+decreases-call_of_two l = 8 * (term_size l.a.now + term_size l.b.now) + 4
+
+abbrev pub decreases-other_call : goal.decreases-other_call
+decreases-other_call l = 8 * sum_of (map term_size l.ts.now) + 6
 
 abbrev pub decreases-if_types : goal.decreases-if_types
 decreases-if_types l = 8 * (term_size l.a.now + (term_size l.b.now + (term_size l.c.now + 0))) + 5
@@ -28,6 +37,6 @@ decreases-masks_of l = 8 * sum_of (map term_size l.ts.now) + 5
 -- the masks of those so far, the contexts as they were
 abbrev pub invariant-masks_of-loop-t : goal.invariant-masks_of-loop-t
 invariant-masks_of-loop-t l = record {
-  masks : l.masks ≡ map (λ u. types_by (types_in l.s.w.now l.s.own) u (in_scope l.fn.scopes)) (take l.t-index l.ts);
+  masks : l.masks ≡ map (λ u. types_by (types_in l.s.w.now l.s.own) u (in_scope l.s.base.now l.fn.scopes)) (take l.t-index l.ts);
   scopes : l.scopes ≡ l.fn.scopes;
 }
