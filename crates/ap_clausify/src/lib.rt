@@ -6,7 +6,6 @@
 #![tactic(auto)]
 
 mod flattening;
-mod itself;
 mod places;
 mod splitting;
 mod states;

@@ -6,10 +6,9 @@ ghost use Rattle.ap_kernel.specs.Reductions.{KnownClause, Reduces};
 ghost use Rattle.ap_clausify.specs.Splitting.{split_of, steps_left};
 ghost use Rattle.ap_clausify.specs.Frames.{Waits, Linked, due, resumed, origin, outcome, at_hand, comes, IsAtHand, Goes, weight};
 
-use crate::itself::itself;
 use crate::places::first_choice;
 use crate::states::{Frame, Split, State, Task, Turn};
-use ap_kernel::{Reduction, chain, split_if};
+use ap_kernel::{Reduction, chain, keep, split_if};
 use ap_list::{NoMemory, Seq};
 use ap_term::{Clause, Steps, copy_terms};
 use ap_world::World;
@@ -55,7 +54,7 @@ fn open(
     ensures { IfOk result (λ t. Goes w.now frames c (split_of steps.old.left c) (2 * steps.old.left + (length frames + 1)) t steps.new.left) }
 {
     let Some(place) = first_choice(alloc, &c)? else {
-        let task = Task::Done(itself(alloc, w, c)?);
+        let task = Task::Done(keep(alloc, w, c)?);
         return Ok(Turn::On(State { frames, task }));
     };
     let split = split_if(alloc, w, c, place.literal, &place.at)?;

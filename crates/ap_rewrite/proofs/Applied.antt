@@ -46,7 +46,7 @@ part_relieved c s o g qs e h = subst (λ (x : Option Rule). PartRelieved c s x q
 pub of_part : (o : Option Rule) (g : Rule) (P : Rule → Type 0) → o ≡ Some g → IfSome o P → P g
 of_part o g P e h = subst (λ (x : Option Rule). IfSome x P) e h
 
-pub any_mode_made : (o m : Mode) (c : Ctx) (u v : Term) (p q : Equiv) → p.says ≡ leads_made c m u v → q.says ≡ leads_made p.says.ctx o p.says.lhs p.says.rhs → q.says ≡ leads_made c o u v
+pub any_mode_made : (o m : Mode) (c : Ctx) (u v : Term) (p q : Sequent) → p ≡ leads_made c m u v → q ≡ leads_made p.ctx o p.lhs p.rhs → q ≡ leads_made c o u v
 any_mode_made o m c u v p q e k = k ∙ ap (λ (x : Sequent). leads_made x.ctx o x.lhs x.rhs) e
 
 -- a hypothesis whose variables have terms

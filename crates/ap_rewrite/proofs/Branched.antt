@@ -1,15 +1,15 @@
 -- An `if` and a negation whose parts are rewritten.
-use Rattle.std.proofs.Common.{◌≡◌, ℕ, Bool, true, false, cond, Option, Some, None, refl, ap, ◌∙◌, subst}
+use Rattle.std.proofs.Common.{◌≡◌, ℕ, Bool, true, false, cond, ◌&&◌, Option, Some, None, refl, sym, ap, ◌∙◌, subst}
+use Rattle.ap_value.proofs.Equals.{both as both_true}
 use Rattle.ap_term.specs.declared.term.Term.{Term}
 use Rattle.ap_term.specs.Metered.{Got, after, known as answer}
 use Rattle.ap_world.specs.World.{Shown}
-use Rattle.ap_world.specs.Facts.{Facts}
-use Rattle.ap_world.specs.Assume.{assume}
 use Rattle.ap_kernel.specs.declared.objects.Ctx.{Ctx}
 use Rattle.ap_kernel.specs.declared.objects.Mode.{Mode}
 use Rattle.ap_kernel.specs.declared.objects.Mode.TheVariants.{Iff}
 use Rattle.ap_kernel.specs.declared.objects.Equiv.{Equiv}
 use Rattle.ap_kernel.specs.Answers.{if_of}
+use Rattle.ap_kernel.proofs.CallsStand.{branch_same}
 use Rattle.ap_rewrite.specs.declared.branching.BothBranches.{BothBranches}
 use Rattle.ap_rewrite.specs.Settings.{Setting, Place, Inner, under}
 use Rattle.ap_rewrite.specs.Rewriting.{truth_of, shaped, negated, both, branches, rewrite_if, rewrite_not}
@@ -85,9 +85,14 @@ branches_own w o c x a u v q e h =
 pub if_whole : (w : Shown) (o : Mode) (c : Ctx) (t x y u v : Term) (q : Equiv) → x ≡ u → y ≡ v → From w o c (if_of t x y) q → From w o c (if_of t u v) q
 if_whole w o c t x y u v q e f h = from_at w o c (if_of t x y) (if_of t u v) q (ap (λ z. if_of t z y) e ∙ ap (if_of t u) f) h
 
-pub if_parts_whole : (w : Shown) (o : Mode) (c : Ctx) (t x y s u v : Term) (q : Equiv) → t ≡ s → x ≡ u → y ≡ v → From w o c (if_of t x y) q → From w o c (if_of s u v) q
-if_parts_whole w o c t x y s u v q d e f h = if_whole w o c s x y u v q e f (from_at w o c (if_of t x y) (if_of s x y) q (ap (λ z. if_of z x y) d) h)
+-- the `if` as it stands, by what its parts lead from
+pub if_lefts : (r t x y u v : Term) → r ≡ if_of t u v → x ≡ u → y ≡ v → r ≡ if_of t x y
+if_lefts r t x y u v h e f = h ∙ ap (if_of t u) (sym f) ∙ ap (λ z. if_of t z y) (sym e)
 
-pub chosen_same : (s : Bool) (x y u v z : Term) → z ≡ cond s x y → x ≡ u → y ≡ v → z ≡ cond s u v
-chosen_same true x y u v z h e f = h ∙ e
-chosen_same false x y u v z h e f = h ∙ f
+-- an `if` of which no part changed: its test is no constant, and it is the `if` of what its parts lead to
+pub open_before : (w : Shown) (c : Ctx) (q : Equiv) (k : Bool) → From w Iff c q.says.lhs q → truth_of q.says.rhs ≡ None → (q.unchanged && k) ≡ true → truth_of q.says.lhs ≡ None
+open_before w c q k f none h = ap truth_of (f.stands.same (both_true q.unchanged k h).0) ∙ none
+
+pub whole_same : (w : Shown) (o : Mode) (c : Ctx) (r a x y : Term) (q : Equiv) (found : BothBranches) → From w Iff c q.says.lhs q → FromBranches w o c a x y found
+    → (q.unchanged && (found.yes.unchanged && found.no.unchanged)) ≡ true → r ≡ if_of q.says.lhs found.yes.says.lhs found.no.says.lhs → r ≡ if_of q.says.rhs found.yes.says.rhs found.no.says.rhs
+whole_same w o c r a x y q found f b k h = h ∙ branch_same o q found.yes found.no f.stands.same b.yes.stands.same b.no.stands.same k

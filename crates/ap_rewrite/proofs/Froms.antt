@@ -21,7 +21,7 @@ use Rattle.ap_kernel.specs.declared.objects.Mode.TheVariants.{Equal, Iff}
 use Rattle.ap_kernel.specs.declared.objects.Sequent.{Sequent}
 use Rattle.ap_kernel.specs.declared.objects.Equiv.{Equiv}
 use Rattle.ap_kernel.specs.Standing.{Stands}
-use Rattle.ap_kernel.specs.Answers.{if_of, ModeFits, trans_made, branch_made}
+use Rattle.ap_kernel.specs.Answers.{if_of, ModeFits, trans_made, branch_made, chosen_made}
 use Rattle.ap_rewrite.specs.Leading.{leads_made, said_of, Serves}
 use Rattle.ap_rewrite.specs.Answering.{From, right_of, got, got_any}
 use Rattle.ap_rewrite.specs.Rewriting.{answered}
@@ -31,7 +31,7 @@ use Rattle.ap_term.specs.Metered.{Got, known as answer}
 pub from_made : (w : Shown) (o : Mode) (c : Ctx) (u v : Term) (q : Equiv) → Stands w q → q.says ≡ leads_made c o u v → From w o c u q
 from_made w o c u v q s e = record { stands = s; ctx = ap (λ (x : Sequent). x.ctx) e; mode = ap (λ (x : Sequent). x.mode) e; lhs = ap (λ (x : Sequent). x.lhs) e }
 
-pub right_made : (c : Ctx) (o : Mode) (u v : Term) (q : Equiv) → q.says ≡ leads_made c o u v → q.says.rhs ≡ v
+pub right_made : (c : Ctx) (o : Mode) (u v : Term) (q : Sequent) → q ≡ leads_made c o u v → q.rhs ≡ v
 right_made c o u v q e = ap (λ (x : Sequent). x.rhs) e
 
 -- from the term that the left side is
@@ -47,7 +47,7 @@ pub right_found : (o : Option Equiv) (c : Ctx) (m : Mode) (u : Term) (x : Option
 right_found None c m u None e = refl
 right_found None c m u (Some v) e = cc
 right_found (Some q) c m u None e = cc
-right_found (Some q) c m u (Some v) e = let k : q.says ≡ leads_made c m u v = cc in ap Some (right_made c m u v q k)
+right_found (Some q) c m u (Some v) e = let k : q.says ≡ leads_made c m u v = cc in ap Some (right_made c m u v q.says k)
 
 pub from_found : (w : Shown) (q : Equiv) (c : Ctx) (m : Mode) (u : Term) (x : Option Term) → Stands w q → said_of (Some q) ≡ option_map (leads_made c m u) x → From w m c u q
 from_found w q c m u None s e = cc
@@ -98,6 +98,16 @@ from_joined w o c a b d q f s e = record {
   lhs = ap (λ (x : Sequent). x.lhs) e;
 }
 
+-- the branch that the constant chooses to which the test leads
+pub from_chosen : (w : Shown) (o : Mode) (c : Ctx) (a : Equiv) (s : Bool) (b d : Term) (q : Equiv) → From w Iff c a.says.lhs a → Stands w q → q.says ≡ chosen_made o a.says s b d
+    → From w o c (if_of a.says.lhs b d) q
+from_chosen w o c a s b d q f h e = record {
+  stands = h;
+  ctx = ap (λ (x : Sequent). x.ctx) e ∙ f.ctx;
+  mode = ap (λ (x : Sequent). x.mode) e;
+  lhs = ap (λ (x : Sequent). x.lhs) e;
+}
+
 -- the facts of a branch
 pub under_facts : (a b : Equiv) (c : Ctx) (s : Bool) → a.says.ctx ≡ c → b.says.ctx ≡ record { 0 = assume c.0 a.says.rhs s } → b.says.ctx.0 ≡ assume a.says.ctx.0 a.says.rhs s
 under_facts a b c s e k = facts_of b.says.ctx (assume c.0 a.says.rhs s) k ∙ ap (λ (x : Ctx). assume x.0 a.says.rhs s) (sym e)
@@ -113,7 +123,7 @@ right_known w o c u q f = f.stands.says.right
 pub equal_serves : (m o : Mode) → m ≡ Equal → Serves m o
 equal_serves m o e = subst (λ x. Serves x o) (sym e) tt
 
-pub mode_made : (o : Mode) (c : Ctx) (u v : Term) (p q : Equiv) → p.says ≡ leads_made c Equal u v → q.says ≡ leads_made p.says.ctx o p.says.lhs p.says.rhs → q.says ≡ leads_made c o u v
+pub mode_made : (o : Mode) (c : Ctx) (u v : Term) (p q : Sequent) → p ≡ leads_made c Equal u v → q ≡ leads_made p.ctx o p.lhs p.rhs → q ≡ leads_made c o u v
 mode_made o c u v p q e k = k ∙ ap (λ (x : Sequent). leads_made x.ctx o x.lhs x.rhs) e
 
 -- the answer that there is

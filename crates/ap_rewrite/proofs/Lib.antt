@@ -22,7 +22,6 @@ pub mod Bounded
 pub mod Leading
 pub mod Levels
 pub mod Froms
-pub mod Chosen
 pub mod Arguments
 pub mod Walked
 pub mod Chained
@@ -40,3 +39,6 @@ pub mod Ruled
 pub mod LinearUsed
 pub mod Triggers
 pub mod Refuted
+pub mod Advanced
+pub mod InstanceSizes
+pub mod Tested

@@ -15,7 +15,7 @@ use Rattle.ap_kernel.specs.declared.objects.Mode.TheVariants.{Iff}
 use Rattle.ap_kernel.specs.declared.reductions.Inference.{Inference}
 use Rattle.ap_kernel.specs.declared.reductions.Reduction.{Reduction}
 use Rattle.ap_kernel.specs.Standing.{Stands}
-use Rattle.ap_kernel.specs.Reductions.{KnownClause, Reduces, put_at, others, all_false, to_one, rewritten}
+use Rattle.ap_kernel.specs.Reductions.{KnownClause, Reduces, put_at, others, all_false, to_one}
 use Rattle.ap_kernel.specs.Tidying.{tidied, holds_by_itself, tidy_goals, tidy_made}
 use Rattle.ap_rewrite.specs.Settings.{Setting}
 use Rattle.ap_rewrite.specs.Rewriting.{rewrite_of}
@@ -31,7 +31,7 @@ drop_next i x xs = ap (λ k. drop k (x ∷ xs)) (add-one (suc i)) ∙ ap (λ k. 
 take_next : {A : Type 0} (i : ℕ) (x : A) (xs : List A) → take (suc i + 1) (x ∷ xs) ≡ x ∷ take (i + 1) xs
 take_next i x xs = ap (λ k. take k (x ∷ xs)) (add-one (suc i)) ∙ ap (λ k. x ∷ take k xs) (sym (add-one i))
 
-put_next : {A : Type 0} (i : ℕ) (ys xs : List A) (x : A) → put_at (suc i) ys (x ∷ xs) ≡ x ∷ put_at i ys xs
+pub put_next : {A : Type 0} (i : ℕ) (ys xs : List A) (x : A) → put_at (suc i) ys (x ∷ xs) ≡ x ∷ put_at i ys xs
 put_next i ys xs x = ap (λ zs. x ∷ (take i xs ++ (ys ++ zs))) (drop_next i x xs)
 
 module _ (v : Term) where
@@ -91,39 +91,6 @@ pub got_none : (g : Got Term) (F : Term → Inference) (m : ℕ) → got_reduced
 got_none None F m e = refl
 got_none (Some p) F m e = cc
 
--- a step, as the clause that is left says it of the one it came from
-none_kept : (g : Got Term) (F G : Term → Inference) (m : ℕ) → got_reduced None m ≡ mapped F g → got_reduced None m ≡ mapped G g
-none_kept None F G m e = refl
-none_kept (Some p) F G m e = cc
-
-some_moved : (g : Got Term) (F G : Term → Inference) (p q : Reduction) (m : ℕ) → got_reduced (Some p) m ≡ mapped F g → ((v : Term) → p.says ≡ F v → q.says ≡ G v) → got_reduced (Some q) m ≡ mapped G g
-some_moved g F G p q m e k =
-    let got = got_some g F p m e in
-    ap (λ (x : Inference). Some (x, m)) (k got.0 got.2) ∙ ap (mapped G) got.1
-
-module _ (S : Setting) (c d : Clause) (us : List Term) (u : Term) (i n m : ℕ) (same : us ≡ c.0) where
-  abbrev Step : Option Reduction → Type 0
-  Step o = got_reduced o m ≡ mapped (rewritten c i) (rewrite_literal S (take i c.0) (drop (i + 1) c.0) u n)
-
-  abbrev Moved : Option Reduction → List Term → Type 0
-  Moved o ts = got_reduced o m ≡ mapped (λ v. to_one d (put_at i (v ∷ []) ts)) (rewrite_literal S (take i ts) (drop (i + 1) ts) u n)
-
-  pub step_out : Step None → Moved None us
-  step_out e = subst (Moved None) (sym same) (none_kept (rewrite_literal S (take i c.0) (drop (i + 1) c.0) u n) _ _ m e)
-
-  pub step_some : (p q : Reduction) → Step (Some p) → q.says ≡ record { from = d; to = p.says.to } → Moved (Some q) us
-  step_some p q e k =
-      subst (Moved (Some q)) (sym same)
-      (some_moved (rewrite_literal S (take i c.0) (drop (i + 1) c.0) u n) (rewritten c i) (λ v. to_one d (put_at i (v ∷ []) c.0)) p q m e
-      (λ v h. k ∙ ap (λ (x : Inference). record { from = d; to = x.to }) h))
-
-pub step_from : (S : Setting) (c : Clause) (i n m : ℕ) (p : Reduction) → i < length c.0
-    → ((u : Term) → slice_get c.0 i ≡ Some u → got_reduced (Some p) m ≡ mapped (rewritten c i) (rewrite_literal S (take i c.0) (drop (i + 1) c.0) u n)) → p.says.from ≡ c
-step_from S c i n m p h e =
-    let (u, there) = at_place i c.0 h in
-    let got = got_some (rewrite_literal S (take i c.0) (drop (i + 1) c.0) u n) (rewritten c i) p m (e u there) in
-    ap (λ (x : Inference). x.from) got.2
-
 -- the clause that is left is the one that the next reduction is from
 pub joins : (cs : List Clause) (us : List Term) (c d : Clause) → cs ≡ record { 0 = us } ∷ [] → us ≡ c.0 → d ≡ c → cs ≡ d ∷ []
 joins cs us c d e same from = e ∙ ap (λ (ts : List Term). record { 0 = ts } ∷ []) same ∙ ap (λ (x : Clause). x ∷ []) (sym from)
@@ -158,14 +125,6 @@ module _ (S : Setting) (c : Clause) (fs : Facts) (t u : Term) (i n : ℕ) (facts
       let is : t ≡ u = cc in
       ap (λ (gs : Facts). rewrite_of S Iff (record { facts = gs; closed = []; chain = 0 }) t n) facts
       ∙ ap (λ x. rewrite_of S Iff (record { facts = all_false (others i c.0); closed = []; chain = 0 }) x n) is
-
-module _ (S : Setting) (c : Clause) (u : Term) (i n m : ℕ) where
-  pub place_out : None ≡ rewrite_literal S (take i c.0) (drop (i + 1) c.0) u n → got_reduced None m ≡ mapped (rewritten c i) (rewrite_literal S (take i c.0) (drop (i + 1) c.0) u n)
-  place_out e = ap (mapped (rewritten c i)) e
-
-  pub place_some : (v : Term) (p : Reduction) → Some (v, m) ≡ rewrite_literal S (take i c.0) (drop (i + 1) c.0) u n → p.says ≡ rewritten c i v
-      → got_reduced (Some p) m ≡ mapped (rewritten c i) (rewrite_literal S (take i c.0) (drop (i + 1) c.0) u n)
-  place_some v p e k = ap (λ (x : Inference). Some (x, m)) k ∙ ap (mapped (rewritten c i)) e
 
 -- what the loop keeps: the literals before the place are rewritten, and those from there on give what all of them give
 pub record Stage (w : Shown) (S : Setting) (c : Clause) (all : Got (Option (List Term))) (i n : ℕ) (q : Reduction) : Type 0 where

@@ -57,6 +57,18 @@ truth_in_constant y h = cc
 pub constant_truth : (u : Term) → is_constant true u ≡ true → truth_of u ≡ Some true
 constant_truth u h = truth_in_constant (shape_of u) h
 
+truth_in_is : (y : Shape Term) (s : Bool) → truth_in y ≡ Some s → constant_says s y ≡ true
+truth_in_is (constant v) true h = let k : not (value_eq (val_of v) nil) ≡ true = cc in k
+truth_in_is (constant v) false h = let k : not (value_eq (val_of v) nil) ≡ false = cc in go (value_eq (val_of v) nil) k
+  where
+    go : (x : Bool) → not x ≡ false → x ≡ true
+    go true k = refl
+    go false k = cc
+truth_in_is y s h = cc
+
+pub truth_constant : (u : Term) (s : Bool) → truth_of u ≡ Some s → is_constant s u ≡ true
+truth_constant u s h = truth_in_is (shape_of u) s h
+
 -- an `if` whose test is no constant leads to its shape
 pub no_constant : (k : Bool) (y : Shape Term) (a b c : Term) → truth_in y ≡ None → by_constant k y a b c ≡ if_shape k a b c
 no_constant k (constant v) a b c h = cc

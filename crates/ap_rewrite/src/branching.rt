@@ -1,5 +1,5 @@
 // An `if` and a negation, whose parts are rewritten one level deeper.
-ghost use Rattle.std.specs.Prelude.{◌≡◌, IsTrue, IfOk, IfSome, Some, None, true, false, cond};
+ghost use Rattle.std.specs.Prelude.{◌≡◌, ◌&&◌, IsTrue, IfOk, IfSome, Some, None, true, false, cond};
 ghost use Rattle.ap_world.specs.Assume.{assume};
 ghost use Rattle.ap_world.specs.Clauses.{not_of};
 ghost use Rattle.ap_world.specs.Facts.{KnownFacts};
@@ -11,9 +11,11 @@ ghost use Rattle.ap_rewrite.specs.Rewriting.{truth_of, shaped, negated, both, br
 ghost use Rattle.ap_rewrite.specs.Answering.{defs_in, Ready, setting_of, inner_of, seen_at, got, got_branches, in_branches, From, FromBranches, IsLevel};
 
 use crate::rewriter::{Level, Place, Rewriter, Run, deeper};
-use crate::rows::{follow, join, negate, picked, plainest, simplest, stay};
+use crate::rows::{follow, join, negate, plainest, simplest};
 use crate::testing::truth_of;
-use ap_kernel::{Ctx, Equiv, Mode, NoMemory, Term, TypeOracle, assume, assumed_facts_hold};
+use ap_kernel::{
+    Ctx, Equiv, Mode, NoMemory, Term, TypeOracle, assume, assumed_facts_hold, choose_branch,
+};
 
 /// What both branches of an `if` lead to.
 #[derive(Drop)]
@@ -53,8 +55,15 @@ fn under<
     Ok(found)
 }
 
+/// Whether none of an `if`'s parts changed. Takes no memory.
+fn are_unchanged(test: &Equiv, found: &BothBranches) -> bool
+    ensures { result ≡ (test.now.unchanged && (found.now.yes.unchanged && found.now.no.unchanged)) }
+{
+    test.is_unchanged() && found.yes.is_unchanged() && found.no.is_unchanged()
+}
+
 /// From an `if` to the `if` of what its parts lead to, and on to its simplest shape.
-fn shape_whole<O: TypeOracle>(
+fn shape_rejoined<O: TypeOracle>(
     r: &Rewriter<'_, O>,
     ctx: &Ctx,
     mode: Mode,
@@ -74,6 +83,34 @@ fn shape_whole<O: TypeOracle>(
     let more = simplest(r, ctx, mode, whole.rhs())?;
     let q = follow(r, ctx, mode, whole, more)?;
     Ok(q)
+}
+
+/// From an `if` to the `if` of what its parts lead to, and on to its simplest shape. Where none of the parts changed
+/// that is the shape of the `if` as it stands.
+fn shape_whole<O: TypeOracle>(
+    r: &Rewriter<'_, O>,
+    ctx: &Ctx,
+    mode: Mode,
+    t: &Term,
+    test: Equiv,
+    found: BothBranches,
+) -> Result<Equiv, NoMemory>
+    requires ready { Ready r.now }
+    requires facts { KnownFacts (defs_in r.now) ctx.now.0 }
+    requires term { t.now ≡ if_of test.says.lhs found.yes.says.lhs found.no.says.lhs }
+    requires known { IsTrue (known (defs_in r.now) t.now) }
+    requires test { From r.now.w.now Iff ctx.now test.says.lhs test }
+    requires open { truth_of test.says.rhs ≡ None }
+    requires found { FromBranches r.now.w.now mode ctx.now test.says.rhs found.yes.says.lhs found.no.says.lhs found }
+    ensures is { IfOk result (λ q. q.says.rhs ≡ shaped (setting_of r.now) mode ctx.now.0 test.says.rhs found.yes.says.rhs found.no.says.rhs) }
+    ensures from { IfOk result (From r.now.w.now mode ctx.now (if_of test.says.lhs found.yes.says.lhs found.no.says.lhs)) }
+{
+    let same = are_unchanged(&test, &found);
+    if same {
+        let q = simplest(r, ctx, mode, t)?;
+        return Ok(q);
+    }
+    shape_rejoined(r, ctx, mode, test, found)
 }
 
 /// What both branches of an `if` lead to, each under the test's sign. `None` where the steps run out.
@@ -115,12 +152,14 @@ pub fn both<
     run: &mut Run,
     mode: Mode,
     at: &Place<'_>,
+    t: &Term,
     test: Equiv,
     b: &Term,
     c: &Term,
 ) -> Result<Option<Equiv>, NoMemory>
     requires level { IsLevel (F.pre l.now.below.now) (F.post l.now.below.now) l.now.r.now l.now.levels }
     requires facts { KnownFacts (defs_in l.now.r.now) at.now.ctx.now.0 }
+    requires term { t.now ≡ if_of test.says.lhs b.now c.now }
     requires test { From l.now.r.now.w.now Iff at.now.ctx.now test.says.lhs test }
     requires open { truth_of test.says.rhs ≡ None }
     requires yes { IsTrue (known (defs_in l.now.r.now) b.now) }
@@ -131,77 +170,8 @@ pub fn both<
     let Some(found) = in_branches(l, run, mode, at, test.rhs(), b, c)? else {
         return Ok(None);
     };
-    let whole = shape_whole(l.r, at.ctx, mode, test, found)?;
+    let whole = shape_whole(l.r, at.ctx, mode, t, test, found)?;
     Ok(Some(whole))
-}
-
-/// From a term to itself, under what another's sign adds to the facts.
-fn stay_under<O: TypeOracle>(
-    r: &Rewriter<'_, O>,
-    ctx: &Ctx,
-    mode: Mode,
-    a: &Term,
-    sign: bool,
-    t: &Term,
-) -> Result<Equiv, NoMemory>
-    requires ready { Ready r.now }
-    requires facts { KnownFacts (defs_in r.now) ctx.now.0 }
-    requires test { IsTrue (known (defs_in r.now) a.now) }
-    requires term { IsTrue (known (defs_in r.now) t.now) }
-    ensures is { IfOk result (λ q. q.says.rhs ≡ t.now) }
-    ensures from { IfOk result (From r.now.w.now mode (record { 0 = assume ctx.now.0 a.now sign }) t.now) }
-{
-    assumed_facts_hold();
-    let more = assume(r.alloc, ctx, a, sign)?;
-    let q = stay(r, &more, mode, t)?;
-    Ok(q)
-}
-
-/// From both branches of an `if` to themselves, each under the test's sign.
-fn stay_in_branches<O: TypeOracle>(
-    r: &Rewriter<'_, O>,
-    ctx: &Ctx,
-    mode: Mode,
-    a: &Term,
-    b: &Term,
-    c: &Term,
-) -> Result<BothBranches, NoMemory>
-    requires ready { Ready r.now }
-    requires facts { KnownFacts (defs_in r.now) ctx.now.0 }
-    requires test { IsTrue (known (defs_in r.now) a.now) }
-    requires yes { IsTrue (known (defs_in r.now) b.now) }
-    requires no { IsTrue (known (defs_in r.now) c.now) }
-    ensures yes { IfOk result (λ q. q.yes.says.rhs ≡ b.now) }
-    ensures no { IfOk result (λ q. q.no.says.rhs ≡ c.now) }
-    ensures from { IfOk result (FromBranches r.now.w.now mode ctx.now a.now b.now c.now) }
-{
-    let yes = stay_under(r, ctx, mode, a, true, b)?;
-    let no = stay_under(r, ctx, mode, a, false, c)?;
-    Ok(BothBranches { yes, no })
-}
-
-/// From an `if` to the branch that the constant chooses to which its test leads.
-fn take_branch<O: TypeOracle>(
-    r: &Rewriter<'_, O>,
-    ctx: &Ctx,
-    mode: Mode,
-    test: Equiv,
-    sign: bool,
-    found: BothBranches,
-) -> Result<Equiv, NoMemory>
-    requires ready { Ready r.now }
-    requires facts { KnownFacts (defs_in r.now) ctx.now.0 }
-    requires test { From r.now.w.now Iff ctx.now test.says.lhs test }
-    requires sign { truth_of test.says.rhs ≡ Some sign }
-    requires found { FromBranches r.now.w.now mode ctx.now test.says.rhs found.yes.says.lhs found.no.says.lhs found }
-    ensures is { IfOk result (λ q. q.says.rhs ≡ cond sign found.yes.says.rhs found.no.says.rhs) }
-    ensures from { IfOk result (From r.now.w.now mode ctx.now (if_of test.says.lhs found.yes.says.lhs found.no.says.lhs)) }
-{
-    let BothBranches { yes, no } = found;
-    let whole = join(r, ctx, mode, test, yes, no)?;
-    let more = picked(r, ctx, mode, whole.rhs())?;
-    let q = follow(r, ctx, mode, whole, more)?;
-    Ok(q)
 }
 
 /// From an `if` to the branch that the constant chooses to which its test leads, where the branches stay.
@@ -223,8 +193,7 @@ pub fn choose<O: TypeOracle>(
     ensures is { IfOk result (λ q. q.says.rhs ≡ cond sign b.now c.now) }
     ensures from { IfOk result (From r.now.w.now mode ctx.now (if_of test.says.lhs b.now c.now)) }
 {
-    let found = stay_in_branches(r, ctx, mode, test.rhs(), b, c)?;
-    let q = take_branch(r, ctx, mode, test, sign, found)?;
+    let q = choose_branch(r.alloc, r.w, mode, test, sign, b, c)?;
     Ok(q)
 }
 
@@ -261,12 +230,14 @@ fn branches<
     run: &mut Run,
     mode: Mode,
     at: &Place<'_>,
+    t: &Term,
     test: Equiv,
     b: &Term,
     c: &Term,
 ) -> Result<Option<Equiv>, NoMemory>
     requires level { IsLevel (F.pre l.now.below.now) (F.post l.now.below.now) l.now.r.now l.now.levels }
     requires facts { KnownFacts (defs_in l.now.r.now) at.now.ctx.now.0 }
+    requires term { t.now ≡ if_of test.says.lhs b.now c.now }
     requires test { From l.now.r.now.w.now Iff at.now.ctx.now test.says.lhs test }
     requires yes { IsTrue (known (defs_in l.now.r.now) b.now) }
     requires no { IsTrue (known (defs_in l.now.r.now) c.now) }
@@ -274,7 +245,7 @@ fn branches<
     ensures from { IfOk result (λ o. IfSome o (From l.now.r.now.w.now mode at.now.ctx.now (if_of test.says.lhs b.now c.now))) }
 {
     match truth_of(test.rhs()) {
-        None => both(l, run, mode, at, test, b, c),
+        None => both(l, run, mode, at, t, test, b, c),
         Some(sign) => {
             let first = choose(l.r, at.ctx, mode, test, sign, b, c)?;
             go_on(l, run, mode, at, first)
@@ -292,12 +263,14 @@ pub fn rewrite_if<
     run: &mut Run,
     mode: Mode,
     at: &Place<'_>,
+    t: &Term,
     a: &Term,
     b: &Term,
     c: &Term,
 ) -> Result<Option<Equiv>, NoMemory>
     requires level { IsLevel (F.pre l.now.below.now) (F.post l.now.below.now) l.now.r.now l.now.levels }
     requires facts { KnownFacts (defs_in l.now.r.now) at.now.ctx.now.0 }
+    requires term { t.now ≡ if_of a.now b.now c.now }
     requires test { IsTrue (known (defs_in l.now.r.now) a.now) }
     requires yes { IsTrue (known (defs_in l.now.r.now) b.now) }
     requires no { IsTrue (known (defs_in l.now.r.now) c.now) }
@@ -307,11 +280,11 @@ pub fn rewrite_if<
     let Some(test) = deeper(l, run, Mode::Iff, at, a)? else {
         return Ok(None);
     };
-    branches(l, run, mode, at, test, b, c)
+    branches(l, run, mode, at, t, test, b, c)
 }
 
-/// From a negation to what it is by what its argument leads to.
-fn turned<O: TypeOracle>(
+/// From a negation to the negation of what its argument leads to, and on to what that is.
+fn turned_anew<O: TypeOracle>(
     r: &Rewriter<'_, O>,
     ctx: &Ctx,
     mode: Mode,
@@ -329,6 +302,31 @@ fn turned<O: TypeOracle>(
     Ok(answer)
 }
 
+/// From a negation to what it is by what its argument leads to. Where the argument didn't change that is what the
+/// negation is as it stands.
+fn turned<O: TypeOracle>(
+    r: &Rewriter<'_, O>,
+    ctx: &Ctx,
+    mode: Mode,
+    t: &Term,
+    q: Equiv,
+) -> Result<Equiv, NoMemory>
+    requires ready { Ready r.now }
+    requires facts { KnownFacts (defs_in r.now) ctx.now.0 }
+    requires term { t.now ≡ not_of q.says.lhs }
+    requires known { IsTrue (known (defs_in r.now) t.now) }
+    requires argument { From r.now.w.now Iff ctx.now q.says.lhs q }
+    ensures is { IfOk result (λ a. a.says.rhs ≡ negated (setting_of r.now) mode ctx.now.0 q.says.rhs (truth_of q.says.rhs)) }
+    ensures from { IfOk result (From r.now.w.now mode ctx.now (not_of q.says.lhs)) }
+{
+    let same = q.is_unchanged();
+    if same {
+        let answer = plainest(r, ctx, mode, t)?;
+        return Ok(answer);
+    }
+    turned_anew(r, ctx, mode, q)
+}
+
 /// A negation: its argument under `iff`, and then what the negation is by what that has become.
 pub fn rewrite_not<
     O: TypeOracle,
@@ -338,10 +336,12 @@ pub fn rewrite_not<
     run: &mut Run,
     mode: Mode,
     at: &Place<'_>,
+    t: &Term,
     a: &Term,
 ) -> Result<Option<Equiv>, NoMemory>
     requires level { IsLevel (F.pre l.now.below.now) (F.post l.now.below.now) l.now.r.now l.now.levels }
     requires facts { KnownFacts (defs_in l.now.r.now) at.now.ctx.now.0 }
+    requires term { t.now ≡ not_of a.now }
     requires argument { IsTrue (known (defs_in l.now.r.now) a.now) }
     ensures is { IfOk result (λ o. got o run.new.left ≡ rewrite_not (setting_of l.now.r.now) (inner_of l.now.r.now l.now.levels) mode (seen_at at.now) a.now run.old.left) }
     ensures from { IfOk result (λ o. IfSome o (From l.now.r.now.w.now mode at.now.ctx.now (not_of a.now))) }
@@ -349,6 +349,6 @@ pub fn rewrite_not<
     let Some(q) = deeper(l, run, Mode::Iff, at, a)? else {
         return Ok(None);
     };
-    let answer = turned(l.r, at.ctx, mode, q)?;
+    let answer = turned(l.r, at.ctx, mode, t, q)?;
     Ok(Some(answer))
 }

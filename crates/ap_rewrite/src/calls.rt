@@ -12,7 +12,7 @@ ghost use Rattle.ap_rewrite.specs.Rewriting.{rewrite_args, rewrite_call};
 ghost use Rattle.ap_rewrite.specs.Answering.{defs_in, Ready, setting_of, inner_of, seen_at, got, got_all, right_of, Leads, From, IsLevel};
 
 use crate::rewriter::{Level, Place, Rewriter, Run, deeper};
-use crate::rows::follow;
+use crate::rows::{follow, stay};
 use crate::settling::in_mode;
 use crate::trying::tried;
 use ap_kernel::{Ctx, Equiv, LinearOracle, Mode, NoMemory, Seq, Symbol, Term, TypeOracle, cong};
@@ -43,8 +43,8 @@ fn rewrite_args<
     Ok(Some(out))
 }
 
-/// From a call to the call on what its arguments lead to, under a mode.
-fn on_arguments<O: TypeOracle>(
+/// From a call to the call on what its arguments lead to, under a mode: both are built.
+fn rebuilt<O: TypeOracle>(
     r: &Rewriter<'_, O>,
     ctx: &Ctx,
     mode: Mode,
@@ -61,6 +61,33 @@ fn on_arguments<O: TypeOracle>(
     let equal = cong(r.alloc, r.w, ctx, f, args.as_slice())?;
     let q = in_mode(r.alloc, r.w, equal, mode)?;
     Ok(q)
+}
+
+/// From a call to the call on what its arguments lead to, under a mode. Where none of them changed the call stays,
+/// and nothing is built.
+fn on_arguments<O: TypeOracle>(
+    r: &Rewriter<'_, O>,
+    ctx: &Ctx,
+    mode: Mode,
+    t: &Term,
+    f: &Symbol,
+    args: Seq<Equiv>,
+) -> Result<Equiv, NoMemory>
+    requires ready { Ready r.now }
+    requires facts { KnownFacts (defs_in r.now) ctx.now.0 }
+    requires term { IsTrue (known (defs_in r.now) t.now) }
+    requires call { t.now ≡ Call f.now (lefts (said args)) }
+    requires head { IsTrue (is_head (defs_in r.now) f.now (prim_of f.now) (length args)) }
+    requires args { Each (Leads r.now.w.now Equal ctx.now) args }
+    ensures is { IfOk result (λ q. q.says.rhs ≡ Call f.now (rights (said args))) }
+    ensures from { IfOk result (From r.now.w.now mode ctx.now (Call f.now (lefts (said args)))) }
+{
+    let same = Equiv::are_unchanged(args.as_slice());
+    if same {
+        let q = stay(r, ctx, mode, t)?;
+        return Ok(q);
+    }
+    rebuilt(r, ctx, mode, f, args)
 }
 
 /// One equivalence, and a second one where there is one.
@@ -94,11 +121,13 @@ pub fn rewrite_call<
     run: &mut Run,
     mode: Mode,
     at: &Place<'_>,
+    t: &Term,
     f: &Symbol,
     us: &[Term],
 ) -> Result<Option<Equiv>, NoMemory>
     requires level { IsLevel (F.pre l.now.below.now) (F.post l.now.below.now) l.now.r.now l.now.levels }
     requires facts { KnownFacts (defs_in l.now.r.now) at.now.ctx.now.0 }
+    requires term { t.now ≡ Call f.now us.now }
     requires call { IsTrue (known (defs_in l.now.r.now) (Call f.now us.now)) }
     ensures is { IfOk result (λ o. got o run.new.left ≡ rewrite_call (setting_of l.now.r.now) (inner_of l.now.r.now l.now.levels) mode (seen_at at.now) f.now us.now run.old.left) }
     ensures from { IfOk result (λ o. IfSome o (From l.now.r.now.w.now mode at.now.ctx.now (Call f.now us.now))) }
@@ -106,7 +135,7 @@ pub fn rewrite_call<
     let Some(args) = rewrite_args(l, run, at, us)? else {
         return Ok(None);
     };
-    let first = on_arguments(l.r, at.ctx, mode, f, args)?;
+    let first = on_arguments(l.r, at.ctx, mode, t, f, args)?;
     let call = first.rhs();
     let Term::Call(g, vs) = call else {
         unreachable!()

@@ -1,19 +1,29 @@
 // The definition of a function that is called.
-ghost use Rattle.std.specs.Prelude.{◌≡◌, ◌∷◌, IsTrue, IfOk, IfSome, Some, None, cond};
-ghost use Rattle.ap_term.specs.declared.term.Term.{Call};
+ghost use Rattle.std.specs.Prelude.{◌≡◌, ℕ, ◌*◌, nat_le, false, ◌∷◌, zip, IsTrue, IfOk, IfSome, Some, None, cond};
+ghost use Rattle.ap_list.specs.Lists.{Each, is_among};
+ghost use Rattle.ap_value.specs.Values.{symbol_eq};
+ghost use Rattle.ap_term.specs.declared.term.Term.{Term, Call};
+ghost use Rattle.ap_term.specs.Equal.{term_eq};
+ghost use Rattle.ap_term.specs.Terms.{subst_of, term_size};
+ghost use Rattle.ap_world.specs.declared.theory.Rune.TheVariants as rune;
+ghost use Rattle.ap_world.specs.Theories.{is_enabled};
 ghost use Rattle.ap_world.specs.Facts.{KnownFacts};
 ghost use Rattle.ap_world.specs.Sound.{known};
 ghost use Rattle.ap_kernel.specs.Answers.{if_of};
 ghost use Rattle.ap_kernel.specs.declared.objects.Mode.TheVariants.{Iff};
-ghost use Rattle.ap_rewrite.specs.Rewriting.{truth_of, both, walk, walk_on, answered, open_instance, opened as opening, by_definition};
-ghost use Rattle.ap_rewrite.specs.Answering.{defs_in, Ready, setting_of, inner_of, seen_at, got_any, leaf_on, ends_on, open_within, open_closed, From, IsLevel};
+ghost use Rattle.ap_kernel.specs.Opening.{body_at, opened};
+ghost use Rattle.ap_rewrite.specs.Settings.{closing};
+ghost use Rattle.ap_rewrite.specs.Rewriting.{most_nodes, truth_of, is_recursive, both, walk, walk_on, answered, open_instance, opened as opening, by_definition};
+ghost use Rattle.ap_rewrite.specs.Answering.{defs_in, Ready, setting_of, inner_of, seen_at, got, got_any, leaf_on, ends_on, open_within, open_closed, From, IsLevel};
 
 use crate::branching::{both, choose, go_on};
 use crate::rewriter::{Level, Place, Rewriter, Run, deeper};
 use crate::rows::{follow, opened};
-use crate::testing::{is_among, is_small, truth_of};
+use crate::testing::{has_small_instance, is_among, is_small, truth_of};
 use crate::trying::answered;
-use ap_kernel::{Ctx, Equiv, Mode, NoMemory, Seq, ShapeRef, Symbol, Term, TypeOracle, shape_of};
+use ap_kernel::{
+    Ctx, Equiv, Mode, NoMemory, Seq, ShapeRef, Symbol, Term, TypeOracle, pairs_of, shape_of, subst,
+};
 use ap_term::copy_term;
 use ap_value::copy_symbol;
 use ap_world::{Function, RuneKind};
@@ -115,7 +125,7 @@ fn follow_both<
     ensures is { IfOk result (λ o. got_any o run.new.left ≡ answered (both (setting_of l.now.r.now) (inner_of l.now.r.now l.now.levels) mode (seen_at at.now) test.says.rhs b.now c.now run.old.left)) }
     ensures from { IfOk result (λ o. IfSome o (λ a. IfSome a (From l.now.r.now.w.now mode at.now.ctx.now sofar.says.lhs))) }
 {
-    let Some(more) = both(l, run, mode, at, test, b, c)? else {
+    let Some(more) = both(l, run, mode, at, sofar.rhs(), test, b, c)? else {
         return Ok(None);
     };
     let q = follow(l.r, at.ctx, mode, sofar, more)?;
@@ -313,8 +323,199 @@ fn open_instance<
     Ok(answered(found))
 }
 
+/// A call of a defined function that may be opened, by its body's instance, where that isn't too large.
+fn open_at_once<
+    O: TypeOracle,
+    F: Fn(&mut Run, Mode, &Place<'_>, &Term) -> Result<Option<Equiv>, NoMemory>,
+>(
+    l: &Level<'_, '_, O, F>,
+    run: &mut Run,
+    mode: Mode,
+    at: &Place<'_>,
+    t: &Term,
+    f: &Symbol,
+    us: &[Term],
+    g: &Function,
+) -> Result<Option<Option<Equiv>>, NoMemory>
+    requires level { IsLevel (F.pre l.now.below.now) (F.post l.now.below.now) l.now.r.now l.now.levels }
+    requires facts { KnownFacts (defs_in l.now.r.now) at.now.ctx.now.0 }
+    requires term { IsTrue (known (defs_in l.now.r.now) t.now) }
+    requires call { t.now ≡ Call f.now us.now }
+    requires function { defs_in l.now.r.now f.now ≡ Some g.now }
+    requires enabled { IsTrue (is_enabled l.now.r.now.theory.now (rune.Definition f.now)) }
+    requires free { is_among symbol_eq f.now at.now.closed.now ≡ false }
+    ensures is { IfOk result (λ o. got_any o run.new.left ≡ opening (setting_of l.now.r.now) (inner_of l.now.r.now l.now.levels) mode (seen_at at.now) t.now f.now us.now (Some g.now) run.old.left) }
+    ensures from { IfOk result (λ o. IfSome o (λ a. IfSome a (From l.now.r.now.w.now mode at.now.ctx.now t.now))) }
+{
+    let first = opened(l.r, at.ctx, mode, t)?;
+    if !is_small(first.rhs()) {
+        return Ok(Some(None));
+    }
+    open_instance(l, run, mode, at, f, g, first)
+}
+
+/// The instance of a part of a function's body at these arguments.
+fn part_at(alloc: Global, g: &Function, us: &[Term], part: &Term) -> Result<Term, NoMemory>
+    ensures { IfOk result (λ u. u ≡ subst_of (zip g.now.formals us.now) part.now) }
+{
+    let pairs = pairs_of(alloc, g.formals.as_slice(), us)?;
+    let instance = subst(alloc, part, &pairs)?;
+    Ok(instance)
+}
+
+/// The instance of the test of a function's body, rewritten under `iff`.
+fn rewrite_test<
+    O: TypeOracle,
+    F: Fn(&mut Run, Mode, &Place<'_>, &Term) -> Result<Option<Equiv>, NoMemory>,
+>(
+    l: &Level<'_, '_, O, F>,
+    run: &mut Run,
+    at: &Place<'_>,
+    us: &[Term],
+    g: &Function,
+    a: &Term,
+) -> Result<Option<Equiv>, NoMemory>
+    requires level { IsLevel (F.pre l.now.below.now) (F.post l.now.below.now) l.now.r.now l.now.levels }
+    requires facts { KnownFacts (defs_in l.now.r.now) at.now.ctx.now.0 }
+    requires arguments { Each (λ u. IsTrue (known (defs_in l.now.r.now) u)) us.now }
+    requires test { IsTrue (known (defs_in l.now.r.now) a.now) }
+    ensures is { IfOk result (λ o. got o run.new.left ≡ inner_of l.now.r.now l.now.levels Iff (seen_at at.now) (subst_of (zip g.now.formals us.now) a.now) run.old.left) }
+    ensures from { IfOk result (λ o. IfSome o (From l.now.r.now.w.now Iff at.now.ctx.now (subst_of (zip g.now.formals us.now) a.now))) }
+{
+    let instance = part_at(l.r.alloc, g, us, a)?;
+    let found = deeper(l, run, Mode::Iff, at, &instance)?;
+    Ok(found)
+}
+
+/// Down a body's instance from the `if` at its top, whose test has led to this already, from some number of steps.
+fn walk_past<
+    O: TypeOracle,
+    F: Fn(&mut Run, Mode, &Place<'_>, &Term) -> Result<Option<Equiv>, NoMemory>,
+>(
+    l: &Level<'_, '_, O, F>,
+    run: &mut Run,
+    mode: Mode,
+    at: &Place<'_>,
+    inner: &Place<'_>,
+    first: Equiv,
+    test: Equiv,
+) -> Result<Option<Option<Equiv>>, NoMemory>
+    requires level { IsLevel (F.pre l.now.below.now) (F.post l.now.below.now) l.now.r.now l.now.levels }
+    requires facts { KnownFacts (defs_in l.now.r.now) at.now.ctx.now.0 }
+    requires inner { inner.now.ctx.now ≡ at.now.ctx.now }
+    requires first { From l.now.r.now.w.now mode at.now.ctx.now first.says.lhs first }
+    requires test { From l.now.r.now.w.now Iff at.now.ctx.now test.says.lhs test }
+    requires choice { (b : Term) × (c : Term) × (first.says.rhs ≡ if_of test.says.lhs b c) }
+    ensures is { IfOk result (λ o. (n : ℕ) → Some (test.says.rhs, run.old.left) ≡ inner_of l.now.r.now l.now.levels Iff (seen_at at.now) test.says.lhs n → got_any o run.new.left ≡ walk (setting_of l.now.r.now) (inner_of l.now.r.now l.now.levels) mode (seen_at at.now) (seen_at inner.now) first.says.rhs false n) }
+    ensures from { IfOk result (λ o. IfSome o (λ a. IfSome a (From l.now.r.now.w.now mode at.now.ctx.now first.says.lhs))) }
+{
+    let body = copy_term(l.r.alloc, first.rhs())?;
+    match shape_of(&body) {
+        ShapeRef::If(_, b, c) => walk_on(l, run, mode, at, inner, first, false, test, b, c),
+        _ => unreachable!(),
+    }
+}
+
+/// A call of a function whose body is an `if`, where the instance of its test has led to this already: its body's
+/// instance is made, and walked down where the function is closed.
+fn open_tested<
+    O: TypeOracle,
+    F: Fn(&mut Run, Mode, &Place<'_>, &Term) -> Result<Option<Equiv>, NoMemory>,
+>(
+    l: &Level<'_, '_, O, F>,
+    run: &mut Run,
+    mode: Mode,
+    at: &Place<'_>,
+    t: &Term,
+    f: &Symbol,
+    test: Equiv,
+) -> Result<Option<Option<Equiv>>, NoMemory>
+    requires level { IsLevel (F.pre l.now.below.now) (F.post l.now.below.now) l.now.r.now l.now.levels }
+    requires facts { KnownFacts (defs_in l.now.r.now) at.now.ctx.now.0 }
+    requires term { IsTrue (known (defs_in l.now.r.now) t.now) }
+    requires test { From l.now.r.now.w.now Iff at.now.ctx.now test.says.lhs test }
+    requires choice { (b : Term) × (c : Term) × (opened (defs_in l.now.r.now) t.now ≡ Some (if_of test.says.lhs b c)) }
+    ensures is { IfOk result (λ o. (v : Term) (n : ℕ) → opened (defs_in l.now.r.now) t.now ≡ Some v → Some (test.says.rhs, run.old.left) ≡ inner_of l.now.r.now l.now.levels Iff (seen_at at.now) test.says.lhs n → got_any o run.new.left ≡ walk (setting_of l.now.r.now) (inner_of l.now.r.now l.now.levels) mode (seen_at at.now) (closing f.now (seen_at at.now)) v false n) }
+    ensures from { IfOk result (λ o. IfSome o (λ a. IfSome a (From l.now.r.now.w.now mode at.now.ctx.now t.now))) }
+{
+    let first = opened(l.r, at.ctx, mode, t)?;
+    let closed = closing(l.r.alloc, f, at.closed)?;
+    let inner = Place {
+        ctx: at.ctx,
+        closed: closed.as_slice(),
+        chain: at.chain,
+    };
+    walk_past(l, run, mode, at, &inner, first, test)
+}
+
+/// A call of a function whose body is an `if`: the instance of its test alone is made and rewritten, and the body's
+/// where the test becomes a constant.
+fn open_by_test<
+    O: TypeOracle,
+    F: Fn(&mut Run, Mode, &Place<'_>, &Term) -> Result<Option<Equiv>, NoMemory>,
+>(
+    l: &Level<'_, '_, O, F>,
+    run: &mut Run,
+    mode: Mode,
+    at: &Place<'_>,
+    t: &Term,
+    f: &Symbol,
+    us: &[Term],
+    g: &Function,
+    a: &Term,
+) -> Result<Option<Option<Equiv>>, NoMemory>
+    requires level { IsLevel (F.pre l.now.below.now) (F.post l.now.below.now) l.now.r.now l.now.levels }
+    requires facts { KnownFacts (defs_in l.now.r.now) at.now.ctx.now.0 }
+    requires term { IsTrue (known (defs_in l.now.r.now) t.now) }
+    requires call { t.now ≡ Call f.now us.now }
+    requires function { defs_in l.now.r.now f.now ≡ Some g.now }
+    requires choice { (b : Term) × (c : Term) × (g.now.body ≡ if_of a.now b c) }
+    ensures is { IfOk result (λ o. got_any o run.new.left ≡ walk (setting_of l.now.r.now) (inner_of l.now.r.now l.now.levels) mode (seen_at at.now) (closing f.now (seen_at at.now)) (body_at g.now us.now) false run.old.left) }
+    ensures from { IfOk result (λ o. IfSome o (λ a. IfSome a (From l.now.r.now.w.now mode at.now.ctx.now t.now))) }
+{
+    l.r.w.is_sound();
+    let Some(test) = rewrite_test(l, run, at, us, g, a)? else {
+        return Ok(None);
+    };
+    match truth_of(test.rhs()) {
+        None => Ok(Some(None)),
+        Some(_) => open_tested(l, run, mode, at, t, f, test),
+    }
+}
+
+/// The test of an `if`.
+fn test_of(t: &Term) -> Option<&Term>
+    ensures { IfSome result (λ a. (b : Term) × (c : Term) × (t.now ≡ if_of a.now b c)) }
+{
+    match shape_of(t) {
+        ShapeRef::If(a, _, _) => Some(a),
+        _ => None,
+    }
+}
+
+/// The test of the `if` that is the body of a function that recurs, where a bound says that the body's instance is
+/// small and the call isn't among those that are to be opened.
+fn first_test<'a>(expand: &[Term], t: &Term, g: &'a Function) -> Option<&'a Term>
+    ensures recurs { IfSome result (λ a. IsTrue (is_recursive g.now)) }
+    ensures walked { IfSome result (λ a. is_among term_eq t.now expand.now ≡ false) }
+    ensures small { IfSome result (λ a. IsTrue (nat_le (term_size g.now.body * term_size t.now) most_nodes)) }
+    ensures choice { IfSome result (λ a. (b : Term) × (c : Term) × (g.now.body ≡ if_of a.now b c)) }
+{
+    if g.measure.is_none() {
+        return None;
+    }
+    if ap_kernel::is_among(t, expand) {
+        return None;
+    }
+    if !has_small_instance(&g.body, t) {
+        return None;
+    }
+    test_of(&g.body)
+}
+
 /// A call of a defined function, which is opened where the theory enables its definition, it isn't closed, and the
-/// instance of its body isn't too large.
+/// instance of its body isn't too large: by its test alone first, where the function recurs and a bound says that the
+/// instance is small.
 fn open_call<
     O: TypeOracle,
     F: Fn(&mut Run, Mode, &Place<'_>, &Term) -> Result<Option<Equiv>, NoMemory>,
@@ -339,11 +540,10 @@ fn open_call<
     if !l.r.theory.is_enabled(RuneKind::Definition, f) || is_among(f, at.closed) {
         return Ok(Some(None));
     }
-    let first = opened(l.r, at.ctx, mode, t)?;
-    if !is_small(first.rhs()) {
-        return Ok(Some(None));
+    match first_test(l.r.expand.as_slice(), t, g) {
+        Some(a) => open_by_test(l, run, mode, at, t, f, us, g, a),
+        None => open_at_once(l, run, mode, at, t, f, us, g),
     }
-    open_instance(l, run, mode, at, f, g, first)
 }
 
 /// The definition, of a function that may be opened.

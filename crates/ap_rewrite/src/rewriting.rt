@@ -39,7 +39,7 @@ fn rewrite_parts<
             let q = as_constant(l.r, at.ctx, mode, t, v)?;
             Ok(Some(q))
         }
-        Term::Call(f, us) => rewrite_call(l, run, mode, at, f, us.as_slice()),
+        Term::Call(f, us) => rewrite_call(l, run, mode, at, t, f, us.as_slice()),
     }
 }
 
@@ -61,8 +61,8 @@ fn rewrite_shape<
     ensures from { IfOk result (λ o. IfSome o (From l.now.r.now.w.now mode at.now.ctx.now t.now)) }
 {
     match shape_of(t) {
-        ShapeRef::If(a, b, c) => rewrite_if(l, run, mode, at, a, b, c),
-        ShapeRef::Not(a) => rewrite_not(l, run, mode, at, a),
+        ShapeRef::If(a, b, c) => rewrite_if(l, run, mode, at, t, a, b, c),
+        ShapeRef::Not(a) => rewrite_not(l, run, mode, at, t, a),
         _ => rewrite_parts(l, run, mode, at, t),
     }
 }

@@ -1,5 +1,5 @@
 // The kernel's rows, by what is asked and answered here: from a term, under facts and a mode.
-ghost use Rattle.std.specs.Prelude.{◌≡◌, ◌∷◌, [], Bool, IsTrue, IfOk, IfSome, Some, None, true, false, cond, is_some};
+ghost use Rattle.std.specs.Prelude.{◌≡◌, ◌∷◌, [], IsTrue, IfOk, IfSome, Some, None, true, false, is_some};
 ghost use Rattle.ap_term.specs.declared.term.Term.{Term, Quote, Call};
 ghost use Rattle.ap_world.specs.Assume.{assume};
 ghost use Rattle.ap_world.specs.Clauses.{not_of};
@@ -19,8 +19,7 @@ use crate::running;
 use crate::settling::{constant_equiv, in_mode, settle, settled};
 use crate::shaping::{negated, shaped};
 use ap_kernel::{
-    Ctx, Equiv, Mode, NoMemory, Symbol, Term, TypeOracle, Value, bare_test, branch, if_shape,
-    open_def, refl, trans,
+    Ctx, Equiv, Mode, NoMemory, Symbol, Term, TypeOracle, Value, branch, open_def, refl, trans,
 };
 
 /// From a term to itself.
@@ -91,25 +90,6 @@ pub fn simplest<O: TypeOracle>(
     ensures from { IfOk result (From r.now.w.now mode ctx.now t.now) }
 {
     let q = shaped(r.alloc, r.w, r.oracle, ctx, mode, t)?;
-    Ok(q)
-}
-
-/// From an `if` whose test is a constant to the branch that it chooses.
-pub fn picked<O: TypeOracle>(
-    r: &Rewriter<'_, O>,
-    ctx: &Ctx,
-    mode: Mode,
-    t: &Term,
-) -> Result<Equiv, NoMemory>
-    requires ready { Ready r.now }
-    requires facts { KnownFacts (defs_in r.now) ctx.now.0 }
-    requires term { IsTrue (known (defs_in r.now) t.now) }
-    requires choice { (a : Term) × (b : Term) × (c : Term) × (t.now ≡ if_of a b c) }
-    ensures is { IfOk result (λ q. (s : Bool) (a b c : Term) → t.now ≡ if_of a b c → truth_of a ≡ Some s → q.says.rhs ≡ cond s b c) }
-    ensures from { IfOk result (From r.now.w.now mode ctx.now t.now) }
-{
-    let mask = r.oracle.mask(r.alloc, r.w, ctx, bare_test(t))?;
-    let q = if_shape(r.alloc, r.w, ctx, mode, t, mask)?;
     Ok(q)
 }
 

@@ -9,32 +9,17 @@ ghost use Rattle.ap_kernel.specs.Standing.{HasGround, Stands};
 ghost use Rattle.ap_kernel.specs.Reductions.{KnownClause, Reduces, put_at, others, all_false, to_one, rewritten};
 ghost use Rattle.ap_rewrite.specs.Literals.{rewrite_literal, rewrite_literals, rewritten_to, split_left, simplify_of};
 ghost use Rattle.ap_rewrite.specs.Answering.{defs_in, Ready, setting_of, got};
-ghost use Rattle.ap_rewrite.specs.Simplifying.{got_reduced, literals_left, HasPlace, LeavesTrue};
+ghost use Rattle.ap_rewrite.specs.Simplifying.{got_reduced, literals_left, HasPlace, FitsLiteral, LeavesTrue};
 
 use crate::literals::literal;
 use crate::rewriter::Rewriter;
 use ap_clausify::split;
 use ap_kernel::{
-    Equiv, LinearOracle, Mode, NoMemory, Reduction, Seq, TypeOracle, World, chain, is_constant,
-    others_false, refl, rewrite_literal, tidy,
+    Equiv, LinearOracle, NoMemory, Reduction, Seq, TypeOracle, World, chain, is_constant, keep,
+    others_false, rewrite_literal, tidy,
 };
 use ap_term::{Clause, Steps, copy_terms};
 use std::alloc::Global;
-
-/// From a clause to itself: its first literal is rewritten to itself, and the empty clause is tidied.
-fn itself(alloc: Global, w: &World, c: Clause) -> Result<Reduction, NoMemory>
-    requires ground { HasGround (function_of w.now.entries) }
-    requires clause { KnownClause (function_of w.now.entries) c }
-    ensures stands { IfOk result (λ q. Reduces w.now q) }
-    ensures made { IfOk result (λ q. q.says ≡ record { from = c; to = c ∷ [] }) }
-{
-    let [first, ..] = c.0.as_slice() else {
-        return tidy(alloc, w, c);
-    };
-    let ctx = others_false(alloc, c.0.as_slice(), 0)?;
-    let same = refl(alloc, w, &ctx, Mode::Equal, first)?;
-    rewrite_literal(alloc, w, c, 0, same)
-}
 
 /// From a clause to what its one clause is reduced to.
 fn then(alloc: Global, w: &World, first: Reduction, next: Reduction) -> Result<Reduction, NoMemory>
@@ -84,28 +69,50 @@ fn literal_at<O: TypeOracle + LinearOracle>(
     Ok(found)
 }
 
-/// From a clause to the one whose literal at a place is rewritten while the others are assumed false. `None` where
-/// the steps run out.
-fn at_place<O: TypeOracle + LinearOracle>(
+/// What the literal at a place of the clause that is left leads to while the others are assumed false. `None` where the
+/// steps run out.
+fn literal_left<O: TypeOracle + LinearOracle>(
     r: &Rewriter<'_, O>,
     steps: &mut Steps,
-    c: Clause,
+    so_far: &Reduction,
     place: usize,
-) -> Result<Option<Reduction>, NoMemory>
+) -> Result<Option<Equiv>, NoMemory>
     requires ready { Ready r.now }
-    requires clause { KnownClause (defs_in r.now) c }
-    requires place { place < length c.0 }
-    ensures is { IfOk result (λ o. (u : Term) → slice_get c.0 place ≡ Some u → got_reduced o steps.new.left ≡ mapped (rewritten c place) (rewrite_literal (setting_of r.now) (take place c.0) (drop (place + 1) c.0) u steps.old.left)) }
-    ensures stands { IfOk result (λ o. IfSome o (Reduces r.now.w.now)) }
+    requires stands { Reduces r.now.w.now so_far.now }
+    requires place { HasPlace so_far.now.says place }
+    ensures is { IfOk result (λ o. (us : List Term) (u : Term) → so_far.now.says.to ≡ record { 0 = us } ∷ [] → slice_get us place ≡ Some u → got o steps.new.left ≡ rewrite_literal (setting_of r.now) (take place us) (drop (place + 1) us) u steps.old.left) }
+    ensures stands { IfOk result (λ o. IfSome o (λ q. Stands r.now.w.now q)) }
+    ensures fits { IfOk result (λ o. IfSome o (FitsLiteral so_far.now.says place)) }
 {
-    let Some(q) = literal_at(r, steps, &c, place)? else {
-        return Ok(None);
-    };
-    let answer = rewrite_literal(r.alloc, r.w, c, place, q)?;
-    Ok(Some(answer))
+    let clauses = so_far.to().as_slice();
+    let found = literal_at(r, steps, &clauses[0], place)?;
+    Ok(found)
 }
 
-/// The literal at a place of the clause that is left so far is rewritten. `None` where the steps run out.
+/// From a clause to the one that is left once a literal of it becomes what it leads to.
+fn with_literal(
+    alloc: Global,
+    w: &World,
+    so_far: Reduction,
+    place: usize,
+    q: Equiv,
+) -> Result<Reduction, NoMemory>
+    requires ground { HasGround (function_of w.now.entries) }
+    requires stands { Reduces w.now so_far }
+    requires place { HasPlace so_far.says place }
+    requires leads { Stands w.now q }
+    requires fits { FitsLiteral so_far.says place q }
+    ensures made { IfOk result (λ p. (us : List Term) → so_far.says.to ≡ record { 0 = us } ∷ [] → p.says ≡ to_one so_far.says.from (put_at place (q.says.rhs ∷ []) us)) }
+    ensures stands { IfOk result (λ p. Reduces w.now p) }
+{
+    let c = first_left(alloc, &so_far)?;
+    let next = rewrite_literal(alloc, w, c, place, q)?;
+    let both = then(alloc, w, so_far, next)?;
+    Ok(both)
+}
+
+/// The literal at a place of the clause that is left so far is rewritten. `None` where the steps run out. Where the
+/// literal doesn't change nothing is made.
 fn advance<O: TypeOracle + LinearOracle>(
     r: &Rewriter<'_, O>,
     steps: &mut Steps,
@@ -118,12 +125,14 @@ fn advance<O: TypeOracle + LinearOracle>(
     ensures is { IfOk result (λ o. (us : List Term) (u : Term) → so_far.says.to ≡ record { 0 = us } ∷ [] → slice_get us place ≡ Some u → got_reduced o steps.new.left ≡ mapped (λ v. to_one so_far.says.from (put_at place (v ∷ []) us)) (rewrite_literal (setting_of r.now) (take place us) (drop (place + 1) us) u steps.old.left)) }
     ensures stands { IfOk result (λ o. IfSome o (Reduces r.now.w.now)) }
 {
-    let c = first_left(r.alloc, &so_far)?;
-    let Some(next) = at_place(r, steps, c, place)? else {
+    let Some(q) = literal_left(r, steps, &so_far, place)? else {
         return Ok(None);
     };
-    let both = then(r.alloc, r.w, so_far, next)?;
-    Ok(Some(both))
+    if q.is_unchanged() {
+        return Ok(Some(so_far));
+    }
+    let next = with_literal(r.alloc, r.w, so_far, place, q)?;
+    Ok(Some(next))
 }
 
 /// Whether the literal at a place of the clause that is left is a constant other than `nil`. Takes no memory.
@@ -163,7 +172,7 @@ fn rewrite_literals<O: TypeOracle + LinearOracle>(
     ensures stands { IfOk result (λ o. IfSome o (Reduces r.now.w.now)) }
 {
     let count = c.0.len();
-    let mut so_far = itself(r.alloc, r.w, c)?;
+    let mut so_far = keep(r.alloc, r.w, c)?;
     for place in 0..count {
         let Some(next) = advance(r, steps, so_far, place)? else {
             return Ok(None);

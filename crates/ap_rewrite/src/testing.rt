@@ -1,5 +1,5 @@
 // Tests on terms by which the rewriter chooses.
-ghost use Rattle.std.specs.Prelude.{◌≡◌, nat_le};
+ghost use Rattle.std.specs.Prelude.{◌≡◌, ◌*◌, nat_le, IsTrue, IfSome};
 ghost use Rattle.ap_list.specs.Lists.{is_among};
 ghost use Rattle.ap_value.specs.Values.{symbol_eq};
 ghost use Rattle.ap_term.specs.Terms.{term_size};
@@ -23,6 +23,24 @@ pub fn is_small(t: &Term) -> bool
     ensures { result ≡ nat_le (term_size t.now) most_nodes }
 {
     match size(t) {
+        Some(nodes) => nodes <= 4096,
+        None => false,
+    }
+}
+
+/// A number of nodes that no instance of a function's body at the arguments of a call passes. Takes no memory.
+fn most_size(body: &Term, call: &Term) -> Option<u64>
+    ensures { IfSome result (λ n. n ≡ term_size body.now * term_size call.now) }
+{
+    size(body)?.checked_mul(size(call)?)
+}
+
+/// Whether a bound says that the instance of a function's body at the arguments of a call has at most 4,096 nodes.
+/// Takes no memory.
+pub fn has_small_instance(body: &Term, call: &Term) -> bool
+    ensures { IsTrue result → IsTrue (nat_le (term_size body.now * term_size call.now) most_nodes) }
+{
+    match most_size(body, call) {
         Some(nodes) => nodes <= 4096,
         None => false,
     }

@@ -1,10 +1,15 @@
-use Rattle.std.proofs.Common.{◌≡◌, IfOk, IfSome, subst}
+use Rattle.std.proofs.Common.{◌≡◌, ◌∙◌, IfOk, IfSome, sym, ap, subst}
 use Rattle.ap_term.specs.declared.term.Term.{Term}
 use Rattle.ap_kernel.specs.Answers.{if_of}
 use Rattle.ap_rewrite.specs.Answering.{setting_of, inner_of, seen_at, got, From}
 use Rattle.ap_rewrite.proofs.Froms.{from_own}
 use Rattle.ap_rewrite.proofs.Branched.{if_goes, if_out}
 use Rattle.ap_rewrite.proofs.branching.rewrite_if.Goals as goal
+
+pub branches-requires-clause-term : goal.branches-requires-clause-term
+branches-requires-clause-term g c =
+    let h = rw c.in-Some.is at c.in_ok-test.ensures.from in
+    c.requires.term ∙ ap (λ (u : Term). if_of u c.args.b.now c.args.c.now) (sym h.lhs)
 
 pub branches-requires-clause-test : goal.branches-requires-clause-test
 branches-requires-clause-test g c = from_own _ _ _ _ _ (rw c.in-Some.is at c.in_ok-test.ensures.from)

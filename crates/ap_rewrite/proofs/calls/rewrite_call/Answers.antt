@@ -9,6 +9,14 @@ use Rattle.ap_rewrite.proofs.calls.rewrite_call.Goals as goal
 pub rewrite_args-requires-clause-terms : goal.rewrite_args-requires-clause-terms
 rewrite_args-requires-clause-terms g c = call_parts (defs_in c.args.l.now.r.now) c.args.f.now c.args.us.now c.requires.call
 
+pub on_arguments-requires-clause-term : goal.on_arguments-requires-clause-term
+on_arguments-requires-clause-term g c = subst (λ (u : Term). known (defs_in c.args.l.now.r.now) u ≡ true) (sym c.requires.term) c.requires.call
+
+pub on_arguments-requires-clause-call : goal.on_arguments-requires-clause-call
+on_arguments-requires-clause-call g c =
+    let h = rw c.in-Some.is at c.in_ok-args.ensures.from in
+    c.requires.term ∙ ap (Call c.args.f.now) (sym h.0)
+
 pub on_arguments-requires-clause-head : goal.on_arguments-requires-clause-head
 on_arguments-requires-clause-head g c =
     let h = rw c.in-Some.is at c.in_ok-args.ensures.from in

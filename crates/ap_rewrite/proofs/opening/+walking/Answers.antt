@@ -8,7 +8,7 @@ use Rattle.ap_rewrite.specs.Rewriting.{truth_of}
 use Rattle.ap_rewrite.specs.Answering.{defs_in, setting_of, inner_of, seen_at}
 use Rattle.ap_rewrite.proofs.Froms.{from_own}
 use Rattle.ap_rewrite.proofs.Chained.{same_answer, same_from}
-use Rattle.ap_rewrite.proofs.Walked.{past_chosen, past_open, walk_out, walk_past, leaf_at, led_parts, seen_parts, same_place, from_there, branches_smaller, branch_smaller}
+use Rattle.ap_rewrite.proofs.Walked.{past_chosen, past_open, walk_out, walk_past, leaf_at, seen_parts, same_place, from_there, branches_smaller, branch_smaller}
 use Rattle.ap_rewrite.proofs.opening.+walking.Goals as goal
 
 -- past an `if`: the branch that a constant chooses

@@ -1,8 +1,11 @@
-use Rattle.std.proofs.Common.{sym}
+use Rattle.std.proofs.Common.{sym, ◌∙◌}
 use Rattle.ap_rewrite.proofs.Froms.{from_at}
 use Rattle.ap_rewrite.proofs.Chained.{answered_some, answered_out}
 use Rattle.ap_rewrite.proofs.Walked.{led_parts}
 use Rattle.ap_rewrite.proofs.opening.follow_both.Goals as goal
+
+pub both-requires-clause-term : goal.both-requires-clause-term
+both-requires-clause-term g c = c.rhs.ensures ∙ c.requires.choice
 
 pub both-requires-clause-yes : goal.both-requires-clause-yes
 both-requires-clause-yes g c = (led_parts _ _ _ _ _ _ _ _ c.requires.sofar c.requires.choice).1

@@ -1,28 +1,13 @@
-use Rattle.std.proofs.Common.{nat_le, sym, ap, ◌∙◌}
+use Rattle.std.proofs.Common.{List, sym, ap, ◌∙◌}
+use Rattle.ap_list.specs.Lists.{is_among}
 use Rattle.ap_term.specs.declared.term.Term.{Term}
-use Rattle.ap_term.specs.Terms.{term_size}
-use Rattle.ap_rewrite.specs.Rewriting.{most_nodes}
-use Rattle.ap_rewrite.specs.Answering.{defs_in, setting_of, inner_of, seen_at}
-use Rattle.ap_rewrite.proofs.Froms.{from_own}
-use Rattle.ap_rewrite.proofs.Chained.{same_answer, same_from}
-use Rattle.ap_rewrite.proofs.Opened.{is_defined, instance_is, disabled, among, too_grown, let_in}
+use Rattle.ap_term.specs.Equal.{term_eq}
+use Rattle.ap_rewrite.specs.Answering.{setting_of, inner_of, seen_at}
+use Rattle.ap_rewrite.proofs.Chained.{same_answer}
+use Rattle.ap_rewrite.proofs.Opened.{disabled, among}
+use Rattle.ap_rewrite.proofs.Tested.{by_test}
 use Rattle.ap_rewrite.proofs.opening.open_call.Goals.{then-not-is_enabled-via-then-not-is_enabled, then-not-is_enabled-via-else-not-is_enabled+then-is_among}
 use Rattle.ap_rewrite.proofs.opening.open_call.Goals as goal
-
-pub opened-requires-clause-defined : goal.opened-requires-clause-defined
-opened-requires-clause-defined g c = is_defined _ _ _ _ _ c.requires.call c.requires.function
-
-pub open_instance-requires-clause-first : goal.open_instance-requires-clause-first
-open_instance-requires-clause-first g c = from_own _ _ _ _ _ c.in_ok-first.ensures.from
-
-pub returns-then-not-is_small-clause-is : goal.returns-then-not-is_small-clause-is
-returns-then-not-is_small-clause-is g c =
-    too_grown (setting_of c.args.l.now.r.now) (inner_of c.args.l.now.r.now c.args.l.now.levels) c.args.mode (seen_at c.args.at.now) c.args.t.now c.args.f.now c.args.us.now c.args.g.now c.args.run.now.left _
-    (instance_is (defs_in c.args.l.now.r.now) _ _ _ _ _ c.requires.call c.requires.function c.in_ok-first.ensures.is)
-    (ap (λ (x : Term). nat_le (term_size x) most_nodes) (sym c.rhs.ensures) ∙ sym c.is_small.ensures ∙ c.if-not-is_small.true)
-
-pub returns-clause-from : goal.returns-clause-from
-returns-clause-from g c = same_from _ _ _ _ _ _ c.in_ok-first.ensures.from.lhs c.open_instance.ensures.from
 
 pub returns-then-not-is_enabled-clause-is : goal.returns-then-not-is_enabled-clause-is
 returns-then-not-is_enabled-clause-is g c =
@@ -33,12 +18,17 @@ returns-then-not-is_enabled-clause-is g c =
       | then-not-is_enabled-via-else-not-is_enabled+then-is_among w ↦ shut (sym w.is_among.ensures ∙ w.if-is_among.true)
     ]
 
-pub returns-clause-is : goal.returns-clause-is
-returns-clause-is g c =
+pub open_at_once-requires-clause-enabled : goal.open_at_once-requires-clause-enabled
+open_at_once-requires-clause-enabled g c = sym c.is_enabled.ensures ∙ c.if-not-is_enabled.false
+
+pub open_at_once-requires-clause-free : goal.open_at_once-requires-clause-free
+open_at_once-requires-clause-free g c = sym c.is_among.ensures ∙ c.if-is_among.false
+
+pub returns-in-Some-clause-is : goal.returns-in-Some-clause-is
+returns-in-Some-clause-is g c =
     same_answer _ _ _ _
-    (let_in (setting_of c.args.l.now.r.now) (inner_of c.args.l.now.r.now c.args.l.now.levels) c.args.mode (seen_at c.args.at.now) c.args.t.now c.args.f.now c.args.us.now c.args.g.now c.args.run.now.left c.in_ok-first.first.says.lhs _
-    (sym c.is_enabled.ensures ∙ c.if-not-is_enabled.false) (sym c.is_among.ensures ∙ c.if-is_among.false)
-    (instance_is (defs_in c.args.l.now.r.now) _ _ _ _ _ c.requires.call c.requires.function c.in_ok-first.ensures.is)
-    (ap (λ (x : Term). nat_le (term_size x) most_nodes) (sym c.rhs.ensures) ∙ sym c.is_small.ensures ∙ c.if-not-is_small.false)
-    c.in_ok-first.ensures.from.lhs)
-    c.open_instance.ensures.is
+    (by_test (setting_of c.args.l.now.r.now) (inner_of c.args.l.now.r.now c.args.l.now.levels) c.args.mode (seen_at c.args.at.now) c.args.t.now c.args.f.now c.args.us.now c.args.g.now c.args.run.now.left
+    (sym c.is_enabled.ensures ∙ c.if-not-is_enabled.false) (sym c.is_among.ensures ∙ c.if-is_among.false) c.in-Some.ensures.recurs
+    (ap (λ (us : List Term). is_among term_eq c.args.t.now us) (sym c.as_slice.ensures) ∙ c.in-Some.ensures.walked)
+    c.requires.call c.in-Some.ensures.small)
+    c.open_by_test.ensures.is

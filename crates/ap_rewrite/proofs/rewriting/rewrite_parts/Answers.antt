@@ -13,6 +13,9 @@ pub returns-in_ok-q-in-Quote-clause-is : goal.returns-in_ok-q-in-Quote-clause-is
 returns-in_ok-q-in-Quote-clause-is g c =
     quote_is (setting_of c.args.l.now.r.now) (inner_of c.args.l.now.r.now c.args.l.now.levels) c.args.mode (seen_at c.args.at.now) c.args.t.now c.args.run.now.left _ _ c.in-Quote.is c.in_ok-q-in-Quote.ensures.is
 
+pub rewrite_call-requires-clause-term : goal.rewrite_call-requires-clause-term
+rewrite_call-requires-clause-term g c = c.in-Call.is ∙ ap (λ (us : List Term). Call c.in-Call.f us) (sym c.as_slice.ensures)
+
 pub rewrite_call-requires-clause-call : goal.rewrite_call-requires-clause-call
 rewrite_call-requires-clause-call g c = subst (λ (u : Term). known (defs_in c.args.l.now.r.now) u ≡ true) (c.in-Call.is ∙ ap (λ (us : List Term). Call c.in-Call.f us) (sym c.as_slice.ensures)) c.requires.term
 

@@ -7,6 +7,11 @@ use Rattle.ap_rewrite.proofs.Froms.{if_parts, not_part}
 use Rattle.ap_rewrite.proofs.Levels.{parts_at, same_got}
 use Rattle.ap_rewrite.proofs.rewriting.rewrite_shape.Goals as goal
 
+pub rewrite_if-requires-clause-term : goal.rewrite_if-requires-clause-term
+rewrite_if-requires-clause-term g c =
+    let h : shape_of c.args.t.now ≡ choice c.in-If.a.now c.in-If.b.now c.in-If.c.now = search rules in
+    (if_parts (defs_in c.args.l.now.r.now) _ _ _ _ c.requires.term h).0
+
 pub rewrite_if-requires-clause-test : goal.rewrite_if-requires-clause-test
 rewrite_if-requires-clause-test g c =
     let h : shape_of c.args.t.now ≡ choice c.in-If.a.now c.in-If.b.now c.in-If.c.now = search rules in
@@ -21,6 +26,11 @@ pub rewrite_if-requires-clause-no : goal.rewrite_if-requires-clause-no
 rewrite_if-requires-clause-no g c =
     let h : shape_of c.args.t.now ≡ choice c.in-If.a.now c.in-If.b.now c.in-If.c.now = search rules in
     (if_parts (defs_in c.args.l.now.r.now) _ _ _ _ c.requires.term h).3
+
+pub rewrite_not-requires-clause-term : goal.rewrite_not-requires-clause-term
+rewrite_not-requires-clause-term g c =
+    let h : shape_of c.args.t.now ≡ negation c.in-Not.a.now = search rules in
+    (not_part (defs_in c.args.l.now.r.now) _ _ c.requires.term h).0
 
 pub rewrite_not-requires-clause-argument : goal.rewrite_not-requires-clause-argument
 rewrite_not-requires-clause-argument g c =

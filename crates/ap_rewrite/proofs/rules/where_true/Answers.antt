@@ -1,5 +1,4 @@
-use Rattle.std.proofs.Common.{◌≡◌, true, false, ◌∙◌, sym, ap}
-use Rattle.ap_term.specs.declared.term.Term.{Term}
+use Rattle.std.proofs.Common.{true, ◌∙◌, sym, ap}
 use Rattle.ap_world.specs.Shapes.{is_constant}
 use Rattle.ap_rewrite.specs.Relieving.{if_so}
 use Rattle.ap_rewrite.proofs.rules.where_true.Goals as goal

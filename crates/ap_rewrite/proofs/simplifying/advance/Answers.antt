@@ -1,24 +1,21 @@
-use Rattle.std.proofs.Common.{◌<◌, length, List, subst}
-use Rattle.ap_term.specs.declared.term.Term.{Term}
-use Rattle.ap_rewrite.specs.Answering.{defs_in, setting_of}
-use Rattle.ap_rewrite.proofs.Simplified.{first_there, first_is, first_known, joins, step_from}
+use Rattle.std.proofs.Common.{rules}
+use Rattle.ap_rewrite.proofs.Advanced.{unchanged_says, step_none, step_some}
 use Rattle.ap_rewrite.proofs.simplifying.advance.Goals as goal
 
-pub first_left-requires : goal.first_left-requires
-first_left-requires g c = first_there c.args.so_far.says.to c.requires.place.literals c.requires.place.one
+pub returns-in_default-clause-is : goal.returns-in_default-clause-is
+returns-in_default-clause-is g c = λ us u to at. step_none _ _ ((rw c.in_default.is at c.in_ok-q.ensures.is) us u to at)
 
-pub at_place-requires-clause-clause : goal.at_place-requires-clause-clause
-at_place-requires-clause-clause g c =
-    first_known (defs_in c.args.r.now) c.args.so_far.says.to c.requires.place.literals c.in_ok-c.c c.requires.place.one c.in_ok-c.ensures c.requires.stands.says.goals
+pub returns-then-is_unchanged-clause-is : goal.returns-then-is_unchanged-clause-is
+returns-then-is_unchanged-clause-is g c = λ us u to at.
+    step_some _ _ c.in-Some.q c.args.so_far _ ((rw c.in-Some.is at c.in_ok-q.ensures.is) us u to at)
+    (unchanged_says c.args.r.now.w.now c.args.so_far.says us c.args.place c.in-Some.q to (rw c.in-Some.is at c.in_ok-q.ensures.stands) (search rules) (rw c.in-Some.is at c.in_ok-q.ensures.fits))
 
-pub at_place-requires-clause-place : goal.at_place-requires-clause-place
-at_place-requires-clause-place g c =
-    subst (λ (us : List Term). c.args.place < length us) (first_is c.args.so_far.says.to c.requires.place.literals c.in_ok-c.c c.requires.place.one c.in_ok-c.ensures) c.requires.place.within
+pub with_literal-requires-clause-leads : goal.with_literal-requires-clause-leads
+with_literal-requires-clause-leads g c = rw c.in-Some.is at c.in_ok-q.ensures.stands
 
-pub then-requires-clause-one : goal.then-requires-clause-one
-then-requires-clause-one g c =
-    joins c.args.so_far.says.to c.requires.place.literals c.in_ok-c.c c.in-Some.next.says.from c.requires.place.one
-    (first_is c.args.so_far.says.to c.requires.place.literals c.in_ok-c.c c.requires.place.one c.in_ok-c.ensures)
-    (step_from (setting_of c.args.r.now) c.in_ok-c.c c.args.place c.args.steps.now.left _ c.in-Some.next
-    (subst (λ (us : List Term). c.args.place < length us) (first_is c.args.so_far.says.to c.requires.place.literals c.in_ok-c.c c.requires.place.one c.in_ok-c.ensures) c.requires.place.within)
-    (rw c.in-Some.is at c.in_ok-next.ensures.is))
+pub with_literal-requires-clause-fits : goal.with_literal-requires-clause-fits
+with_literal-requires-clause-fits g c = rw c.in-Some.is at c.in_ok-q.ensures.fits
+
+pub returns-clause-is : goal.returns-clause-is
+returns-clause-is g c = λ us u to at.
+    step_some _ _ c.in-Some.q c.in_ok-next.next _ ((rw c.in-Some.is at c.in_ok-q.ensures.is) us u to at) (c.in_ok-next.ensures.made us to)
