@@ -108,7 +108,7 @@ fn attempt_from<J: Planned + Send + Sync, R: Threads + Wait + Sync, G: Gate + Sy
     crosses::<Term>();
     crosses::<Value>();
     let prover = Proving {
-        step: Acl2Step::new(root.plan),
+        step: Acl2Step::new(root.plan, crew.workers),
     };
     let rule = first_rule(limits);
     let done = prove(crew.rt, alloc, &prover, root, rule, crew.workers, crew.gate)?;

@@ -1,6 +1,7 @@
 // Copies that share no count of owners with what they were made from.
 ghost use Rattle.std.specs.Prelude.{◌≡◌, [], IfOk, OnOk};
 
+use crate::clauses::copy_clause;
 use ap_list::{NoMemory, Seq};
 use ap_term::{Clause, Term, copy_term};
 use ap_value::copy_symbol;
@@ -42,9 +43,19 @@ fn fresh_terms(alloc: Global, ts: &[Term], calls: &mut u32) -> Result<Seq<Term>,
 
 /// A copy of a clause whose calls are its own: threads that work on clauses with the same parts would wait for each
 /// other at the counts of owners of these. The only error is want of memory.
-pub(crate) fn fresh_clause(alloc: Global, c: &Clause) -> Result<Clause, NoMemory>
+fn fresh_clause(alloc: Global, c: &Clause) -> Result<Clause, NoMemory>
     ensures { IfOk result (λ d. d ≡ c.now) }
 {
     let mut calls = MOST_CALLS;
     Ok(Clause(fresh_terms(alloc, c.0.as_slice(), &mut calls)?))
+}
+
+/// A copy of a clause that shares its calls with it, or else has its own. The only error is want of memory.
+pub(crate) fn own_clause(alloc: Global, c: &Clause, shares: bool) -> Result<Clause, NoMemory>
+    ensures { IfOk result (λ d. d ≡ c.now) }
+{
+    if shares {
+        return copy_clause(alloc, c);
+    }
+    fresh_clause(alloc, c)
 }

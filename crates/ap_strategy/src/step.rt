@@ -17,17 +17,22 @@ use std::marker::PhantomData;
 #[derive(Drop)]
 pub struct Acl2Step<'a, J: Planned> {
     plan: &'a Plan,
+    /// Whether a goal's clause shares its calls with what it was made from.
+    shares: bool,
     of: PhantomData<J>,
 }
 
 impl<'a, J: Planned> Acl2Step<'a, J> {
-    /// The waterfall of a plan, which is the brand's. Takes no memory.
-    pub fn new(plan: &'a Plan) -> Acl2Step<'a, J>
+    /// The waterfall of a plan, which is the brand's, for so many workers. Each step is the same for any number: with 0
+    /// or 1 it copies a goal's clause at a count, with more call by call, so that the workers don't wait for each other
+    /// at the counts of its parts. Takes no memory.
+    pub fn new(plan: &'a Plan, workers: u32) -> Acl2Step<'a, J>
         requires brand { plan.now ≡ J.plan }
         ensures { result.plan.now ≡ plan.now }
     {
         Acl2Step {
             plan,
+            shares: workers <= 1,
             of: PhantomData,
         }
     }
@@ -79,7 +84,7 @@ impl<'a, J: Planned> Step for Acl2Step<'a, J> {
     ghost whole = { laws.whole };
 
     fn step(&self, alloc: Global, task: &Task<'a, J>) -> Result<Stepped<Task<'a, J>>, NoMemory> {
-        step_of(alloc, task)
+        step_of(alloc, task, self.shares)
     }
 
     fn copy_task(&self, alloc: Global, task: &Task<'a, J>) -> Result<Task<'a, J>, NoMemory> {

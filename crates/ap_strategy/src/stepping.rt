@@ -12,7 +12,7 @@ ghost use Rattle.ap_strategy.specs.Goals.{defs_of, hint_for, hinted};
 ghost use Rattle.ap_strategy.specs.Steps.{child, seen_below, counted_down, children, cases_in, done, stop_step, later, missed_step, open_step, pushed_or_open, hint_step, clause_step, induct_step, step_of};
 
 use crate::clauses::{copy_clause, is_alone};
-use crate::fresh::fresh_clause;
+use crate::fresh::own_clause;
 use crate::hinting::{hint_for, hint_goals, makes_goals};
 use crate::later::later;
 use crate::plan::{Planned, copy_settings};
@@ -180,16 +180,18 @@ fn missed_step<'a, J: Planned>(
     Ok(made(process, limited, children(alloc, task, true, clauses)?))
 }
 
-/// Simplifies a task; where its clause stays the same, or the steps run out, that is a miss.
+/// Simplifies a task; where its clause stays the same, or the steps run out, that is a miss. Where calls aren't to be
+/// shared it begins with a clause whose calls are its own.
 fn open_step<'a, J: Planned>(
     alloc: Global,
     task: &Task<'a, J>,
+    shares: bool,
 ) -> Result<Stepped<Task<'a, J>>, NoMemory>
     requires above { task.now.depth < 250 }
     requires plain { task.now.induct ≡ false }
     ensures { IfOk result (λ s. s ≡ open_step task.now) }
 {
-    let clause = fresh_clause(alloc, &task.clause)?;
+    let clause = own_clause(alloc, &task.clause, shares)?;
     let Some(clauses) = simplify(alloc, task.plan, &task.settings, clause)? else {
         return missed_step(alloc, task, true);
     };
@@ -207,6 +209,7 @@ fn pushed_or_open<'a, J: Planned>(
     alloc: Global,
     task: &Task<'a, J>,
     scheme: &Option<Term>,
+    shares: bool,
 ) -> Result<Stepped<Task<'a, J>>, NoMemory>
     requires above { task.now.depth < 250 }
     requires plain { task.now.induct ≡ false }
@@ -214,7 +217,7 @@ fn pushed_or_open<'a, J: Planned>(
 {
     match scheme {
         Some(_) => Ok(pushed(false, false)),
-        None => open_step(alloc, task),
+        None => open_step(alloc, task, shares),
     }
 }
 
@@ -223,6 +226,7 @@ fn hint_step<'a, J: Planned>(
     alloc: Global,
     task: &Task<'a, J>,
     hint: &Hint,
+    shares: bool,
 ) -> Result<Stepped<Task<'a, J>>, NoMemory>
     requires above { task.now.depth < 250 }
     requires plain { task.now.induct ≡ false }
@@ -230,7 +234,7 @@ fn hint_step<'a, J: Planned>(
     ensures { IfOk result (λ s. s ≡ hint_step task.now (Some hint.now)) }
 {
     if !makes_goals(hint) {
-        return pushed_or_open(alloc, task, &hint.scheme);
+        return pushed_or_open(alloc, task, &hint.scheme, shares);
     }
     task.is_goal();
     let clause = copy_clause(alloc, &task.clause)?;
@@ -242,6 +246,7 @@ fn hint_step<'a, J: Planned>(
 fn hinted_step<'a, J: Planned>(
     alloc: Global,
     task: &Task<'a, J>,
+    shares: bool,
 ) -> Result<Stepped<Task<'a, J>>, NoMemory>
     requires above { task.now.depth < 250 }
     requires plain { task.now.induct ≡ false }
@@ -249,10 +254,10 @@ fn hinted_step<'a, J: Planned>(
 {
     task.is_goal();
     let Some(hint) = hint_for(task.plan, &task.name) else {
-        return open_step(alloc, task);
+        return open_step(alloc, task, shares);
     };
     let with = hinted(alloc, task)?;
-    let stepped = hint_step(alloc, &with, hint)?;
+    let stepped = hint_step(alloc, &with, hint, shares)?;
     Ok(stepped)
 }
 
@@ -260,6 +265,7 @@ fn hinted_step<'a, J: Planned>(
 fn clause_step<'a, J: Planned>(
     alloc: Global,
     task: &Task<'a, J>,
+    shares: bool,
 ) -> Result<Stepped<Task<'a, J>>, NoMemory>
     requires plain { task.now.induct ≡ false }
     ensures { IfOk result (λ s. s ≡ clause_step task.now task.now.clause.0) }
@@ -270,7 +276,7 @@ fn clause_step<'a, J: Planned>(
     if task.depth >= 250 {
         return Ok(stopped(false, Reason::PathDepth));
     }
-    hinted_step(alloc, task)
+    hinted_step(alloc, task, shares)
 }
 
 /// The clauses of the induction of a task, if there is one.
@@ -314,11 +320,12 @@ fn induct_step<'a, J: Planned>(
 pub(crate) fn step_of<'a, J: Planned>(
     alloc: Global,
     task: &Task<'a, J>,
+    shares: bool,
 ) -> Result<Stepped<Task<'a, J>>, NoMemory>
     ensures { IfOk result (λ s. s ≡ step_of task.now) }
 {
     if task.induct {
         return induct_step(alloc, task);
     }
-    clause_step(alloc, task)
+    clause_step(alloc, task, shares)
 }
