@@ -2,4 +2,5 @@ pub mod Pairs
 pub mod Seats
 pub mod Walking
 pub mod Putting
+pub mod Handing
 pub mod Crossing

@@ -4,6 +4,10 @@ ghost use Rattle.ap_list.specs.Lists.{Each};
 ghost use Rattle.ap_walk.specs.Visits.{out_children};
 ghost use Rattle.ap_walk.specs.Walks.{full};
 ghost use Rattle.ap_table.specs.Seated.{HasLooked};
+ghost use Rattle.ap_table.specs.Steps.{Grows, Puts, Drops};
+ghost use Rattle.ap_table.specs.Locked.{OneStep};
+ghost use Rattle.ap_table.specs.Shown.{Run};
+ghost use Rattle.ap_speculate.specs.Boards.{ComesBack};
 
 use ap_table::{GoalTable, Grown, Job, License, TableState, Taken};
 use ap_walk::{Step, Stepped, Walked};
@@ -12,6 +16,10 @@ use std::sync::Wait;
 
 /// A table at which one worker works.
 pub(crate) trait Board<S: Step> {
+    /// That a call did a step of this kind: at a state of one's own the step led from the one to the other, at a table
+    /// that is shared it was some step of it.
+    ghost did: { Self → (Run S.Task → Run S.Task → Type 0) → Self → Type 0 };
+
     /// Puts the children of a job's task into the table.
     fn expand(
         &mut self,
@@ -21,15 +29,19 @@ pub(crate) trait Board<S: Step> {
         stepped: Stepped<S::Task>,
     ) -> Grown<S::Task>
         requires stepped { stepped ≡ S.step_of job.task }
-        requires many { 2 ≤ length (out_children stepped.out) };
+        requires many { 2 ≤ length (out_children stepped.out) }
+        ensures done { did self.old (λ a b. Grows S.step_of S.depth a b job stepped result) self.new }
+        ensures back { ComesBack job result };
 
     /// Puts the walk of a job's task.
     fn put(&mut self, step: &S, job: Job<S::Task>, walked: Walked<S::Task>) -> Taken<S::Task>
         requires walked { walked ≡ full S.step_of S.depth job.rule job.task }
-        requires looked { Each (HasLooked (length walked.marks)) job.seats };
+        requires looked { Each (HasLooked (length walked.marks)) job.seats }
+        ensures { did self.old (λ a b. Puts S.step_of S.depth a b job result) self.new };
 
     /// Drops a job's node.
-    fn put_drop(&mut self, step: &S, job: Job<S::Task>, license: License) -> Taken<S::Task>;
+    fn put_drop(&mut self, step: &S, job: Job<S::Task>, license: License) -> Taken<S::Task>
+        ensures { did self.old (λ a b. Drops S.step_of S.depth a b job license result) self.new };
 }
 
 /// A table that workers share.
@@ -40,6 +52,9 @@ pub(crate) struct Shared<'a, S: Step, R> {
 }
 
 impl<'a, S: Step, R: Wait> Board<S> for Shared<'a, S, R> {
+    ghost did = { λ _ does _. OneStep S.step_of S.depth does };
+
+    #[tactic(auto, using(crate::proofs::Handing::shared_back))]
     fn expand(
         &mut self,
         alloc: Global,
@@ -49,6 +64,8 @@ impl<'a, S: Step, R: Wait> Board<S> for Shared<'a, S, R> {
     ) -> Grown<S::Task>
         requires stepped { stepped ≡ S.step_of job.task }
         requires many { 2 ≤ length (out_children stepped.out) }
+        ensures done { OneStep S.step_of S.depth (λ a b. Grows S.step_of S.depth a b job stepped result) }
+        ensures back { ComesBack job result }
     {
         self.table.expand(self.rt, alloc, step, job, stepped)
     }
@@ -56,16 +73,22 @@ impl<'a, S: Step, R: Wait> Board<S> for Shared<'a, S, R> {
     fn put(&mut self, step: &S, job: Job<S::Task>, walked: Walked<S::Task>) -> Taken<S::Task>
         requires walked { walked ≡ full S.step_of S.depth job.rule job.task }
         requires looked { Each (HasLooked (length walked.marks)) job.seats }
+        ensures { OneStep S.step_of S.depth (λ a b. Puts S.step_of S.depth a b job result) }
     {
         self.table.put(self.rt, step, job, walked)
     }
 
-    fn put_drop(&mut self, step: &S, job: Job<S::Task>, license: License) -> Taken<S::Task> {
+    fn put_drop(&mut self, step: &S, job: Job<S::Task>, license: License) -> Taken<S::Task>
+        ensures { OneStep S.step_of S.depth (λ a b. Drops S.step_of S.depth a b job license result) }
+    {
         self.table.put_drop(self.rt, step, job, license)
     }
 }
 
 impl<S: Step> Board<S> for TableState<S> {
+    ghost did = { λ old does new. does old new };
+
+    #[tactic(auto, using(crate::proofs::Handing::grows_back))]
     fn expand(
         &mut self,
         alloc: Global,
@@ -75,6 +98,8 @@ impl<S: Step> Board<S> for TableState<S> {
     ) -> Grown<S::Task>
         requires stepped { stepped ≡ S.step_of job.task }
         requires many { 2 ≤ length (out_children stepped.out) }
+        ensures done { Grows S.step_of S.depth self.old self.new job stepped result }
+        ensures back { ComesBack job result }
     {
         self.expand_step(alloc, step, job, stepped)
     }
@@ -82,11 +107,14 @@ impl<S: Step> Board<S> for TableState<S> {
     fn put(&mut self, step: &S, job: Job<S::Task>, walked: Walked<S::Task>) -> Taken<S::Task>
         requires walked { walked ≡ full S.step_of S.depth job.rule job.task }
         requires looked { Each (HasLooked (length walked.marks)) job.seats }
+        ensures { Puts S.step_of S.depth self.old self.new job result }
     {
         self.put_step(step, job, walked)
     }
 
-    fn put_drop(&mut self, step: &S, job: Job<S::Task>, license: License) -> Taken<S::Task> {
+    fn put_drop(&mut self, step: &S, job: Job<S::Task>, license: License) -> Taken<S::Task>
+        ensures { Drops S.step_of S.depth self.old self.new job license result }
+    {
         self.drop_step(step, job, license)
     }
 }

@@ -1,6 +1,7 @@
 //! A worker's turns.
-ghost use Rattle.std.specs.Prelude.{◌≡◌, ◌≤◌, IsTrue, IfOk, IfSome, length};
+ghost use Rattle.std.specs.Prelude.{◌≡◌, ◌≤◌, ◌<◌, ◌↔◌, IsTrue, IfOk, OnOk, IfSome, length};
 ghost use Rattle.ap_walk.specs.Visits.{out_children};
+ghost use Rattle.ap_speculate.specs.Boards.{IsEnded, IsHandedBack};
 
 use crate::board::{Board, Shared};
 use crate::gate::Gate;
@@ -15,7 +16,7 @@ const MOST_FAMILIES: usize = 3;
 
 /// Whether a task splits into two tasks or more.
 fn splits<T>(stepped: &Stepped<T>) -> bool
-    ensures { IsTrue result → 2 ≤ length (out_children stepped.now.out) }
+    ensures { IsTrue result ↔ 2 ≤ length (out_children stepped.now.out) }
 {
     match &stepped.out {
         Out::Split(children) => children.len() >= 2,
@@ -26,7 +27,7 @@ fn splits<T>(stepped: &Stepped<T>) -> bool
 /// Whether a job's node is to be expanded, by its task's step: the task splits into two tasks or more, and fewer than
 /// three families are above the node.
 fn expands<T>(job: &Job<T>, stepped: &Stepped<T>) -> bool
-    ensures { IsTrue result → 2 ≤ length (out_children stepped.now.out) }
+    ensures { IsTrue result ↔ (length job.now.seats < 3) × (2 ≤ length (out_children stepped.now.out)) }
 {
     job.seats.len() < MOST_FAMILIES && splits(stepped)
 }
@@ -44,6 +45,7 @@ fn walk_claimed<S: Step, B: Board<S>, G: Gate, R: Wait>(
     gate: &G,
 ) -> Result<(), NoMemory>
     requires { IfSome first (λ s. s ≡ S.step_of job.task) }
+    ensures { OnOk result (IsEnded S.step_of S.depth B.did board.old board.new job) }
 {
     let mut job = job;
     match run_stepped(rt, alloc, step, &mut job, first, worker, gate)? {
@@ -63,7 +65,9 @@ pub(crate) fn work_claimed<S: Step, B: Board<S>, G: Gate, R: Wait>(
     job: Job<S::Task>,
     worker: u32,
     gate: &G,
-) -> Result<(), NoMemory> {
+) -> Result<(), NoMemory>
+    ensures { OnOk result (IsHandedBack S.step_of S.depth B.did board.old board.new job) }
+{
     let mut job = job;
     if let Some(license) = look_at_job(alloc, &mut job) {
         board.put_drop(step, job, license);

@@ -2,7 +2,7 @@
 //! that there was a table of that type at which it did its one step, or its one look, and not which table. Workers
 //! wait for each other by the history's length: each call that makes it longer wakes all who wait. No clause says
 //! that a waiter wakes.
-ghost use Rattle.std.specs.Prelude.{◌≡◌, ◌≤◌, length, IsTrue, ◌↔◌};
+ghost use Rattle.std.specs.Prelude.{◌≡◌, ◌≤◌, true, false, length, IsTrue, ◌↔◌};
 ghost use Rattle.ap_walk.specs.Visits.{out_children};
 ghost use Rattle.ap_walk.specs.Walks.{full};
 ghost use Rattle.ap_table.specs.Steps.{Claims, Grows, Puts, Drops};
@@ -33,6 +33,17 @@ pub struct GoalTable<S: Step> {
     moved: Condvar,
 }
 
+/// A table that isn't halted.
+fn begun<S: Step>(state: TableState<S>) -> Held<S>
+    ensures state { result.state ≡ state }
+    ensures runs { result.halted ≡ false }
+{
+    Held {
+        state,
+        halted: false,
+    }
+}
+
 /// A table of one free node, the root, under a rule. It isn't halted. The only error is want of memory.
 pub fn begin<S: Step>(
     alloc: Global,
@@ -41,17 +52,28 @@ pub fn begin<S: Step>(
     rule: Rule,
 ) -> Result<GoalTable<S>, NoMemory> {
     let state = first(alloc, step, task, rule)?;
-    let held = Held {
-        state,
-        halted: false,
-    };
     Ok(GoalTable {
-        held: Mutex::new(held),
+        held: Mutex::new(begun(state)),
         moved: Condvar::new(),
     })
 }
 
 impl<S: Step> Held<S> {
+    /// Marks the table halted.
+    fn halt(&mut self)
+        ensures state { self.new.state ≡ self.old.state }
+        ensures halted { self.new.halted ≡ true }
+    {
+        self.halted = true;
+    }
+
+    /// Whether the table was halted.
+    fn was_halted(&self) -> bool
+        ensures { result ≡ self.now.halted }
+    {
+        self.halted
+    }
+
     /// The history's length, of a table each of whose steps was allowed.
     fn length(&self) -> u64
         ensures is { result ≡ length self.now.state.history }
@@ -179,13 +201,13 @@ impl<S: Step> GoalTable<S> {
     /// waits for its node. Steps are taken as before.
     pub fn halt(&self, rt: &impl Wait) {
         let mut guard = self.held.lock(rt);
-        guard.halted = true;
+        guard.halt();
         self.moved.notify_all();
     }
 
     /// Whether the table was halted.
     pub fn halted(&self, rt: &impl Wait) -> bool {
-        self.held.lock(rt).halted
+        self.held.lock(rt).was_halted()
     }
 
     /// The state, once nobody shares the table any more.
