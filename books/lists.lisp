@@ -19,7 +19,7 @@
   (declare (xargs :measure (+ (len x) (len y))))
   (if (consp x) (cons (car x) (weave y (cdr x))) y))
 
-; A linear rule: linear arithmetic uses it where a term `(len (cdr x))` stands, once `(consp x)` is known.
+; A linear rule: linear arithmetic uses it where a term `(len x)` stands, once `(consp x)` is known.
 (defthm len-cdr
   (implies (consp x) (< (len (cdr x)) (len x)))
   :rule-classes :linear)

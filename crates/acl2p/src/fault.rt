@@ -28,6 +28,7 @@ pub(crate) fn fault_status(fault: Fault) -> Status
 /// A fault of reading.
 pub(crate) fn at_read(fault: ReadFault) -> Fault
     ensures failed { result ≡ Fault.Read → fault ≡ ReadFault.Failed }
+    ensures told { fault ≡ ReadFault.Failed → result ≡ Fault.Read }
     ensures unwritten { result ≢ Fault.Write }
 {
     match fault {
@@ -39,6 +40,7 @@ pub(crate) fn at_read(fault: ReadFault) -> Fault
 /// A fault of writing.
 pub(crate) fn at_write(fault: WriteFault) -> Fault
     ensures failed { result ≡ Fault.Write → fault ≡ WriteFault.Failed }
+    ensures told { fault ≡ WriteFault.Failed → result ≡ Fault.Write }
     ensures unread { result ≢ Fault.Read }
 {
     match fault {

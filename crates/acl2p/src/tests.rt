@@ -1,13 +1,16 @@
 use crate::certifier::certify;
 use crate::report::{Report, Status};
-use ap_attempt::NoGate;
+use ap_attempt::{Gate, NoGate, Place};
 use ap_list::{Bytes, Seq};
 use ap_outside::{MemoryLibrary, MemorySink};
 use std::alloc::Global;
 use std::process::Abort;
 use std::sync::Wait;
+use std::sync::atomic::AtomicU64;
+use std::sync::atomic::Ordering::SeqCst;
 use std::test::Fail;
 use std::thread::Threads;
+use std::time::Duration;
 
 /// What is certified, which calls of the library and the sink fail, and what must be seen.
 #[derive(Drop)]
@@ -322,7 +325,14 @@ const ROWS: [Row; 39] = [
 
 const DEMO: &[u8] = b"Demo 1 events 2 goals 8 certified\n";
 
-const DEMO_ROWS: [Row; 16] = [
+const DEMO_ROWS: [Row; 17] = [
+    Row {
+        words: &["--demo", "150"],
+        book: None,
+        failing: NONE,
+        status: Status::Certified,
+        text: b"Demo 150 events 300 goals 1200 certified\n",
+    },
     Row {
         words: &["--demo", "1"],
         book: None,
@@ -779,6 +789,26 @@ fn a_certified_book_leaves_its_certificate(rt: HostRuntime) -> Result<(), Fail> 
     Ok(())
 }
 
+/// A session of a book of 300 events, each of which enables nothing.
+fn many_events(alloc: Global) -> Result<String, Fail> {
+    let mut books = String::from_str(alloc, "many: ")?;
+    for _ in 0..300 {
+        books.push_str("(in-theory (enable)) ")?;
+    }
+    Ok(books)
+}
+
+#[test]
+fn a_certificate_counts_more_events_than_a_byte(rt: HostRuntime) -> Result<(), Fail> {
+    let alloc = rt.alloc();
+    let books = many_events(alloc)?;
+    let stored = stored_of(&rt, alloc, books.as_str(), &[], "many.cert")?;
+    let text =
+        b"acl2p certificate 1\nbook many\nsha256 e33fec22c9d0a9f4ccc39dd2f9a90f3191cd9cd1eacdfeeb436f52db8acf39fe\nevents 300\nend\n";
+    assert_eq!(rt; stored.as_slice(), text.as_slice());
+    Ok(())
+}
+
 /// Two books, which put three pieces each: their first line, their event's text, and their last line.
 const TWO: &str = "refl: (defthm refl (equal x x) :rule-classes nil) | a: (defun f (x) x)";
 
@@ -879,6 +909,142 @@ fn two_workers_print_what_one_prints_and_then_what_was_dropped(
             .count();
         assert_eq!(rt; lines, drops);
     }
+    Ok(())
+}
+
+/// How often a goal is held back at most, and how long each time, in microseconds.
+const MOST_TURNS: u32 = 10_000;
+
+const A_TURN: u64 = 500;
+
+/// How long the last goal waits behind the first, in microseconds, so that the first one's walk is put meanwhile.
+const A_WHILE: u64 = 20_000;
+
+/// Holds `Subgoal 3` back until `Subgoal 1` has come, and `Subgoal 1` until a while after `Subgoal 3` is done: so
+/// `Subgoal 1` is begun while nothing stops it, and goes on when `Subgoal 2` has stopped the walk. Each word is 0 until
+/// that is so, and 1 then; `never` stays 0.
+#[derive(Drop)]
+struct Behind {
+    last_came: AtomicU64,
+    first_is_done: AtomicU64,
+    never: AtomicU64,
+}
+
+impl Behind {
+    fn new() -> Behind {
+        Behind {
+            last_came: AtomicU64::new(0),
+            first_is_done: AtomicU64::new(0),
+            never: AtomicU64::new(0),
+        }
+    }
+}
+
+/// Sets a word.
+fn set(word: &AtomicU64) {
+    word.store(1, SeqCst);
+    word.wake_one();
+}
+
+/// Waits until a word is set, or all turns are used up.
+fn hold<R: Wait>(rt: &R, word: &AtomicU64) {
+    for _ in 0..MOST_TURNS {
+        if word.load(SeqCst) == 1 {
+            return;
+        }
+        word.park_timeout(rt, 0, Duration::from_micros(A_TURN));
+    }
+}
+
+impl Gate for Behind {
+    fn pass<R: Wait>(&self, rt: &R, _worker: u32, goal: &[u8], place: Place) {
+        let is_first = goal == b"Subgoal 3".as_slice();
+        match place {
+            Place::Begin => {
+                if is_first {
+                    hold(rt, &self.last_came);
+                } else if goal == b"Subgoal 1".as_slice() {
+                    set(&self.last_came);
+                    hold(rt, &self.first_is_done);
+                    self.never
+                        .park_timeout(rt, 0, Duration::from_micros(A_WHILE));
+                }
+            }
+            Place::Done => {
+                if is_first {
+                    set(&self.first_is_done);
+                }
+            }
+        }
+    }
+}
+
+/// A theorem of three goals, of which the first two are pushed, so that the walk reverts before the third.
+const THREE: &str = "b: (defund p (x) x) (defthm b6 (and (p x) (p y) (p z)) :rule-classes nil)";
+
+const THREE_TEXT: &[u8] = b"Book b
+DEFUN P
+DEFUN P admitted
+DEFTHM B6
+Goal simplify 3
+Subgoal 3 push *1
+Subgoal 2 push *2
+Revert
+*1 noscheme
+Checkpoints before induction
+Subgoal 3: (OR (NOT (P X)) (NOT (P Y)) (P Z))
+Subgoal 2: (OR (NOT (P X)) (P Y))
+DEFTHM B6 refused 8.1 NoScheme
+Book b not certified
+";
+
+const THREE_DROP: &[u8] = b"Dropped Subgoal 1 after Subgoal 2\n";
+
+/// Certifies that book by two workers, which pass the gate, and tells what is dropped, while these calls of the sink fail.
+fn told_by_two<R: Abort + Threads + Wait + Sync>(
+    rt: &R,
+    alloc: Global,
+    failing: &[u32],
+) -> Result<(Status, Vec<u8>), Fail> {
+    let mut words = Vec::new(alloc);
+    for word in ["--trace", "--workers", "2"] {
+        words.push(String::from_str(alloc, word)?)?;
+    }
+    let mut files = Seq::new(alloc);
+    row_books(alloc, THREE, &mut words, &mut files)?;
+    let mut library = MemoryLibrary::new(files, Seq::new(alloc));
+    let mut sink = MemorySink::new(alloc, Seq::from_slice(alloc, failing)?);
+    let gate = Behind::new();
+    let (status, _) = seen(certify(rt, alloc, words.as_slice(), &mut library, &mut sink, &gate));
+    Ok((status, Vec::from_slice(alloc, sink.content())?))
+}
+
+/// Whether one of twenty sessions ends with a status and, behind the book's text, with this. A goal is dropped in nearly
+/// each; it isn't where the worker that stops the walk is held up for longer than the gate waits.
+fn some_tells<R: Abort + Threads + Wait + Sync>(
+    rt: &R,
+    alloc: Global,
+    failing: &[u32],
+    ended: Status,
+    told: &[u8],
+) -> Result<bool, Fail> {
+    let mut wanted = Vec::from_slice(alloc, THREE_TEXT)?;
+    wanted.extend_from_slice(told)?;
+    for _ in 0..20 {
+        let (status, text) = told_by_two(rt, alloc, failing)?;
+        assert!(rt; text.as_slice().starts_with(THREE_TEXT));
+        if status == ended && text.as_slice() == wanted.as_slice() {
+            return Ok(true);
+        }
+    }
+    Ok(false)
+}
+
+#[test]
+fn what_a_stop_drops_is_told_behind_the_text(rt: HostRuntime) -> Result<(), Fail> {
+    let alloc = rt.alloc();
+    assert!(rt; some_tells(&rt, alloc, &[], Status::NotCertified, THREE_DROP)?);
+    assert!(rt; some_tells(&rt, alloc, &[5], Status::WriteFault, b"")?);
     Ok(())
 }
 
