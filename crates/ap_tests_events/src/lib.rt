@@ -18,6 +18,8 @@ mod induction;
 #[cfg(test)]
 mod processes;
 #[cfg(test)]
+mod rare;
+#[cfg(test)]
 mod recursion;
 #[cfg(test)]
 mod theories;

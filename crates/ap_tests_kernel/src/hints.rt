@@ -214,7 +214,7 @@ fn task_told<J: Planned>(
     alloc: Global,
     task: &Task<'_, J>,
 ) -> Result<(Bytes, Seq<Clause>), NoMemory> {
-    let stepped = Acl2Step::new(task.plan).step(alloc, task)?;
+    let stepped = Acl2Step::new(task.plan, 1).step(alloc, task)?;
     all_told(alloc, &stepped)
 }
 
@@ -328,7 +328,7 @@ fn a_hint_for_another_goal_says_nothing(rt: HostRuntime) -> Result<(), NoMemory>
 
 /// What a task's step does, and the names of the goals that it makes.
 fn names_told<J: Planned>(alloc: Global, task: &Task<'_, J>) -> Result<Bytes, NoMemory> {
-    let stepped = Acl2Step::new(task.plan).step(alloc, task)?;
+    let stepped = Acl2Step::new(task.plan, 1).step(alloc, task)?;
     told(alloc, &stepped)
 }
 
@@ -436,7 +436,7 @@ fn are_without<J: Planned>(
 
 /// Whether the goals that the step of a task makes are in that theory.
 fn are_below_without<J: Planned>(alloc: Global, task: &Task<'_, J>) -> Result<bool, NoMemory> {
-    let stepped = Acl2Step::new(task.plan).step(alloc, task)?;
+    let stepped = Acl2Step::new(task.plan, 1).step(alloc, task)?;
     are_without(alloc, &stepped)
 }
 

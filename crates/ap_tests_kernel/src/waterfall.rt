@@ -59,7 +59,7 @@ pub(crate) fn root<'a, J: Planned>(
     requires hints { KnownHints plan.now.world.entries plan.now.hints }
 {
     if is_known(plan.world.world(), t) {
-        Acl2Step::new(plan).root(alloc, t)
+        Acl2Step::new(plan, 1).root(alloc, t)
     } else {
         Err(AllocError)
     }
@@ -130,7 +130,7 @@ fn walk<'a, J: Planned>(
         otf: true,
         goal_limit: 100,
     };
-    serial(alloc, &Acl2Step::new(plan), task.get(), rule)
+    serial(alloc, &Acl2Step::new(plan, 1), task.get(), rule)
 }
 
 /// The names of the tasks of marks, or none where the marks aren't those that are written.
@@ -266,7 +266,7 @@ fn stop<J: Planned>(stepped: &Stepped<Task<'_, J>>) -> Option<Reason> {
 
 /// What the step of a task stops with.
 fn reason<J: Planned>(alloc: Global, task: &Task<'_, J>) -> Result<Option<Reason>, NoMemory> {
-    let stepped = Acl2Step::new(task.plan).step(alloc, task)?;
+    let stepped = Acl2Step::new(task.plan, 1).step(alloc, task)?;
     Ok(stop(&stepped))
 }
 
@@ -338,7 +338,7 @@ fn case_names<J: Planned>(
 
 /// The names of the cases that the step of a task makes.
 fn cases_of<J: Planned>(alloc: Global, task: &Task<'_, J>) -> Result<Bytes, NoMemory> {
-    let stepped = Acl2Step::new(task.plan).step(alloc, task)?;
+    let stepped = Acl2Step::new(task.plan, 1).step(alloc, task)?;
     case_names(alloc, &stepped)
 }
 
@@ -380,7 +380,7 @@ fn an_induction_splits_into_its_cases(rt: HostRuntime) -> Result<(), NoMemory> {
 
 /// Whether a copy is the same task.
 fn is_copied<J: Planned>(alloc: Global, task: &Task<'_, J>) -> Result<bool, NoMemory> {
-    let step = Acl2Step::new(task.plan);
+    let step = Acl2Step::new(task.plan, 1);
     let copy = Boxed::new(alloc, step.copy_task(alloc, task)?)?;
     Ok(step.same_task(task, copy.get()))
 }
@@ -388,12 +388,12 @@ fn is_copied<J: Planned>(alloc: Global, task: &Task<'_, J>) -> Result<bool, NoMe
 /// Whether the induction of a task is another task.
 fn is_other<J: Planned>(alloc: Global, task: &Task<'_, J>) -> Result<bool, NoMemory> {
     let induction = Boxed::new(alloc, induct_task(alloc, task, 1)?)?;
-    Ok(!Acl2Step::new(task.plan).same_task(task, induction.get()))
+    Ok(!Acl2Step::new(task.plan, 1).same_task(task, induction.get()))
 }
 
 /// The name of a task, as the step gives it.
 fn task_name<J: Planned>(alloc: Global, task: &Task<'_, J>) -> Result<Bytes, NoMemory> {
-    let name = Acl2Step::new(task.plan).name_of(alloc, task)?;
+    let name = Acl2Step::new(task.plan, 1).name_of(alloc, task)?;
     name.print(alloc)
 }
 

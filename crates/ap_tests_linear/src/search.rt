@@ -16,6 +16,10 @@ const LISTS: &str = r#"+ (< y x) ; - (< y x) => 1 1
 - (< (* 4 y) (* 2 x)) ; - (< 5 0) ; + (< (* 6 y) (* 3 x)) => 3 0 2
 + (< (* 1267650600228229401496703205376 x) (* 1267650600228229401496703205376 y)) ; - (< (* 1267650600228229401496703205376 x) (* 1267650600228229401496703205376 y)) => 1 1
 - (< (* 170141183460469231731687303715884105727 x) y) ; - (< y (- x)) ; + (< x 0) => none
+- (< (* 1267650600228229401496703205376 x) 1) ; + (< (* 3 x) 1) => none
+- (< (+ (* 2 y) (* 85070591730234615865843651857942052864 x)) 0) ; + (< (* 3 y) 0) ; + (< x 0) => none
+- (< (* 3 z) 0) ; + (< (* 1099511627776 z) y) ; + (< (* 1099511627776 y) 0) => none
+- (< (* 3 z) 0) ; + (< (* 1048576 z) y) ; + (< (* 1048576 y) 0) => 1099511627776 3145728 3
 + (< x x) => 1
 + (< 3 5) => none
 + (< 5 3) => 1"#;
@@ -57,7 +61,7 @@ fn expect_certificates(rt: &impl Abort, alloc: Global, w: &World) -> Result<(), 
 
 #[test]
 fn each_list_has_its_first_certificate(rt: HostRuntime) -> Result<(), NoMemory> {
-    assert_eq!(rt; LISTS.lines().count(), 13);
+    assert_eq!(rt; LISTS.lines().count(), 17);
     let world = World::bare(rt.alloc());
     expect_certificates(&rt, rt.alloc(), &world)
 }

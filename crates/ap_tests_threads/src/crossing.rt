@@ -125,7 +125,7 @@ fn root<'a, J: Planned>(alloc: Global, plan: &'a Plan, t: &Term) -> Result<Task<
     requires hints { KnownHints plan.now.world.entries plan.now.hints }
 {
     if is_known(plan.world.world(), t) {
-        Acl2Step::new(plan).root(alloc, t)
+        Acl2Step::new(plan, 2).root(alloc, t)
     } else {
         Err(AllocError)
     }
@@ -145,7 +145,7 @@ fn waterfall_elsewhere<J: Planned + Send + Sync, R: Threads + Wait + Sync>(
     shown::<Term>();
     shown::<Value>();
     let task: Task<'_, J> = root(alloc, plan, &conjecture(alloc)?)?;
-    visits_elsewhere(rt, alloc, &Acl2Step::new(plan), task)
+    visits_elsewhere(rt, alloc, &Acl2Step::new(plan, 2), task)
 }
 
 #[test]
@@ -168,7 +168,7 @@ fn waterfall_by_two<J: Planned + Send + Sync, R: Threads + Wait + Sync>(
 {
     shown::<Term>();
     shown::<Value>();
-    let step: Acl2Step<'_, J> = Acl2Step::new(plan);
+    let step: Acl2Step<'_, J> = Acl2Step::new(plan, 2);
     let task: Task<'_, J> = root(alloc, plan, &conjecture(alloc)?)?;
     let state = speculate(rt, alloc, &step, &task, RULE, 2, gate)?;
     let (walked, _) = state.finish(alloc, &step)?;

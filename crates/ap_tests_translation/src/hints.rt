@@ -66,11 +66,15 @@ const REFUSED: &str = r#"(("Subgoal 0" :cases (x))) => BadGoalName
 (("Goal" :use (:instance car-cons x))) => UnknownKeyword
 (("Goal" :use (:instance car-cons (x)))) => UnknownKeyword
 (("Goal" :use ((car-cons)))) => UnknownKeyword
+(("Goal" :use (:instance "car-cons"))) => UnknownKeyword
+(("Goal" :use (:instance car-cons ("x" z)))) => UnknownKeyword
+(("Goal" :expand x)) => UnknownKeyword
 ("hints" . 1) => UnknownKeyword
 hints => UnknownKeyword
 (("Goal" :in-theory (enable foo))) => UnknownRune
 (("Goal" :in-theory (disable (:linear car-cons)))) => UnknownRune
 (("Goal" :in-theory (disable car))) => UnknownRune
+(("Goal" :in-theory (disable (:foo len)))) => UnknownRune
 (("Goal" :use foo)) => BadInstance
 (("Goal" :use (:instance car-cons (z x)))) => BadInstance
 (("Goal" :use (:instance car-cons (x z) (x y)))) => BadInstance
@@ -86,6 +90,10 @@ hints => UnknownKeyword
 (("Goal" :use foo :use foo)) => BadInstance
 (("Goal" :use car-cons :use foo)) => Repeated
 (("Goal" :do-not-induct t :do-not-induct t)) => Repeated
+(("Goal" :in-theory (enable) :in-theory (enable))) => Repeated
+(("Goal" :expand nil :expand nil)) => Repeated
+(("Goal" :do-not 'nil :do-not 'nil)) => Repeated
+(("Goal" :induct (len x) :induct (len y))) => Repeated
 (("Goal" :in-theory (enable foo) :cases ((foo)))) => UnknownRune
 (("Goal" :cases ((foo)) :in-theory (enable foo))) => BadInstance
 (("Goal" :foo t) ("Subgoal 0")) => UnknownKeyword
@@ -284,7 +292,7 @@ fn each_key_is_read(rt: HostRuntime) -> Result<(), NoMemory> {
 
 #[test]
 fn the_first_that_is_wrong_is_refused(rt: HostRuntime) -> Result<(), NoMemory> {
-    assert_eq!(rt; REFUSED.lines().count(), 45);
+    assert_eq!(rt; REFUSED.lines().count(), 53);
     expect_all(&rt, rt.alloc(), REFUSED)
 }
 

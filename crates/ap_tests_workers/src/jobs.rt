@@ -12,14 +12,14 @@ use std::alloc::Global;
 use std::process::Abort;
 use std::sync::Wait;
 
-const RULE: Rule = Rule {
+pub(crate) const RULE: Rule = Rule {
     initial: true,
     otf: false,
     goal_limit: 100,
 };
 
 /// A root with three children, of which the first one stops the attempt.
-const STOPPED: Task = Task {
+pub(crate) const STOPPED: Task = Task {
     level: 1,
     number: 15,
 };

@@ -2,34 +2,46 @@
 ghost use Rattle.std.specs.Prelude.{◌≡◌, ◌%◌, ◌*◌, ◌<◌, IfOk};
 ghost use Rattle.ap_tests_workers.specs.Trees.{leaf, kids, split, step_at};
 
+use crate::watching::{Call, Watch};
 use ap_names::GoalName;
 use ap_walk::*;
 use std::alloc::Global;
 use std::sync::atomic::AtomicU64;
 use std::sync::atomic::Ordering::SeqCst;
 
-/// A task with so many levels below it.
+/// A task with so many levels below it. Of a task with three children the first is `Subgoal 3` and the last `Subgoal 1`.
 #[derive(Clone, Copy, PartialEq, Debug)]
 pub(crate) struct Task {
     pub(crate) level: u32,
     pub(crate) number: u32,
 }
 
-/// The step of these tasks, which counts its calls.
+/// The step of these tasks, which counts its calls, and watches those of one kind with one task.
 #[derive(Drop)]
 pub(crate) struct Counting {
     pub(crate) calls: AtomicU64,
+    pub(crate) watch: Watch,
 }
 
-/// A step that wasn't called yet.
+/// A step that wasn't called yet, and refuses nothing.
 pub(crate) fn fresh_step() -> Counting {
+    let root = Task {
+        level: 0,
+        number: 0,
+    };
+    watching_step(Watch::refusing_none(Call::Step, root))
+}
+
+/// A step that wasn't called yet, with this watch.
+pub(crate) fn watching_step(watch: Watch) -> Counting {
     Counting {
         calls: AtomicU64::new(0),
+        watch,
     }
 }
 
 impl Step for Counting {
-    ghost use Rattle.std.specs.Prelude.{[], ◌∷◌, ◌+◌, None};
+    ghost use Rattle.std.specs.Prelude.{[], ◌∷◌, ◌-◌, None};
     ghost use Rattle.ap_tests_workers.specs.Laws.{tells, deeper};
 
     type Task = Task;
@@ -38,7 +50,7 @@ impl Step for Counting {
 
     ghost good = { λ _. Unit {0} };
 
-    ghost name = { λ t. record { induction = []; case = None; path = (t.number % 1000 + 1) ∷ []; primes = 0 } };
+    ghost name = { λ t. record { induction = []; case = None; path = (3 - t.number % 3) ∷ []; primes = 0 } };
 
     ghost depth = { λ t. t.level };
 
@@ -50,6 +62,7 @@ impl Step for Counting {
 
     fn step(&self, alloc: Global, task: &Task) -> Result<Stepped<Task>, NoMemory> {
         self.calls.fetch_add(1, SeqCst);
+        self.watch.pass(Call::Step, task)?;
         if task.level == 0 {
             return Ok(leaf(alloc, task.number % 16));
         }
@@ -59,18 +72,21 @@ impl Step for Counting {
     }
 
     fn copy_task(&self, _alloc: Global, task: &Task) -> Result<Task, NoMemory> {
+        self.watch.pass(Call::Copy, task)?;
         Ok(*task)
     }
 
     fn same_task(&self, a: &Task, b: &Task) -> bool {
+        self.watch.refuses(Call::Compare, a);
         *a == *b
     }
 
     fn name_of(&self, alloc: Global, task: &Task) -> Result<GoalName, NoMemory> {
+        self.watch.pass(Call::Name, task)?;
         Ok(GoalName {
             induction: Seq::new(alloc),
             case: None,
-            path: Seq::from_slice(alloc, &[task.number % 1000 + 1])?,
+            path: Seq::from_slice(alloc, &[3 - task.number % 3])?,
             primes: 0,
         })
     }

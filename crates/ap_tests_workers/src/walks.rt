@@ -20,8 +20,14 @@ const THREE: Task = Task {
     number: 0,
 };
 
+/// A root with families within families, of which the innermost lie below three others. Nothing below it stops.
+pub(crate) const DEEP: Task = Task {
+    level: 4,
+    number: 11,
+};
+
 /// The rule of an initial walk.
-fn initial(otf: bool, goal_limit: u32) -> Rule
+pub(crate) fn initial(otf: bool, goal_limit: u32) -> Rule
     requires limited { (1 ≤ goal_limit) × (goal_limit ≤ 200002) }
 {
     Rule {
@@ -32,7 +38,7 @@ fn initial(otf: bool, goal_limit: u32) -> Rule
 }
 
 /// The walk that workers make of a root.
-fn worked<G: Gate + Sync, R: Threads + Wait + Sync>(
+pub(crate) fn worked<G: Gate + Sync, R: Threads + Wait + Sync>(
     rt: &R,
     alloc: Global,
     step: &Counting,
@@ -88,14 +94,10 @@ fn expect_serial<R: Threads + Wait + Abort + Sync>(
 
 #[test]
 fn a_walk_goes_through(rt: HostRuntime) -> Result<(), NoMemory> {
-    let root = Task {
-        level: 4,
-        number: 11,
-    };
     expect_serial(
         &rt,
         rt.alloc(),
-        root,
+        DEEP,
         initial(true, 1000),
         (49, End::Through),
     )
@@ -103,14 +105,10 @@ fn a_walk_goes_through(rt: HostRuntime) -> Result<(), NoMemory> {
 
 #[test]
 fn a_walk_reverts(rt: HostRuntime) -> Result<(), NoMemory> {
-    let root = Task {
-        level: 4,
-        number: 11,
-    };
     expect_serial(
         &rt,
         rt.alloc(),
-        root,
+        DEEP,
         initial(false, 1000),
         (32, End::Revert),
     )
@@ -138,34 +136,43 @@ fn a_walk_stops_late(rt: HostRuntime) -> Result<(), NoMemory> {
 
 #[test]
 fn a_walk_comes_to_its_limit(rt: HostRuntime) -> Result<(), NoMemory> {
-    let root = Task {
-        level: 4,
-        number: 11,
-    };
-    expect_serial(&rt, rt.alloc(), root, initial(true, 25), (25, End::Limit))
+    expect_serial(&rt, rt.alloc(), DEEP, initial(true, 25), (25, End::Limit))
 }
 
-/// Works the root with three children by two workers, whose steps are counted.
+/// Works a root by so many workers, where nothing is dropped: as many steps are taken as tasks are visited.
 fn expect_one_step_each<R: Threads + Wait + Sync + Abort>(
     rt: &R,
     alloc: Global,
+    root: Task,
+    workers: u32,
+    wanted: usize,
 ) -> Result<(), NoMemory> {
     let step = fresh_step();
-    let walked = worked(rt, alloc, &step, THREE, initial(false, 100), 2, &NoGate)?;
-    assert_eq!(rt; (walked.marks.len(), walked.end), (4, End::Through));
-    assert!(rt; step.calls.load(SeqCst) == 4);
+    let rule = initial(true, 1000);
+    let walked = worked(rt, alloc, &step, root, rule, workers, &NoGate)?;
+    assert_eq!(rt; (walked.marks.len(), walked.end), (wanted, End::Through));
+    assert_eq!(rt; step.calls.load(SeqCst), wanted as u64);
     Ok(())
 }
 
 #[test]
 fn a_claimed_task_is_stepped_once(rt: HostRuntime) -> Result<(), NoMemory> {
     for _ in 0..TIMES {
-        expect_one_step_each(&rt, rt.alloc())?;
+        expect_one_step_each(&rt, rt.alloc(), THREE, 2, 4)?;
     }
     Ok(())
 }
 
-/// Works the same by two workers, of which one is held at the third child until the second is done.
+/// A node below three families isn't expanded. Were it tried, the table would refuse it, and its step be taken again.
+#[test]
+fn a_task_below_three_families_is_stepped_once(rt: HostRuntime) -> Result<(), NoMemory> {
+    for workers in [1, 2, 2, 3, 3, 8, 8] {
+        expect_one_step_each(&rt, rt.alloc(), DEEP, workers, 49)?;
+    }
+    Ok(())
+}
+
+/// Works the root with three children by two workers, of which one is held at the first child until the second is done.
 fn expect_two_at_a_time<R: Threads + Wait + Sync + Abort>(
     rt: &R,
     alloc: Global,
@@ -174,6 +181,7 @@ fn expect_two_at_a_time<R: Threads + Wait + Sync + Abort>(
     let gate = Holding::new();
     let walked = worked(rt, alloc, &step, THREE, initial(false, 100), 2, &gate)?;
     assert_eq!(rt; (walked.marks.len(), walked.end), (4, End::Through));
+    assert!(rt; gate.has_held());
     assert!(rt; !gate.is_used_up());
     Ok(())
 }
