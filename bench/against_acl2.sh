@@ -64,7 +64,10 @@ by_acl2() {
 by_acl2p() { # by_acl2p BOOK OPTION..
     local book=$1
     shift
-    runs /dev/null "$folder/$book.text" "$program" "$@" "$book"
+    (
+        eval "$(grep '^export GLIBC_TUNABLES' "$here/acl2p")" # what the launcher gives the program
+        runs /dev/null "$folder/$book.text" "$program" "$@" "$book"
+    )
 }
 both() { # of two words, yes or no: who certifies
     case $1$2 in

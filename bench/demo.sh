@@ -1,8 +1,11 @@
 #!/bin/bash
 # demo.sh [PROGRAM]: the demo beside ACL2, in one run. Processor time, user and system, and peak memory, the least of three
 # runs, of `acl2p --demo N` for 250, 500 and 1,000 functions, and of books with the demo's text and 2,500 and 5,000 functions,
-# so 5,000 and 10,000 events, which a command's number doesn't reach; of ACL2 on the book of 1,000 functions, loaded with its
-# full output, without the time in which it starts; and how long a run that prints the usage text takes by the clock.
+# so 5,000 and 10,000 events, which a command's number doesn't reach; of ACL2 on the book of 1,000 functions with its full
+# output, once certified without being compiled (`certify-book`: both read the book, work it, and work it again), once only
+# loaded; and how long a run that prints the usage text takes by the clock. The ratios are whole against whole, and to ACL2
+# without the time in which it starts (and certifies a book without events). acl2p is given what the launcher gives it
+# (GLIBC_TUNABLES), and runs besides without.
 here=$(cd "$(dirname "$0")/.." && pwd)
 if [ -n "$1" ]; then
     program=$(readlink -f -- "$1")
@@ -14,6 +17,7 @@ fi
 folder=$(mktemp -d)
 trap 'rm -rf "$folder"' EXIT
 cd "$folder" || exit 1
+eval "$(grep '^export GLIBC_TUNABLES' "$here/acl2p")" # what the launcher gives the program
 python3 - "$program" "$(command -v acl2)" <<'END'
 import os, sys, time
 program, acl2 = sys.argv[1:3]
@@ -50,15 +54,18 @@ for functions in (2500, 5000):
     with open("more.lisp", "w") as out:
         out.write(text(functions))
     show(f"a book of {2 * functions} demo events", run([program, "more"]))
+os.environ.pop("GLIBC_TUNABLES", None)
+show("acl2p --demo 1000 without GLIBC_TUNABLES", run([program, "--demo", "1000"]))
 if acl2:
-    with open("demo.lisp", "w") as out:
-        out.write(text(1000))
-    with open("nothing", "w") as out:
-        out.write("(good-bye)\n")
-    with open("given", "w") as out:
-        out.write('(ld "demo.lisp")\n(good-bye)\n')
-    started, theirs = run([acl2], "nothing"), run([acl2], "given", "said")
-    proved = open("said").read().count("\nQ.E.D.")
-    print(f"ACL2, the book of 1000 functions: {theirs[0] - started[0]:.0f} ms behind a start of {started[0]:.0f} ms, {theirs[2]:.1f} MiB, {proved} times Q.E.D.")
-    print(f"ratio {ours[0] / (theirs[0] - started[0]):.3f}")
+    for name, events in (("demo", text(1000)), ("empty", text(0))):
+        with open(name + ".lisp", "w") as out:
+            out.write(events)
+    for what, words in (("certifies", '(certify-book "{}" ? nil)'), ("loads", '(ld "{}.lisp")')):
+        for name in ("empty", "demo"):
+            with open(name + ".given", "w") as out:
+                out.write(words.format(name) + "\n(good-bye)\n")
+        started, theirs = run([acl2], "empty.given", "said"), run([acl2], "demo.given", "said")
+        proved = open("said").read().count("\nQ.E.D.")
+        print(f"ACL2 {what} the book of 1000 functions: {theirs[0]:.0f} ms, {started[0]:.0f} ms of them for a book without events, {theirs[2]:.1f} MiB, {proved} times Q.E.D.;"
+              f" ratio {ours[0] / theirs[0]:.3f}, {ours[0] / (theirs[0] - started[0]):.3f} without its start")
 END

@@ -6,10 +6,11 @@
 # machine does in the time of one where two and where four run side by side, which is the most that any program gets there.
 # It says besides how much of the processors' time the host took away meanwhile (steal, in /proc/stat): where that is more
 # than a few of a hundred, four processors weren't free. VARIABLES=N has N variables (2 to 8) in place of eight: with each
-# more a case takes about four times as long. Run it on a machine that does nothing else, with four processors.
+# more a case takes about four times as long. BOOKS="wide16 small" takes these alone. Run it on a machine that does nothing else, with four processors.
 here=$(cd "$(dirname "$0")/.." && pwd)
 acl2p=${ACL2P:-$here/crates/acl2p/out/acl2p}
 [ -x "$acl2p" ] || { echo "many_workers: no program at $acl2p; build it by ../acl2p" >&2; exit 1; }
+eval "$(grep '^export GLIBC_TUNABLES' "$here/acl2p")" # what the launcher gives the program
 folder=$(mktemp -d)
 trap 'rm -rf "$folder"' EXIT
 cd "$folder" || exit 1
@@ -40,7 +41,7 @@ with open("small.lisp", "w") as out:
 END
 runs=${1:-5}
 python3 - "$acl2p" "$runs" <<'END'
-import statistics, subprocess, sys, time
+import os, statistics, subprocess, sys, time
 program, runs = sys.argv[1], int(sys.argv[2])
 
 def processors():
@@ -61,7 +62,7 @@ def beside(many, book):
     for it in each:
         it.wait()
 
-for book in ("wide16", "wide64", "small"):
+for book in os.environ.get("BOOKS", "wide16 wide64 small").split():
     times, side, texts = {1: [], 2: [], 4: []}, {2: [], 4: []} if book == "wide16" else {}, set()
     before = processors()
     for _ in range(runs):
