@@ -80,7 +80,7 @@ pub fn is_among(t: &Term, terms: &[Term]) -> bool
 fn tidied(alloc: Global, terms: &[Term]) -> Result<Seq<Term>, NoMemory>
     ensures { IfOk result (λ out. out ≡ tidied terms.now) }
 {
-    let mut out = Seq::new(alloc);
+    let mut out = Seq::with_capacity(alloc, terms.len())?;
     for t in terms {
         let literal = plain(alloc, t)?;
         if !is_constant(false, &literal) && !is_among(&literal, out.as_slice()) {

@@ -100,7 +100,7 @@ pub fn subst(alloc: Global, t: &Term, s: &Subst) -> Result<Term, NoMemory>
 pub fn subst_all(alloc: Global, ts: &[Term], s: &Subst) -> Result<Seq<Term>, NoMemory>
     ensures { IfOk result (λ us. us ≡ map (subst_of s.now.0) ts.now) }
 {
-    let mut out = Seq::new(alloc);
+    let mut out = Seq::with_capacity(alloc, ts.len())?;
     for t in ts {
         out.push(subst(alloc, t, s)?)?;
     }

@@ -101,7 +101,7 @@ pub fn one_way_match(
 fn copy_pairs(alloc: Global, pairs: &[(Symbol, Term)]) -> Result<Seq<(Symbol, Term)>, NoMemory>
     ensures { IfOk result (λ r. r ≡ pairs.now) }
 {
-    let mut out = Seq::new(alloc);
+    let mut out = Seq::with_capacity(alloc, pairs.len())?;
     for (x, t) in pairs {
         out.push((copy_symbol(alloc, x)?, copy_term(alloc, t)?))?;
     }

@@ -80,7 +80,7 @@ pub fn copy_term(alloc: Global, t: &Term) -> Result<Term, NoMemory>
 pub fn copy_terms(alloc: Global, xs: &[Term]) -> Result<Seq<Term>, NoMemory>
     ensures { IfOk result (λ r. r ≡ xs.now) }
 {
-    let mut out = Seq::new(alloc);
+    let mut out = Seq::with_capacity(alloc, xs.len())?;
     for x in xs {
         out.push(copy_term(alloc, x)?)?;
     }
@@ -101,7 +101,7 @@ pub fn owned(alloc: Global, arguments: SharedSeq<Term>) -> Result<Seq<Term>, NoM
 pub fn copy_symbols(alloc: Global, xs: &[Symbol]) -> Result<Seq<Symbol>, NoMemory>
     ensures { IfOk result (λ r. r ≡ xs.now) }
 {
-    let mut out = Seq::new(alloc);
+    let mut out = Seq::with_capacity(alloc, xs.len())?;
     for x in xs {
         out.push(copy_symbol(alloc, x)?)?;
     }
