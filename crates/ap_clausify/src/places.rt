@@ -15,6 +15,9 @@ pub(crate) struct Place {
     pub at: Seq<u32>,
 }
 
+// The room with which a search begins.
+const USUAL_DEPTH: usize = 16;
+
 /// Adds the place of an argument. Where it doesn't fit 32 bits, the call doesn't fit the memory.
 fn push_place(at: &mut Seq<u32>, place: usize) -> Result<(), NoMemory>
     ensures { OnOk result (at.new ≡ at.old ++ place ∷ []) }
@@ -67,7 +70,7 @@ fn find_among(ts: &[Term], at: &mut Seq<u32>) -> Result<bool, NoMemory>
 pub(crate) fn first_choice(alloc: Global, c: &Clause) -> Result<Option<Place>, NoMemory>
     ensures { IfOk result (λ o. option_map (λ p. (p.literal, p.at)) o ≡ first_choice c.now) }
 {
-    let mut at = Seq::new(alloc);
+    let mut at = Seq::with_capacity(alloc, USUAL_DEPTH)?;
     for (literal, t) in c.0.as_slice().iter().enumerate() {
         if find(t, &mut at)? {
             return Ok(Some(Place { literal, at }));

@@ -78,11 +78,11 @@ fn push_assumed(
     }
 }
 
-/// A copy of facts.
+/// A copy of facts, with room for two more.
 fn copy_facts(alloc: Global, facts: &[(Term, bool)]) -> Result<Seq<(Term, bool)>, NoMemory>
     ensures { IfOk result (λ copy. copy ≡ facts.now) }
 {
-    let mut out = Seq::new(alloc);
+    let mut out = Seq::with_capacity(alloc, facts.len().saturating_add(2))?;
     for (t, sign) in facts {
         out.push((copy_term(alloc, t)?, *sign))?;
     }
@@ -116,7 +116,7 @@ fn push_false(alloc: Global, facts: &mut Seq<(Term, bool)>, ts: &[Term]) -> Resu
 pub fn all_false(alloc: Global, ts: &[Term]) -> Result<Ctx, NoMemory>
     ensures { IfOk result (λ c. c.0 ≡ all_false ts.now) }
 {
-    let mut facts = Seq::new(alloc);
+    let mut facts = Seq::with_capacity(alloc, ts.len())?;
     push_false(alloc, &mut facts, ts)?;
     Ctx::new(alloc, facts)
 }
@@ -127,7 +127,7 @@ pub fn others_false(alloc: Global, literals: &[Term], place: usize) -> Result<Ct
     requires { place < length literals.now }
     ensures { IfOk result (λ c. c.0 ≡ all_false (others place literals.now)) }
 {
-    let mut facts = Seq::new(alloc);
+    let mut facts = Seq::with_capacity(alloc, literals.len())?;
     push_false(alloc, &mut facts, &literals[..place])?;
     push_false(alloc, &mut facts, &literals[place + 1..])?;
     let ctx = Ctx::new(alloc, facts)?;

@@ -1,22 +1,12 @@
 // The atoms of polynomials, rising in the order of terms.
-ghost use Rattle.std.specs.Prelude.{◌≡◌, ◌++◌, ◌∷◌, IfOk, OnOk};
+ghost use Rattle.std.specs.Prelude.{◌≡◌, ◌++◌, ◌∷◌, IfOk};
 ghost use Rattle.ap_poly.specs.Elimination.{with_atom, with_atoms, atoms_of};
 
-use ap_kernel::is_same;
+use ap_kernel::{extend_terms, is_same};
 use ap_list::{NoMemory, Seq};
 use ap_poly::{Poly, is_before};
 use ap_term::{Term, copy_term};
 use std::alloc::Global;
-
-/// Copies terms to the end.
-fn extend_terms(alloc: Global, out: &mut Seq<Term>, more: &[Term]) -> Result<(), NoMemory>
-    ensures { OnOk result (out.new ≡ out.old ++ more.now) }
-{
-    for t in more {
-        out.push(copy_term(alloc, t)?)?;
-    }
-    Ok(())
-}
 
 /// The terms so far, this one and the rest.
 fn joined(alloc: Global, front: Seq<Term>, t: &Term, rest: &[Term]) -> Result<Seq<Term>, NoMemory>

@@ -33,7 +33,7 @@ fn rewrite_args<
     ensures is { IfOk result (λ o. got_all o run.new.left ≡ rewrite_args (setting_of l.now.r.now) (inner_of l.now.r.now l.now.levels) (seen_at at.now) us.now run.old.left) }
     ensures from { IfOk result (λ o. IfSome o (λ qs. (lefts (said qs) ≡ us.now) × Each (Leads l.now.r.now.w.now Equal at.now.ctx.now) qs)) }
 {
-    let mut out = Seq::new(l.r.alloc);
+    let mut out = Seq::with_capacity(l.r.alloc, us.len())?;
     for u in us {
         let Some(q) = deeper(l, run, Mode::Equal, at, u)? else {
             return Ok(None);

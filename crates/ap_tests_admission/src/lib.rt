@@ -1,4 +1,4 @@
-//! The tests of measures, of obligations and of admission.
+//! The tests of measures and of obligations.
 #![tactic(auto)]
 
 #[cfg(test)]

@@ -9,5 +9,5 @@ returns c =
     let ts = c.args.literals.now in
     let i = c.args.place in
     c.in_ok-ctx.ensures ∙ c.in_ok-push_false-2.ensures
-    ∙ ap (λ fs. fs ++ all_false (take (length ts - (i + 1)) (drop (i + 1) ts))) (c.in_ok-push_false.ensures ∙ ap (λ fs. fs ++ all_false (take i ts)) c.new-facts.ensures)
+    ∙ ap (λ fs. fs ++ all_false (take (length ts - (i + 1)) (drop (i + 1) ts))) (c.in_ok-push_false.ensures ∙ ap (λ fs. fs ++ all_false (take i ts)) c.in_ok-facts.ensures)
     ∙ ap (λ us. all_false (take i ts) ++ all_false us) (take_rest ts (i + 1)) ∙ others_are_false i ts
