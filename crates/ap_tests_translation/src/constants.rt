@@ -39,7 +39,6 @@ const NAMES: &str = r#"f => event
 *a => event
 a* => event
 if => event
-lambda => event
 declare => event
 cr => event
 caaaaar => event
@@ -52,6 +51,8 @@ nil => nothing
 :f => nothing
 :*c* => nothing
 quote => nothing
+lambda => nothing
+:lambda => nothing
 and => nothing
 cond => nothing
 let* => nothing

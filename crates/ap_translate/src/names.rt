@@ -3,7 +3,7 @@ ghost use Rattle.ap_list.specs.Lists.{is_among};
 ghost use Rattle.ap_value.specs.Values.{symbol_eq, acl2};
 ghost use Rattle.ap_world.specs.Names.{t_name, nil_name};
 ghost use Rattle.ap_world.specs.Primitives.{prim_arity};
-ghost use Rattle.ap_translate.specs.Names.{is_constant, is_starred, can_be_bound, may_name, may_name_constant};
+ghost use Rattle.ap_translate.specs.Names.{is_constant, is_starred, can_be_bound, is_word, may_name, may_name_constant};
 
 use crate::macros::is_macro;
 use ap_list::NoMemory;
@@ -62,12 +62,19 @@ pub fn can_be_bound(symbol: &Symbol, bound: &[Symbol]) -> bool
     !is_constant(symbol) && !is_starred(symbol.name.as_slice()) && !is_among(symbol, bound)
 }
 
-/// Whether a symbol may name a function or a theorem: it isn't `t`, `nil`, a keyword or the name of a macro,
+/// Whether a symbol is the name of a macro, or `lambda`.
+fn is_word(symbol: &Symbol) -> bool
+    ensures { result ≡ is_word symbol.now }
+{
+    is_macro(symbol) || is_named(symbol, b"LAMBDA")
+}
+
+/// Whether a symbol may name a function or a theorem: it isn't `t`, `nil`, a keyword, the name of a macro or `lambda`,
 /// and doesn't stand between asterisks. Takes no memory.
 pub fn may_name(symbol: &Symbol) -> bool
     ensures { result ≡ may_name symbol.now }
 {
-    !is_constant(symbol) && !is_macro(symbol) && !is_starred(symbol.name.as_slice())
+    !is_constant(symbol) && !is_word(symbol) && !is_starred(symbol.name.as_slice())
 }
 
 /// Whether a symbol may name a constant: it stands between asterisks, with a byte between them, and isn't a
