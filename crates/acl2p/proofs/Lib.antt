@@ -1,5 +1,6 @@
 pub mod Commanding
 pub mod Demoing
+pub mod Given
 pub mod Leading
 pub mod Numbers
 pub mod Passing

@@ -200,10 +200,10 @@ number_of WriteFault = 4
 number_of NoMemory = 5
 
 -- what stands on standard error
-abbrev pub message_of : Status → Option (List ℕ)
-message_of Certified = None
-message_of NotCertified = None
-message_of Usage = None
-message_of ReadFault = Some (codes "acl2p: read fault")
-message_of WriteFault = Some (codes "acl2p: write fault")
-message_of NoMemory = Some (codes "acl2p: no memory")
+abbrev pub message_of : Status → List ℕ
+message_of Certified = []
+message_of NotCertified = []
+message_of Usage = []
+message_of ReadFault = codes "acl2p: read fault" ++ 10 ∷ []
+message_of WriteFault = codes "acl2p: write fault" ++ 10 ∷ []
+message_of NoMemory = codes "acl2p: no memory" ++ 10 ∷ []

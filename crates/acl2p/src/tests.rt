@@ -1,5 +1,6 @@
 use crate::certifier::certify;
 use crate::report::{Report, Status};
+use crate::tell;
 use ap_attempt::{Gate, NoGate, Place};
 use ap_list::{Bytes, Seq};
 use ap_outside::{MemoryLibrary, MemorySink};
@@ -509,6 +510,22 @@ fn prints<R: Abort + Threads + Wait + Sync>(
     let certified = text.ends_with(b" certified\n") && !text.ends_with(b"not certified\n");
     assert_eq!(rt; report.status == Status::Certified, certified);
     Ok(())
+}
+
+/// Asserts what stands on standard error.
+fn tells(rt: &impl Abort, alloc: Global, status: Status, text: &[u8]) -> Result<(), Fail> {
+    let mut errors = MemorySink::new(alloc, Seq::new(alloc));
+    assert!(rt; tell(status, &mut errors).is_ok());
+    assert_eq!(rt; errors.content(), text);
+    Ok(())
+}
+
+#[test]
+fn each_fault_is_told(rt: HostRuntime) -> Result<(), Fail> {
+    tells(&rt, rt.alloc(), Status::Usage, b"")?;
+    tells(&rt, rt.alloc(), Status::ReadFault, b"acl2p: read fault\n")?;
+    tells(&rt, rt.alloc(), Status::WriteFault, b"acl2p: write fault\n")?;
+    tells(&rt, rt.alloc(), Status::NoMemory, b"acl2p: no memory\n")
 }
 
 #[test]

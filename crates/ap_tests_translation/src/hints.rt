@@ -75,6 +75,9 @@ hints => UnknownKeyword
 (("Goal" :in-theory (disable (:linear car-cons)))) => UnknownRune
 (("Goal" :in-theory (disable car))) => UnknownRune
 (("Goal" :in-theory (disable (:foo len)))) => UnknownRune
+(("Goal" :in-theory (disable (:definition "len")))) => UnknownRune
+(("Goal" :in-theory (disable (:definition len len)))) => UnknownRune
+(("Goal" :in-theory (disable "len"))) => UnknownRune
 (("Goal" :use foo)) => BadInstance
 (("Goal" :use (:instance car-cons (z x)))) => BadInstance
 (("Goal" :use (:instance car-cons (x z) (x y)))) => BadInstance
@@ -292,7 +295,7 @@ fn each_key_is_read(rt: HostRuntime) -> Result<(), NoMemory> {
 
 #[test]
 fn the_first_that_is_wrong_is_refused(rt: HostRuntime) -> Result<(), NoMemory> {
-    assert_eq!(rt; REFUSED.lines().count(), 53);
+    assert_eq!(rt; REFUSED.lines().count(), 56);
     expect_all(&rt, rt.alloc(), REFUSED)
 }
 
