@@ -3,4 +3,5 @@ pub mod Seats
 pub mod Walking
 pub mod Putting
 pub mod Handing
+pub mod Turning
 pub mod Crossing

@@ -16,6 +16,12 @@ module _ {A : Type 0} where
   both_same R same [] = tt
   both_same R same (x ∷ xs) = (same x, both_same R same xs)
 
+  pub both_long : (R : A → A → Type 0) (xs ys : List A) → Both R xs ys → length xs ≡ length ys
+  both_long R [] [] b = refl
+  both_long R [] (y ∷ ys) b = absurd b
+  both_long R (x ∷ xs) [] b = absurd b
+  both_long R (x ∷ xs) (y ∷ ys) b = let l = both_long R xs ys b.1 in omega arith
+
   -- all were changed
   pub upto_all : (R : A → A → Type 0) (i : ℕ) (xs ys : List A) → length ys ≤ i → Upto R i xs ys → Both R xs ys
   upto_all R zero xs [] long is = subst (λ l. Both R l []) (sym is) tt

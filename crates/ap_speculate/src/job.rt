@@ -1,7 +1,7 @@
 //! One job of a worker.
-ghost use Rattle.std.specs.Prelude.{◌≡◌, IfOk, IfSome};
+ghost use Rattle.std.specs.Prelude.{◌≡◌, IfOk, IfNone, IfSome};
 ghost use Rattle.ap_list.specs.Lists.{AnyOf};
-ghost use Rattle.ap_speculate.specs.Jobs.{Both, Stays, ReadBelow, JobStays, IsDone, IsDropped, SeatsDone, SeatsDropped};
+ghost use Rattle.ap_speculate.specs.Jobs.{Both, Stays, LookedOn, ReadBelow, JobStays, IsDone, IsDropped, SeatsDone, SeatsDropped};
 
 use crate::gate::{Gate, Place};
 use crate::looking::look_at_all;
@@ -78,6 +78,7 @@ fn walk<S: Step>(
 /// Looks at the word of each family above a job's node, once or up to the first that tells to drop the job.
 pub(crate) fn look_at_job<T>(alloc: Global, job: &mut Job<T>) -> Option<License>
     ensures stays { JobStays job.old job.new }
+    ensures looked { IfNone result (Both (LookedOn 1) job.old.seats job.new.seats) }
     ensures dropped { IfSome result (λ l. AnyOf (ReadBelow l) job.new.seats) }
 {
     let mut seats = mem::replace(&mut job.seats, Seq::new(alloc)).into_vec();

@@ -2,6 +2,7 @@
 ghost use Rattle.std.specs.Prelude.{◌≡◌, ◌≤◌, ◌<◌, ◌↔◌, IsTrue, IfOk, OnOk, IfSome, length};
 ghost use Rattle.ap_walk.specs.Visits.{out_children};
 ghost use Rattle.ap_speculate.specs.Boards.{IsEnded, IsHandedBack};
+ghost use Rattle.ap_speculate.specs.Turns.{IsTurn};
 
 use crate::board::{Board, Shared};
 use crate::gate::Gate;
@@ -93,7 +94,9 @@ fn turn<S: Step, G: Gate, R: Wait>(
     table: &GoalTable<S>,
     worker: u32,
     gate: &G,
-) -> Result<bool, NoMemory> {
+) -> Result<bool, NoMemory>
+    ensures { IfOk result (IsTurn S.step_of S.depth) }
+{
     let seen = table.length(rt);
     let Claim::Found(job) = table.claim(rt) else {
         return Ok(table.wait_more(rt, seen) > seen);
