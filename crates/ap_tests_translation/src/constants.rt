@@ -121,7 +121,7 @@ fn named_by_form(form: &Form) -> &'static [u8] {
 
 #[test]
 fn macros_and_constants_name_nothing(rt: HostRuntime) {
-    assert_eq!(rt; NAMES.lines().count(), 30);
+    assert_eq!(rt; NAMES.lines().count(), 31);
     for line in NAMES.lines() {
         expect(&rt, line, named_by(rt.alloc(), sides(line).0));
     }
