@@ -2,11 +2,14 @@
 # many_workers.sh [RUNS]: wall time of acl2p with 1, 2 and 4 workers, the medians of so many runs (default 5), on books
 # whose one theorem, an exclusive or of eight variables in two groupings, is split by a hint into 16 and into 64 cases of
 # equal work, beside the one in which none holds, which is nothing; and on a book of 1,000 small theorems. Prints a line
-# for each book: the times in milliseconds, and the ratios to one worker; and of the first how many runs with one worker the
-# machine does in the time of one where two and where four run side by side, which is the most that any program gets there.
-# It says besides how much of the processors' time the host took away meanwhile (steal, in /proc/stat): where that is more
-# than a few of a hundred, four processors weren't free. VARIABLES=N has N variables (2 to 8) in place of eight: with each
-# more a case takes about four times as long. BOOKS="wide16 small" takes these alone. Run it on a machine that does nothing else, with four processors.
+# for each book: the times in milliseconds, and the ratios to one worker. Where processors are threads of one core, or the
+# host lends them to others, one that is alone is faster than each of four that are busy, so that no program's four workers
+# are four times as fast as one alone. So of the wide books it tells besides how long one worker takes beside one and beside
+# three others of its kind (the mean of the runs that begin at once), the ratios to that, in which the processors are as
+# busy as with the workers, and how many runs alone the runs side by side count as. It says how much of the processors' time
+# the host took away meanwhile (steal, in /proc/stat). VARIABLES=N has N variables (2 to 8) in place of eight: with each
+# more a case takes about four times as long. BOOKS="wide16 small" takes these alone. Run it on a machine that does nothing
+# else, with four processors.
 here=$(cd "$(dirname "$0")/.." && pwd)
 acl2p=${ACL2P:-$here/crates/acl2p/out/acl2p}
 [ -x "$acl2p" ] || { echo "many_workers: no program at $acl2p; build it by ../acl2p" >&2; exit 1; }
@@ -41,7 +44,7 @@ with open("small.lisp", "w") as out:
 END
 runs=${1:-5}
 python3 - "$acl2p" "$runs" <<'END'
-import os, statistics, subprocess, sys, time
+import concurrent.futures, os, statistics, subprocess, sys, time
 program, runs = sys.argv[1], int(sys.argv[2])
 
 def processors():
@@ -58,12 +61,12 @@ def one(workers, book):
     return done.returncode, done.stdout
 
 def beside(many, book):
-    each = [subprocess.Popen([program, "--workers", "1", book], stdout=subprocess.DEVNULL) for _ in range(many)]
-    for it in each:
-        it.wait()
+    with concurrent.futures.ThreadPoolExecutor(many) as at_once:
+        each = list(at_once.map(lambda _: timed(lambda: one(1, book))[0], range(many)))
+    return statistics.mean(each)
 
 for book in os.environ.get("BOOKS", "wide16 wide64 small").split():
-    times, side, texts = {1: [], 2: [], 4: []}, {2: [], 4: []} if book == "wide16" else {}, set()
+    times, side, texts = {1: [], 2: [], 4: []}, {} if book == "small" else {2: [], 4: []}, set()
     before = processors()
     for _ in range(runs):
         for workers in times:
@@ -71,13 +74,14 @@ for book in os.environ.get("BOOKS", "wide16 wide64 small").split():
             times[workers].append(took)
             texts.add(text)
         for many in side:
-            side[many].append(timed(lambda: beside(many, book))[0])
+            side[many].append(beside(many, book))
     spent = [now - then for now, then in zip(processors(), before)]
     assert len(texts) == 1, f"{book}: the bytes differ"
     status = next(iter(texts))[0]
     middle = {w: statistics.median(t) for w, t in times.items()}
     print(f"{book}: status {status}; " + ", ".join(f"{w} workers {m:.0f} ms" for w, m in middle.items())
           + f"; ratios {middle[1] / middle[2]:.2f} with 2, {middle[1] / middle[4]:.2f} with 4"
-          + "".join(f"; {many} runs side by side count as {many * middle[1] / statistics.median(t):.2f}" for many, t in side.items())
+          + "".join(f"; {many} runs side by side take {(busy := statistics.median(t)):.0f} ms each, so count as {many * middle[1] / busy:.2f},"
+                    f" and {many} workers are {busy / middle[many]:.2f} times as fast as one of them" for many, t in side.items())
           + f"; the host took away {100 * spent[7] / max(1, sum(spent)):.1f} of a hundred")
 END
