@@ -1,6 +1,6 @@
 -- Splitting, and the clauses that wait: what is pushed and taken, and what comes of it.
-use Rattle.std.proofs.Common.{◌≡◌, ℕ, zero, suc, ◌+◌, ◌*◌, ◌<◌, ◌≤◌, List, [], ◌∷◌, ◌++◌, length, take, drop, Option, Some, None, slice_get, refl, ap, sym, ◌∙◌, subst, append_assoc, add-one, length-append, arith}
-use Rattle.ap_list.specs.Lists.{Each}
+use Rattle.std.proofs.Common.{◌≡◌, ℕ, zero, suc, ◌+◌, ◌*◌, ◌<◌, ◌≤◌, List, [], ◌∷◌, ◌++◌, map, length, take, drop, Option, Some, None, slice_get, refl, ap, sym, ◌∙◌, subst, append_assoc, add-one, length-append, arith}
+use Rattle.ap_list.specs.Lists.{Each, joined}
 use Rattle.ap_term.specs.declared.term.Term.{Term}
 use Rattle.ap_term.specs.declared.term.Clause.{Clause}
 use Rattle.ap_world.specs.World.{Shown, function_of}
@@ -16,7 +16,7 @@ use Rattle.ap_clausify.specs.declared.states.Task.{Task}
 use Rattle.ap_clausify.specs.declared.states.Task.TheVariants as task
 use Rattle.ap_clausify.specs.declared.states.Turn.{Turn}
 use Rattle.ap_clausify.specs.declared.states.Turn.TheVariants as turn
-use Rattle.ap_clausify.specs.Splitting.{Left, Splitter, spend, before, then_rest, each_split, cases, split_by, split_to, split_of, steps_left}
+use Rattle.ap_clausify.specs.Splitting.{Left, Splitter, spend, before, then_rest, each_split, cases, split_by, split_to, split_of, steps_left, settled, settled_all, settled_left}
 use Rattle.ap_clausify.specs.Frames.{by_steps, done_clauses, due, resumed, outcome, origin, Waits, Linked, at_hand, comes, weight, GoesOn, Goes}
 
 -- the steps only fall
@@ -77,9 +77,12 @@ enough zero (suc k) c n h l = by_agree (λ d m. None) (split_to k) none_falls n 
 enough (suc d) zero c n h l = by_agree (split_to d) (λ d m. None) (to_falls d) n (λ c m q. absurd (omega arith)) c (cases c)
 enough (suc d) (suc k) c n h l = by_agree (split_to d) (split_to k) (to_falls d) n (λ c m q. enough d k c m (omega arith) (omega arith)) c (cases c)
 
-pub unfolds : (n : ℕ) (c : Clause) → split_of n c ≡ split_by by_steps c n (cases c)
-unfolds zero c = by_agree (λ d m. None) by_steps none_falls zero (λ c m q. absurd (omega arith)) c (cases c)
-unfolds (suc d) c = by_agree (split_to d) by_steps (to_falls d) (suc d) (λ c m q. enough d m c m (omega arith) (omega arith)) c (cases c)
+abbrev untidied : Splitter
+untidied c n = split_of n c
+
+unfolds : (n : ℕ) (c : Clause) → split_of n c ≡ split_by untidied c n (cases c)
+unfolds zero c = by_agree (λ d m. None) untidied none_falls zero (λ c m q. absurd (omega arith)) c (cases c)
+unfolds (suc d) c = by_agree (split_to d) untidied (to_falls d) (suc d) (λ c m q. enough d m c m (omega arith) (omega arith)) c (cases c)
 
 -- lists
 append_nil : {A : Type 0} (xs : List A) → xs ++ [] ≡ xs
@@ -143,12 +146,30 @@ before_none : (o : Left) → before [] o ≡ o
 before_none None = refl
 before_none (Some p) = refl
 
--- a clause without `if`, and one that begins to wait
-pub opened_whole : (n : ℕ) (c : Clause) → cases c ≡ None → split_of n c ≡ Some (c ∷ [], n)
-opened_whole n c h = unfolds n c ∙ ap (split_by by_steps c n) h
+-- tidying goes clause by clause
+settled_append : (cs ds : List Clause) → joined (map settled (cs ++ ds)) ≡ joined (map settled cs) ++ joined (map settled ds)
+settled_append [] ds = refl
+settled_append (c ∷ cs) ds = ap (λ es. settled c ++ es) (settled_append cs ds) ∙ sym (append_assoc (settled c) (joined (map settled cs)) (joined (map settled ds)))
 
-pub opened_cases : (n : ℕ) (c : Clause) (r : Reduction) → cases c ≡ Some r.says → split_of n c ≡ due (record { split = r; done = [] }) n
-opened_cases n c r h = unfolds n c ∙ ap (split_by by_steps c n) h ∙ sym (before_none (each_split by_steps r.says.to n))
+settled_before : (cs : List Clause) (o : Left) → settled_left (before cs o) ≡ before (joined (map settled cs)) (settled_left o)
+settled_before cs None = refl
+settled_before cs (Some p) = ap (λ es. Some (es, p.1)) (settled_append cs p.0)
+
+settled_each : (s : Splitter) (cs : List Clause) (n : ℕ) → settled_left (each_split s cs n) ≡ each_split (λ c m. settled_left (s c m)) cs n
+settled_each s [] n = refl
+settled_each s (c ∷ cs) zero = refl
+settled_each s (c ∷ cs) (suc m) = go (s c m) (settled_each s cs)
+  where
+    go : (o : Left) → ((k : ℕ) → settled_left (each_split s cs k) ≡ each_split (λ c m. settled_left (s c m)) cs k) → settled_left (then_rest o (each_split s cs)) ≡ then_rest (settled_left o) (each_split (λ c m. settled_left (s c m)) cs)
+    go None more = refl
+    go (Some p) more = settled_before p.0 (each_split s cs p.1) ∙ ap (before (settled_all p)) (more p.1)
+
+-- a clause without `if`, and one that begins to wait
+pub opened_whole : (n : ℕ) (c : Clause) → cases c ≡ None → settled_left (split_of n c) ≡ Some (settled c, n)
+opened_whole n c h = ap settled_left (unfolds n c ∙ ap (split_by untidied c n) h) ∙ ap (λ ds. Some (ds, n)) (append_nil (settled c))
+
+pub opened_cases : (n : ℕ) (c : Clause) (r : Reduction) → cases c ≡ Some r.says → settled_left (split_of n c) ≡ due (record { split = r; done = [] }) n
+opened_cases n c r h = ap settled_left (unfolds n c ∙ ap (split_by untidied c n) h) ∙ settled_each untidied r.says.to n ∙ sym (before_none (each_split by_steps r.says.to n))
 
 pub begins : (W : Shown) (r : Reduction) → Reduces W r → Waits W (record { split = r; done = [] })
 begins W r s = record { split = s; done = tt; from = refl }
@@ -188,7 +209,7 @@ goes_done W fs f r n l h s e = record {
     due_is : due f n ≡ Some (all_to (claims f.done), n)
     due_is = ap (λ cs. before (done_clauses f) (each_split by_steps cs n)) (none_drop f.split.says.to (length f.done) h).0 ∙ ap (λ cs. Some (cs, n)) (append_nil (done_clauses f))
 
-due_case : (f : Frame) (c : Clause) (n : ℕ) → slice_get f.split.says.to (length f.done) ≡ Some c → due f n ≡ before (done_clauses f) (spend n (λ m. then_rest (split_of m c) (each_split by_steps (drop (length f.done + 1) f.split.says.to))))
+due_case : (f : Frame) (c : Clause) (n : ℕ) → slice_get f.split.says.to (length f.done) ≡ Some c → due f n ≡ before (done_clauses f) (spend n (λ m. then_rest (by_steps c m) (each_split by_steps (drop (length f.done + 1) f.split.says.to))))
 due_case f c n h = ap (λ cs. before (done_clauses f) (each_split by_steps cs n)) (get_drop f.split.says.to (length f.done) c h)
 
 pub goes_out : (fs : List Frame) (f : Frame) (c : Clause) (n : ℕ) → slice_get f.split.says.to (length f.done) ≡ Some c → n ≡ 0 → outcome fs (due f n) ≡ None
@@ -211,7 +232,7 @@ goes_open W fs gs f c ts n m l w h g t e =
       linked = linked_end W fs f c l w h;
       holds = case_known W f c w h;
       origin = origin_end fs f c;
-      outcome = outcome_end fs f (split_of m c) ∙ ap (outcome fs) (sym (ap (due f) (e ∙ add-one m) ∙ due_case f c (suc m) h));
+      outcome = outcome_end fs f (by_steps c m) ∙ ap (outcome fs) (sym (ap (due f) (e ∙ add-one m) ∙ due_case f c (suc m) h));
       falls = fewer;
     }))
   where

@@ -10,11 +10,11 @@ use Rattle.ap_clausify.specs.declared.states.Task.TheVariants as task
 use Rattle.ap_clausify.specs.declared.states.State.{State}
 use Rattle.ap_clausify.specs.declared.states.Turn.{Turn}
 use Rattle.ap_clausify.specs.declared.states.Turn.TheVariants as turn
-use Rattle.ap_clausify.specs.Splitting.{Left, before, then_rest, each_split, split_of}
+use Rattle.ap_clausify.specs.Splitting.{Left, before, then_rest, each_split, split_of, settled_left}
 
--- how a clause is split
+-- how a clause is split, each clause that is left tidied
 abbrev pub by_steps : Clause → ℕ → Left
-by_steps c n = split_of n c
+by_steps c n = settled_left (split_of n c)
 
 -- what the cases that are done are reduced to
 abbrev pub done_clauses : Frame → List Clause
@@ -55,7 +55,7 @@ at_hand (task.Open c) = c
 at_hand (task.Done r) = r.says.from
 
 abbrev pub comes : Task → ℕ → Left
-comes (task.Open c) n = split_of n c
+comes (task.Open c) n = by_steps c n
 comes (task.Done r) n = Some (r.says.to, n)
 
 abbrev pub IsAtHand : Shown → Task → Type 0

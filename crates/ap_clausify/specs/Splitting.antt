@@ -1,8 +1,10 @@
 -- Splitting a clause at its `if`s, each clause that is made spending a step.
-use Rattle.std.specs.Prelude.{ℕ, zero, suc, List, [], ◌∷◌, ◌++◌, Option, Some, None}
+use Rattle.std.specs.Prelude.{ℕ, zero, suc, List, [], ◌∷◌, ◌++◌, map, Option, Some, None}
+use Rattle.ap_list.specs.Lists.{joined}
 use Rattle.ap_term.specs.declared.term.Clause.{Clause}
 use Rattle.ap_kernel.specs.declared.reductions.Inference.{Inference}
 use Rattle.ap_kernel.specs.Splits.{and_then, split_made}
+use Rattle.ap_kernel.specs.Tidying.{tidied, tidy_goals}
 use Rattle.ap_clausify.specs.Places.{first_choice}
 
 -- clauses and the steps that are left, or nothing where the steps ran out
@@ -55,3 +57,15 @@ split_of n c = split_to n c n
 abbrev pub steps_left : Left → ℕ
 steps_left None = 0
 steps_left (Some p) = p.1
+
+-- a clause tidied, or none where it then holds by itself
+abbrev pub settled : Clause → List Clause
+settled c = tidy_goals (tidied c.0)
+
+abbrev pub settled_all : List Clause × ℕ → List Clause
+settled_all p = joined (map settled p.0)
+
+-- the clauses that are left, each tidied
+abbrev pub settled_left : Left → Left
+settled_left None = None
+settled_left (Some p) = Some (settled_all p, p.1)

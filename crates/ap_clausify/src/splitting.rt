@@ -3,12 +3,12 @@ ghost use Rattle.std.specs.Option.{option_map};
 ghost use Rattle.ap_world.specs.World.{function_of};
 ghost use Rattle.ap_kernel.specs.Standing.{HasGround};
 ghost use Rattle.ap_kernel.specs.Reductions.{KnownClause, Reduces};
-ghost use Rattle.ap_clausify.specs.Splitting.{split_of, steps_left};
+ghost use Rattle.ap_clausify.specs.Splitting.{split_of, settled_left, steps_left};
 ghost use Rattle.ap_clausify.specs.Frames.{Waits, Linked, due, resumed, origin, outcome, at_hand, comes, IsAtHand, Goes, weight};
 
 use crate::places::first_choice;
 use crate::states::{Frame, Split, State, Task, Turn};
-use ap_kernel::{Reduction, chain, keep, split_if};
+use ap_kernel::{Reduction, chain, split_if, tidy};
 use ap_list::{NoMemory, Seq};
 use ap_term::{Clause, Steps, copy_terms};
 use ap_world::World;
@@ -51,10 +51,10 @@ fn open(
     requires ground { HasGround (function_of w.now.entries) }
     requires linked { Linked w.now frames c }
     requires clause { KnownClause (function_of w.now.entries) c }
-    ensures { IfOk result (λ t. Goes w.now frames c (split_of steps.old.left c) (2 * steps.old.left + (length frames + 1)) t steps.new.left) }
+    ensures { IfOk result (λ t. Goes w.now frames c (settled_left (split_of steps.old.left c)) (2 * steps.old.left + (length frames + 1)) t steps.new.left) }
 {
     let Some(place) = first_choice(alloc, &c)? else {
-        let task = Task::Done(keep(alloc, w, c)?);
+        let task = Task::Done(tidy(alloc, w, c)?);
         return Ok(Turn::On(State { frames, task }));
     };
     let split = split_if(alloc, w, c, place.literal, &place.at)?;
@@ -106,8 +106,8 @@ fn advance(alloc: Global, w: &World, state: State, steps: &mut Steps) -> Result<
     }
 }
 
-/// The clauses without `if` that a clause is split into, of which the clause is shown to be valid where they
-/// are. The first literal with an `if` is split first, at the first `if` in preorder whose test has none:
+/// The clauses without `if` that a clause is split into, each tidied, or left out where it then holds by itself;
+/// the clause is shown to be valid where they are. The first literal with an `if` is split first, at the first `if` in preorder whose test has none:
 /// the first of the two clauses has the test's negation before the literal, and the branch that is taken
 /// where the test holds in the place of the `if`; the second has the test, and the other branch. Each is
 /// split in its turn, the first wholly before the second is made. Each clause that is made spends a step;
@@ -119,7 +119,7 @@ fn advance(alloc: Global, w: &World, state: State, steps: &mut Steps) -> Result<
 pub fn split(alloc: Global, w: &World, c: Clause, steps: &mut Steps) -> Result<Split, NoMemory>
     requires ground { HasGround (function_of w.now.entries) }
     requires clause { KnownClause (function_of w.now.entries) c }
-    ensures made { IfOk result (λ s. option_map (λ r. r.says) s.reduction ≡ option_map (λ p. record { from = c; to = p.0 }) (split_of steps.old.left c)) }
+    ensures made { IfOk result (λ s. option_map (λ r. r.says) s.reduction ≡ option_map (λ p. record { from = c; to = p.0 }) (settled_left (split_of steps.old.left c))) }
     ensures steps { IfOk result (λ s. steps.new.left ≡ steps_left (split_of steps.old.left c)) }
     ensures stands { IfOk result (λ s. IfSome s.reduction (λ r. Reduces w.now r)) }
 {

@@ -2,7 +2,7 @@ use ap_kernel::Reduction;
 use ap_list::Seq;
 use ap_term::Clause;
 
-/// The clauses without `if` that a clause is split into, or nothing where the steps ran out.
+/// The clauses without `if` that a clause is split into, each tidied, or nothing where the steps ran out.
 #[derive(Drop)]
 pub struct Split {
     pub reduction: Option<Reduction>,

@@ -31,3 +31,4 @@ pub mod InductFollows
 pub mod Listed
 pub mod Heads
 pub mod PlainForm
+pub mod Closing

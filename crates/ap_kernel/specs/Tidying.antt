@@ -60,6 +60,19 @@ any_decides ts (u ∷ us) = decides ts u || any_decides ts us
 abbrev pub holds_by_itself : List Term → Bool
 holds_by_itself ts = any_decides ts ts
 
+-- the negation of a literal is one of them
+abbrev pub negates : Shape Term → Term → Bool
+negates (negation a) u = term_eq a u
+negates y u = false
+
+abbrev pub is_denied : List Term → Term → Bool
+is_denied [] u = false
+is_denied (t ∷ ts) u = negates (shape_of t) u || is_denied ts u
+
+-- a literal beside which a clause with these holds by itself
+abbrev pub closes : List Term → Term → Bool
+closes ts u = decides ts u || is_denied ts u
+
 -- to no clause where the plain form holds by itself, else to the plain form
 abbrev pub tidy_goals : List Term → List Clause
 tidy_goals ts = cond (holds_by_itself ts) [] (record { 0 = ts } ∷ [])

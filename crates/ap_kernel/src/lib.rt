@@ -163,7 +163,6 @@ pub use linear::both_not_less;
 pub use linear::by_certificate;
 pub use linear::is_comparison;
 pub use literals::drop_literal;
-pub use literals::extend_terms;
 pub use literals::keep;
 pub use literals::put_at;
 pub use literals::rewrite_literal;

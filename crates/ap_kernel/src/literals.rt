@@ -1,4 +1,4 @@
-ghost use Rattle.std.specs.Prelude.{◌≡◌, ◌∷◌, [], ◌++◌, ◌<◌, IfOk, OnOk, IsTrue, length, map, slice_get, Some};
+ghost use Rattle.std.specs.Prelude.{◌≡◌, ◌∷◌, [], ◌<◌, IfOk, IsTrue, length, map, slice_get, Some};
 ghost use Rattle.ap_list.specs.Lists.{Each};
 ghost use Rattle.ap_world.specs.World.{function_of};
 ghost use Rattle.ap_kernel.specs.Standing.{HasGround, Stands};
@@ -8,19 +8,9 @@ use crate::lists::{one, one_clause};
 use crate::objects::Equiv;
 use crate::reductions::Reduction;
 use ap_list::{NoMemory, Seq};
-use ap_term::{Clause, Term, copy_term, copy_terms};
+use ap_term::{Clause, Term, copy_terms, extend_terms};
 use ap_world::World;
 use std::alloc::Global;
-
-/// Copies terms to the end of a list.
-pub fn extend_terms(alloc: Global, out: &mut Seq<Term>, terms: &[Term]) -> Result<(), NoMemory>
-    ensures { OnOk result (out.new ≡ out.old ++ terms.now) }
-{
-    for t in terms {
-        out.push(copy_term(alloc, t)?)?;
-    }
-    Ok(())
-}
 
 /// A copy of a list of terms in which the term at a place is replaced by a list, which is moved.
 pub fn put_at(

@@ -1,11 +1,11 @@
-ghost use Rattle.std.specs.Prelude.{◌≡◌, IfOk};
+ghost use Rattle.std.specs.Prelude.{◌≡◌, IfOk, IsTrue, MatchOption};
 ghost use Rattle.ap_list.specs.Lists.{is_among};
 ghost use Rattle.ap_term.specs.Equal.{term_eq};
 ghost use Rattle.ap_world.specs.World.{function_of};
 ghost use Rattle.ap_world.specs.Shapes.{shape_of};
 ghost use Rattle.ap_kernel.specs.Standing.{HasGround};
 ghost use Rattle.ap_kernel.specs.Reductions.{KnownClause, Reduces};
-ghost use Rattle.ap_kernel.specs.Tidying.{negated_bare, is_bare, is_plain, plain, tidied, is_opposed, decides, holds_by_itself, tidy_goals, tidy_made};
+ghost use Rattle.ap_kernel.specs.Tidying.{negated_bare, is_bare, is_plain, plain, tidied, is_opposed, decides, holds_by_itself, negates, is_denied, closes, tidy_goals, tidy_made};
 
 use crate::assuming::is_constant;
 use crate::choices::{bare, not_term};
@@ -76,20 +76,6 @@ pub fn is_among(t: &Term, terms: &[Term]) -> bool
     false
 }
 
-/// The literals in plain form, without `'NIL` and without those that stand before.
-fn tidied(alloc: Global, terms: &[Term]) -> Result<Seq<Term>, NoMemory>
-    ensures { IfOk result (λ out. out ≡ tidied terms.now) }
-{
-    let mut out = Seq::with_capacity(alloc, terms.len())?;
-    for t in terms {
-        let literal = plain(alloc, t)?;
-        if !is_constant(false, &literal) && !is_among(&literal, out.as_slice()) {
-            out.push(literal)?;
-        }
-    }
-    Ok(out)
-}
-
 /// Whether a term is the negation of one of a list. Takes no memory.
 fn is_opposed(terms: &[Term], t: &Term) -> bool
     ensures { result ≡ is_opposed terms.now (shape_of t.now) }
@@ -98,6 +84,53 @@ fn is_opposed(terms: &[Term], t: &Term) -> bool
         ShapeRef::Not(a) => is_among(a, terms),
         _ => false,
     }
+}
+
+/// Whether a term is the negation of another. Takes no memory.
+fn negates(t: &Term, u: &Term) -> bool
+    ensures { result ≡ negates (shape_of t.now) u.now }
+{
+    match shape_of(t) {
+        ShapeRef::Not(a) => is_same(a, u),
+        _ => false,
+    }
+}
+
+/// Whether one of a list is the negation of a term. Takes no memory.
+fn is_denied(terms: &[Term], t: &Term) -> bool
+    ensures { result ≡ is_denied terms.now t.now }
+{
+    for u in terms {
+        if negates(u, t) {
+            return true;
+        }
+    }
+    false
+}
+
+/// Whether a clause with some literals and this one holds by itself for this one. Takes no memory.
+fn closes(terms: &[Term], t: &Term) -> bool
+    ensures { result ≡ closes terms.now t.now }
+{
+    is_constant(true, t) || is_opposed(terms, t) || is_denied(terms, t)
+}
+
+/// The literals in plain form, without `'NIL` and without those that stand before. `None` where a clause of
+/// these holds by itself, as soon as a literal shows it.
+fn tidied(alloc: Global, terms: &[Term]) -> Result<Option<Seq<Term>>, NoMemory>
+    ensures { IfOk result (λ o. MatchOption o (IsTrue (holds_by_itself (tidied terms.now))) (λ out. out ≡ tidied terms.now)) }
+{
+    let mut out = Seq::with_capacity(alloc, terms.len())?;
+    for t in terms {
+        let literal = plain(alloc, t)?;
+        if !is_constant(false, &literal) && !is_among(&literal, out.as_slice()) {
+            if closes(out.as_slice(), &literal) {
+                return Ok(None);
+            }
+            out.push(literal)?;
+        }
+    }
+    Ok(Some(out))
 }
 
 /// Whether a clause has a constant other than `nil`, or a literal and its negation. Takes no memory.
@@ -112,13 +145,15 @@ fn holds_by_itself(terms: &[Term]) -> bool
     false
 }
 
-/// The clauses that tidying leaves of literals in plain form.
-fn tidy_goals(alloc: Global, terms: Seq<Term>) -> Result<Seq<Clause>, NoMemory>
-    ensures { IfOk result (λ cs. cs ≡ tidy_goals terms) }
+/// The clauses that tidying leaves of a clause's literals.
+fn tidy_goals(alloc: Global, terms: &[Term]) -> Result<Seq<Clause>, NoMemory>
+    ensures { IfOk result (λ cs. cs ≡ tidy_goals (tidied terms.now)) }
 {
     let mut goals = Seq::new(alloc);
-    if !holds_by_itself(terms.as_slice()) {
-        goals.push(Clause(terms))?;
+    if let Some(literals) = tidied(alloc, terms)? {
+        if !holds_by_itself(literals.as_slice()) {
+            goals.push(Clause(literals))?;
+        }
     }
     Ok(goals)
 }
@@ -134,7 +169,6 @@ pub fn tidy(alloc: Global, w: &World, c: Clause) -> Result<Reduction, NoMemory>
     ensures made { IfOk result (λ r. r.says ≡ tidy_made c) }
 {
     w.is_sound();
-    let literals = tidied(alloc, c.0.as_slice())?;
-    let goals = tidy_goals(alloc, literals)?;
+    let goals = tidy_goals(alloc, c.0.as_slice())?;
     Ok(Reduction::made(c, goals))
 }

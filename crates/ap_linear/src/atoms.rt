@@ -2,10 +2,10 @@
 ghost use Rattle.std.specs.Prelude.{◌≡◌, ◌++◌, ◌∷◌, IfOk};
 ghost use Rattle.ap_poly.specs.Elimination.{with_atom, with_atoms, atoms_of};
 
-use ap_kernel::{extend_terms, is_same};
+use ap_kernel::is_same;
 use ap_list::{NoMemory, Seq};
 use ap_poly::{Poly, is_before};
-use ap_term::{Term, copy_term};
+use ap_term::{Term, copy_term, extend_terms};
 use std::alloc::Global;
 
 /// The terms so far, this one and the rest.

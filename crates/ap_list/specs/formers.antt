@@ -2,4 +2,3 @@ pub mod boxed
 pub mod seq
 pub mod shared
 pub mod shared_seq
-pub mod tagged

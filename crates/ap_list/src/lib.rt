@@ -8,7 +8,6 @@ mod seq;
 mod shared;
 mod shared_compared;
 mod shared_seq;
-mod tagged;
 mod text;
 
 pub use boxed::Boxed;

@@ -3,16 +3,15 @@ ghost use Rattle.std.specs.Option.{option_copied};
 
 use crate::seq::Seq;
 use crate::shared::Shared;
-use crate::tagged::Tagged;
 use std::alloc::{AllocError, Global};
 use std::marker::Model;
 use std::ops::Deref;
 
-/// A list that may have several owners, in any threads, and a number beside it. Contracts see the elements
-/// alone, so a type may hold itself through it; of the number nothing is promised.
+/// A list that may have several owners, in any threads. Contracts see the elements alone, so a type may hold
+/// itself through it.
 #[derive(Debug, Drop)]
 pub struct SharedSeq<T> {
-    inner: Shared<Tagged<T>>,
+    inner: Shared<Seq<T>>,
 }
 
 impl<T> Model for SharedSeq<T> {
@@ -31,21 +30,21 @@ impl<T> SharedSeq<T> {
     pub fn as_slice(&self) -> &[T]
         ensures { result.now ≡ self.now }
     {
-        self.inner.get().items().as_slice()
+        self.inner.get().as_slice()
     }
 
     /// The number of elements.
     pub fn len(&self) -> usize
         ensures { result ≡ length self.now }
     {
-        self.inner.get().items().len()
+        self.inner.get().len()
     }
 
     /// Whether there is no element.
     pub fn is_empty(&self) -> bool
         ensures { IsTrue result ↔ (self.now ≡ []) }
     {
-        self.inner.get().items().is_empty()
+        self.inner.get().is_empty()
     }
 
     /// The element at a place, or `None` past the end.
@@ -53,7 +52,7 @@ impl<T> SharedSeq<T> {
         ensures value { option_copied result ≡ slice_get self.now place }
         ensures within { OnSome result (place < length self.now) }
     {
-        self.inner.get().items().get(place)
+        self.inner.get().get(place)
     }
 
     /// The same list for one more owner: a count and not the elements is copied. It takes no memory, and
@@ -72,30 +71,18 @@ impl<T> SharedSeq<T> {
     {
         let SharedSeq { inner } = self;
         match inner.try_into_inner() {
-            Ok(tagged) => Ok(tagged.into_items()),
+            Ok(items) => Ok(items),
             Err(inner) => Err(SharedSeq { inner }),
         }
-    }
-
-    /// The number beside the list, as a hash that is kept for a table. Nothing is promised of it.
-    pub fn tag(&self) -> u64 {
-        self.inner.get().tag()
     }
 }
 
 impl<T: Drop> SharedSeq<T> {
-    /// Moves a list to where it can be shared, with 0 beside it.
+    /// Moves a list to where it can be shared.
     pub fn new(alloc: Global, items: Seq<T>) -> Result<SharedSeq<T>, AllocError>
         ensures { IfOk result (λ s. s ≡ items) }
     {
-        SharedSeq::tagged(alloc, items, 0)
-    }
-
-    /// Moves a list to where it can be shared, with a number beside it.
-    pub fn tagged(alloc: Global, items: Seq<T>, tag: u64) -> Result<SharedSeq<T>, AllocError>
-        ensures { IfOk result (λ s. s ≡ items) }
-    {
-        let inner = Shared::new(alloc, Tagged::new(items, tag))?;
+        let inner = Shared::new(alloc, items)?;
         Ok(SharedSeq { inner })
     }
 }
@@ -108,6 +95,6 @@ impl<T> Deref for SharedSeq<T> {
     fn deref(&self) -> &Seq<T>
         ensures { result.now ≡ self.now }
     {
-        self.inner.get().items()
+        self.inner.get()
     }
 }

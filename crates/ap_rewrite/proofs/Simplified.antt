@@ -17,6 +17,7 @@ use Rattle.ap_kernel.specs.declared.reductions.Reduction.{Reduction}
 use Rattle.ap_kernel.specs.Standing.{Stands}
 use Rattle.ap_kernel.specs.Reductions.{KnownClause, Reduces, put_at, others, all_false, to_one}
 use Rattle.ap_kernel.specs.Tidying.{tidied, holds_by_itself, tidy_goals, tidy_made}
+use Rattle.ap_clausify.specs.Splitting.{settled_left}
 use Rattle.ap_rewrite.specs.Settings.{Setting}
 use Rattle.ap_rewrite.specs.Rewriting.{rewrite_of}
 use Rattle.ap_rewrite.specs.Literals.{rewrite_literal, rewrite_literals, left_of, rewritten_to, split_left}
@@ -270,17 +271,17 @@ abbrev reduced_to : Clause → List Clause × ℕ → Inference
 reduced_to c p = record { from = c; to = p.0 }
 
 pub left_split : (c : Clause) (g : Got (Option (List Term))) (q : Reduction) (m : ℕ) (x : Option Inference) → got_reduced (Some q) m ≡ mapped (rewritten_to c) g
-    → x ≡ option_map (λ (p : List Clause × ℕ). record { from = q.says.from; to = p.0 }) (split_left (literals_left q.says.to) m)
-    → x ≡ option_map (λ (p : List Clause × ℕ). record { from = c; to = p.0 }) (after g split_left)
+    → x ≡ option_map (λ (p : List Clause × ℕ). record { from = q.says.from; to = p.0 }) (settled_left (split_left (literals_left q.says.to) m))
+    → x ≡ option_map (λ (p : List Clause × ℕ). record { from = c; to = p.0 }) (settled_left (after g split_left))
 left_split c g q m x e k =
     let (o, is, says) = left_says c g q m e in
     let back : literals_left q.says.to ≡ o = ap (λ (y : Inference). literals_left y.to) says ∙ left_back o in
     k
-    ∙ ap (λ (d : Clause). option_map (reduced_to d) (split_left (literals_left q.says.to) m)) (ap (λ (y : Inference). y.from) says)
-    ∙ ap (λ o. option_map (reduced_to c) (split_left o m)) back
-    ∙ ap (λ g. option_map (reduced_to c) (after g split_left)) (sym is)
+    ∙ ap (λ (d : Clause). option_map (reduced_to d) (settled_left (split_left (literals_left q.says.to) m))) (ap (λ (y : Inference). y.from) says)
+    ∙ ap (λ o. option_map (reduced_to c) (settled_left (split_left o m))) back
+    ∙ ap (λ g. option_map (reduced_to c) (settled_left (after g split_left))) (sym is)
 
 pub left_out : (c : Clause) (g : Got (Option (List Term))) (m : ℕ) → got_reduced None m ≡ mapped (rewritten_to c) g
-    → ◌≡◌ {A = Option Inference} None (option_map (λ (p : List Clause × ℕ). record { from = c; to = p.0 }) (after g split_left))
+    → ◌≡◌ {A = Option Inference} None (option_map (λ (p : List Clause × ℕ). record { from = c; to = p.0 }) (settled_left (after g split_left)))
 left_out c None m e = refl
 left_out c (Some p) m e = cc

@@ -6,11 +6,12 @@ use Rattle.ap_term.specs.declared.term.Clause.{Clause}
 use Rattle.ap_term.specs.Metered.{Got, after}
 use Rattle.ap_kernel.specs.declared.reductions.Inference.{Inference}
 use Rattle.ap_kernel.specs.Tidying.{tidied, holds_by_itself}
+use Rattle.ap_clausify.specs.Splitting.{settled, settled_all}
 use Rattle.ap_clausify.proofs.SplitStands.{split_few}
 use Rattle.ap_rewrite.specs.Settings.{Setting}
 use Rattle.ap_rewrite.specs.Literals.{rewrite_literals, split_left, simplify_of}
 use Rattle.ap_rewrite.proofs.RewritingCosts.{literals_metered}
-use Rattle.ap_strategy.specs.Steps.{tidied_clause, settled, first_solved, settled_all, opened, reduced, is_repeated, unrepeated, simplified}
+use Rattle.ap_strategy.specs.Steps.{tidied_clause, first_solved, opened, reduced, is_repeated, unrepeated, simplified}
 use Rattle.ap_strategy.specs.Reduced.{first_to}
 
 settled_few : (cs : List Clause) → length (joined (map settled cs)) ≤ length cs

@@ -7,7 +7,7 @@ use Rattle.ap_term.specs.declared.term.Clause.{Clause}
 use Rattle.ap_world.specs.Meaning.{Defs, Total, Valid}
 use Rattle.ap_kernel.specs.declared.reductions.Inference.{Inference}
 use Rattle.ap_kernel.specs.Standing.{HasGround}
-use Rattle.ap_kernel.specs.Reductions.{KnownClause, Follows, all_from, all_to, chained}
+use Rattle.ap_kernel.specs.Reductions.{KnownClause, Follows, all_from, all_to}
 use Rattle.ap_kernel.specs.Splits.{and_then}
 use Rattle.ap_kernel.specs.Solving.{solved_by, replaced_in, solved_made}
 use Rattle.ap_kernel.specs.Tidying.{tidied, holds_by_itself, tidy_made}
@@ -15,19 +15,20 @@ use Rattle.ap_kernel.proofs.Splitting.{then_some}
 use Rattle.ap_kernel.proofs.Tidied.{tidy_reduces}
 use Rattle.ap_kernel.proofs.Solved.{solved_reduces}
 use Rattle.ap_kernel.proofs.Reduced.{chained_reduces}
+use Rattle.ap_clausify.specs.Splitting.{Left, settled, settled_all, settled_left}
 use Rattle.ap_rewrite.specs.Settings.{Setting}
 use Rattle.ap_rewrite.specs.SoundSettings.{defs_of, SoundSetting}
 use Rattle.ap_rewrite.specs.Literals.{simplify_of}
 use Rattle.ap_rewrite.proofs.SimplifyingReduces.{simplifying_reduces}
 use Rattle.ap_strategy.specs.Repeats.{unrepeated_each, each_unrepeated}
-use Rattle.ap_strategy.specs.Steps.{tidied_clause, settled, or_later, first_solved, settled_all, opened, reduced, reduced_to, unrepeated, simplified}
+use Rattle.ap_strategy.specs.Steps.{tidied_clause, or_later, first_solved, opened, reduced, reduced_to, unrepeated, simplified}
 
 -- each of several clauses
-pub from_settled : (cs : List Clause) → all_from (map tidy_made cs) ≡ cs
+from_settled : (cs : List Clause) → all_from (map tidy_made cs) ≡ cs
 from_settled [] = refl
 from_settled (c ∷ cs) = ap (λ ds. c ∷ ds) (from_settled cs)
 
-pub to_settled : (cs : List Clause) → all_to (map tidy_made cs) ≡ joined (map settled cs)
+to_settled : (cs : List Clause) → all_to (map tidy_made cs) ≡ joined (map settled cs)
 to_settled [] = refl
 to_settled (c ∷ cs) = ap (λ ds. settled c ++ ds) (to_settled cs)
 
@@ -102,9 +103,10 @@ reduced_reduces S right n c ds k h = go (holds_by_itself (tidied c.0)) (tidy_red
         let s = opened_reduces S right n (tidied_clause c) (first_solved (tidied_clause c) 0 (tidied c.0)) ds r.goals.0 refl h in
         record { start = k; goals = s.goals; valid = λ v. r.valid (s.valid v, tt) }
 
--- what cases are settled to, as the kernel's rows make it
-pub cases_settled : (a r : Inference) (rs : List Inference) (cs : List Clause) → cs ≡ a.to → rs ≡ map tidy_made cs → r ≡ chained a rs → r ≡ reduced_to a.from (joined (map settled a.to))
-cases_settled a r rs cs g l e = e ∙ ap (chained a) (l ∙ ap (map tidy_made) g) ∙ ap (λ ds. record { from = a.from; to = ds }) (to_settled a.to)
+-- what a clause is split into, each part tidied, as an inference
+pub settled_says : (c : Clause) (o : Left) → option_map (λ (p : List Clause × ℕ). record { from = c; to = p.0 }) (settled_left o) ≡ option_map (reduced_to c) (option_map settled_all o)
+settled_says c None = refl
+settled_says c (Some p) = refl
 
 -- what is left of a clause whose literals were rewritten, and which was then split, settled
 pub simplified_reduces : (S : Setting) → SoundSetting S → (n : ℕ) (c : Clause) (ds : List Clause) → KnownClause (defs_of S) c → simplified S n c ≡ Some ds → Follows (defs_of S) (record { from = c; to = ds })

@@ -3,7 +3,7 @@
 -- splits into its cases.
 use Rattle.std.specs.Prelude.{◌≡◌, ℕ, ◌+◌, ◌-◌, Bool, true, false, cond, ◌||◌, nat_eq, nat_le, nat_lt, List, [], ◌∷◌, ◌++◌, length, map, Option, Some, None, IsTrue, IfSome}
 use Rattle.std.specs.Option.{option_map}
-use Rattle.ap_list.specs.Lists.{is_among, joined}
+use Rattle.ap_list.specs.Lists.{is_among}
 use Rattle.ap_value.specs.declared.symbol.Symbol.{Symbol}
 use Rattle.ap_term.specs.declared.term.Subst.{Subst}
 use Rattle.ap_term.specs.declared.term.Term.{Term}
@@ -26,8 +26,9 @@ use Rattle.ap_walk.specs.declared.act.Stepped.{Stepped}
 use Rattle.ap_kernel.specs.declared.reductions.Inference.{Inference}
 use Rattle.ap_kernel.specs.Hinting.{case_clauses}
 use Rattle.ap_kernel.specs.Reductions.{KnownClause}
-use Rattle.ap_kernel.specs.Tidying.{tidied, holds_by_itself, tidy_goals}
+use Rattle.ap_kernel.specs.Tidying.{tidied, holds_by_itself}
 use Rattle.ap_kernel.specs.Solving.{any_true, solved_made}
+use Rattle.ap_clausify.specs.Splitting.{settled_all}
 use Rattle.ap_rewrite.specs.Settings.{Setting}
 use Rattle.ap_rewrite.specs.InWorld.{world_setting}
 use Rattle.ap_rewrite.specs.Literals.{simplify_of}
@@ -50,10 +51,6 @@ setting_of g = setting_by g.plan g.settings
 abbrev pub tidied_clause : Clause → Clause
 tidied_clause c = record { 0 = tidied c.0 }
 
--- a clause tidied, or none where it then holds by itself
-abbrev pub settled : Clause → List Clause
-settled c = tidy_goals (tidied c.0)
-
 -- what comes first, if there is one, else what comes later
 abbrev pub or_later : {A : Type 0} → Option A → Option A → Option A
 or_later (Some a) o = Some a
@@ -63,10 +60,6 @@ or_later None o = o
 abbrev pub first_solved : Clause → ℕ → List Term → Option Inference
 first_solved c i [] = None
 first_solved c i (u ∷ us) = or_later (solved_made c i) (first_solved c (i + 1) us)
-
--- the clauses that were split off, settled
-abbrev pub settled_all : List Clause × ℕ → List Clause
-settled_all p = joined (map settled p.0)
 
 -- a tidied clause with a variable solved, else with its literals rewritten, and then split; None where the steps ran
 -- out

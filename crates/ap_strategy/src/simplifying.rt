@@ -1,16 +1,14 @@
-ghost use Rattle.std.specs.Prelude.{◌≡◌, ◌<◌, ◌^◌, [], ◌∷◌, length, IfOk, IfSome, MatchOption, IsTrue, is_some, map, Some, None};
+ghost use Rattle.std.specs.Prelude.{◌≡◌, ◌<◌, ◌^◌, [], ◌∷◌, length, IfOk, IfSome, MatchOption, IsTrue, is_some, Some, None};
 ghost use Rattle.std.specs.Option.{option_map};
-ghost use Rattle.ap_list.specs.Lists.{Each, joined};
+ghost use Rattle.ap_list.specs.Lists.{Each};
 ghost use Rattle.ap_world.specs.Sound.{HasFunctions};
-ghost use Rattle.ap_world.specs.World.{function_of};
-ghost use Rattle.ap_kernel.specs.Standing.{HasGround};
-ghost use Rattle.ap_kernel.specs.Reductions.{KnownClause, Reduces, claims};
+ghost use Rattle.ap_kernel.specs.Reductions.{KnownClause, Reduces};
 ghost use Rattle.ap_kernel.specs.Solving.{solved_made};
-ghost use Rattle.ap_kernel.specs.Tidying.{tidy_made};
+ghost use Rattle.ap_clausify.specs.Splitting.{settled_all};
 ghost use Rattle.ap_rewrite.specs.Literals.{simplify_of};
 ghost use Rattle.ap_rewrite.specs.Answering.{Ready, setting_of as rewriter_setting};
 ghost use Rattle.ap_strategy.specs.Goals.{defs_of};
-ghost use Rattle.ap_strategy.specs.Steps.{setting_by, settled, settled_all, first_solved, opened, reduced, simplified, reduced_to};
+ghost use Rattle.ap_strategy.specs.Steps.{setting_by, first_solved, opened, reduced, simplified, reduced_to};
 
 use crate::clauses::{copy_clause, without_repeats};
 use crate::oracles::Oracles;
@@ -36,20 +34,6 @@ fn then(alloc: Global, w: &World, first: Reduction, next: Reduction) -> Result<R
     Ok(both)
 }
 
-/// What each of some clauses is tidied to.
-fn settle_all(alloc: Global, w: &World, cs: &[Clause]) -> Result<Seq<Reduction>, NoMemory>
-    requires ground { HasGround (function_of w.now.entries) }
-    requires clauses { Each (KnownClause (function_of w.now.entries)) cs.now }
-    ensures made { IfOk result (λ rs. claims rs ≡ map tidy_made cs.now) }
-    ensures stand { IfOk result (λ rs. Each (Reduces w.now) rs) }
-{
-    let mut out = Seq::new(alloc);
-    for c in cs {
-        out.push(tidy(alloc, w, copy_clause(alloc, c)?)?)?;
-    }
-    Ok(out)
-}
-
 /// The place of the first literal that solves a variable. Takes no memory.
 fn solvable_place(c: &Clause) -> Option<usize>
     ensures { MatchOption result (first_solved c.now 0 c.now.0 ≡ None) (λ i. IsTrue (is_some (solved_made c.now i)) × (first_solved c.now 0 c.now.0 ≡ solved_made c.now i)) }
@@ -60,18 +44,6 @@ fn solvable_place(c: &Clause) -> Option<usize>
         }
     }
     None
-}
-
-/// From a clause to what the clauses that it is reduced to are settled to.
-fn settle_cases(alloc: Global, w: &World, cases: Reduction) -> Result<Reduction, NoMemory>
-    requires ground { HasGround (function_of w.now.entries) }
-    requires stands { Reduces w.now cases }
-    ensures stands { IfOk result (λ r. Reduces w.now r) }
-    ensures made { IfOk result (λ r. r.says ≡ reduced_to cases.says.from (joined (map settled cases.says.to))) }
-{
-    let settled = settle_all(alloc, w, cases.to().as_slice())?;
-    let answer = chain(alloc, w, cases, settled)?;
-    Ok(answer)
 }
 
 /// What a goal's literals are rewritten by.
@@ -108,10 +80,8 @@ fn rewrite_settled(
     let mut steps = Steps {
         left: plan.step_limit,
     };
-    let Some(cases) = ap_rewrite::simplify(&by, &mut steps, c)? else {
-        return Ok(None);
-    };
-    Ok(Some(settle_cases(alloc, plan.world.world(), cases)?))
+    let answer = ap_rewrite::simplify(&by, &mut steps, c)?;
+    Ok(answer)
 }
 
 /// From a tidied clause to the one with a variable replaced that a literal solves, or else to those that are left

@@ -21,6 +21,6 @@ pub use matching::{is_same, matches_are_least, one_way_match};
 pub use order::{term_less, term_order_is_total, terms_print_apart};
 pub use steps::{Spent, Steps};
 pub use term::{
-    Clause, Subst, Term, copy_symbols, copy_term, copy_terms, equality_of_terms, owned, same_term,
-    same_terms, size,
+    Clause, Subst, Term, copy_symbols, copy_term, copy_terms, equality_of_terms, extend_terms,
+    owned, same_term, same_terms, size,
 };

@@ -1,4 +1,4 @@
-ghost use Rattle.std.specs.Prelude.{◌≡◌, ◌-◌, ◌^◌, ◌<◌, ◌↔◌, true, IsTrue, IfOk, IfSome, IfNone, map};
+ghost use Rattle.std.specs.Prelude.{◌≡◌, ◌-◌, ◌^◌, ◌++◌, ◌<◌, ◌↔◌, true, IsTrue, IfOk, OnOk, IfSome, IfNone, map};
 ghost use Rattle.ap_list.specs.Lists.{sum_of};
 ghost use Rattle.ap_term.specs.declared.term.Term.{Term, Call};
 ghost use Rattle.ap_term.specs.Equal.{term_eq};
@@ -85,6 +85,16 @@ pub fn copy_terms(alloc: Global, xs: &[Term]) -> Result<Seq<Term>, NoMemory>
         out.push(copy_term(alloc, x)?)?;
     }
     Ok(out)
+}
+
+/// Copies terms to the end of a list.
+pub fn extend_terms(alloc: Global, out: &mut Seq<Term>, terms: &[Term]) -> Result<(), NoMemory>
+    ensures { OnOk result (out.new ≡ out.old ++ terms.now) }
+{
+    for t in terms {
+        out.push(copy_term(alloc, t)?)?;
+    }
+    Ok(())
 }
 
 /// The arguments of a call by value: the list itself where the call alone holds it, and else a copy.

@@ -1,5 +1,5 @@
 use Rattle.std.proofs.Common.{◌≡◌, ◌+◌, ◌*◌, length}
-use Rattle.ap_clausify.specs.Splitting.{split_of}
+use Rattle.ap_clausify.specs.Splitting.{split_of, settled_left}
 use Rattle.ap_clausify.specs.Frames.{Linked, IsAtHand, at_hand, origin, outcome, comes, weight}
 use Rattle.ap_clausify.proofs.splitting.split.Given as goal
 
@@ -9,7 +9,7 @@ invariant-loop-next l = record {
   linked : Linked l.w l.state.frames (at_hand l.state.task);
   holds : IsAtHand l.w l.state.task;
   origin : origin l.state.frames (at_hand l.state.task) ≡ l.fn.c;
-  outcome : outcome l.state.frames (comes l.state.task l.steps.left) ≡ split_of l.fn.steps.left l.fn.c;
+  outcome : outcome l.state.frames (comes l.state.task l.steps.left) ≡ settled_left (split_of l.fn.steps.left l.fn.c);
 }
 
 abbrev pub decreases-loop-next : goal.decreases-loop-next

@@ -1,5 +1,5 @@
 use Rattle.std.proofs.Common.{◌≡◌, ◌++◌, drop}
-use Rattle.ap_kernel.proofs.literals.extend_terms.Given as goal
+use Rattle.ap_term.proofs.term.extend_terms.Given as goal
 
 -- what is there, and what is left
 abbrev pub invariant-loop-t : goal.invariant-loop-t
