@@ -7,9 +7,12 @@
 # are four times as fast as one alone. So of the wide books it tells besides how long one worker takes beside one and beside
 # three others of its kind (the mean of the runs that begin at once), the ratios to that, in which the processors are as
 # busy as with the workers, and how many runs alone the runs side by side count as. It says how much of the processors' time
-# the host took away meanwhile (steal, in /proc/stat). VARIABLES=N has N variables (2 to 8) in place of eight: with each
-# more a case takes about four times as long. BOOKS="wide16 small" takes these alone. Run it on a machine that does nothing
-# else, with four processors.
+# the host took away meanwhile (steal, in /proc/stat), and from how many to how many milliseconds one worker alone took:
+# where its slowest run isn't within 5 of a hundred of its fastest, the processors' speed changed by as much as the series
+# is to tell, so that it decides nothing, whatever its ratios. VARIABLES=N has N variables (2 to 8) in place of eight: with
+# each more a case takes about four times as long. BOOKS="wide16 small" takes these alone, and SIDE=no leaves out the runs
+# beside others, so that those with 1, 2 and 4 workers stand in turn. Run it on a machine that does nothing else, with four
+# processors.
 here=$(cd "$(dirname "$0")/.." && pwd)
 acl2p=${ACL2P:-$here/crates/acl2p/out/acl2p}
 [ -x "$acl2p" ] || { echo "many_workers: no program at $acl2p; build it by ../acl2p" >&2; exit 1; }
@@ -66,7 +69,8 @@ def beside(many, book):
     return statistics.mean(each)
 
 for book in os.environ.get("BOOKS", "wide16 wide64 small").split():
-    times, side, texts = {1: [], 2: [], 4: []}, {} if book == "small" else {2: [], 4: []}, set()
+    alone = book == "small" or os.environ.get("SIDE") == "no"
+    times, side, texts = {1: [], 2: [], 4: []}, {} if alone else {2: [], 4: []}, set()
     before = processors()
     for _ in range(runs):
         for workers in times:
@@ -81,6 +85,7 @@ for book in os.environ.get("BOOKS", "wide16 wide64 small").split():
     middle = {w: statistics.median(t) for w, t in times.items()}
     print(f"{book}: status {status}; " + ", ".join(f"{w} workers {m:.0f} ms" for w, m in middle.items())
           + f"; ratios {middle[1] / middle[2]:.2f} with 2, {middle[1] / middle[4]:.2f} with 4"
+          + f"; 1 worker took {min(times[1]):.0f} to {max(times[1]):.0f} ms, {100 * (max(times[1]) / min(times[1]) - 1):.0f} of a hundred apart"
           + "".join(f"; {many} runs side by side take {(busy := statistics.median(t)):.0f} ms each, so count as {many * middle[1] / busy:.2f},"
                     f" and {many} workers are {busy / middle[many]:.2f} times as fast as one of them" for many, t in side.items())
           + f"; the host took away {100 * spent[7] / max(1, sum(spent)):.1f} of a hundred")
