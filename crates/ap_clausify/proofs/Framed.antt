@@ -16,6 +16,7 @@ use Rattle.ap_clausify.specs.declared.states.Task.{Task}
 use Rattle.ap_clausify.specs.declared.states.Task.TheVariants as task
 use Rattle.ap_clausify.specs.declared.states.Turn.{Turn}
 use Rattle.ap_clausify.specs.declared.states.Turn.TheVariants as turn
+use Rattle.ap_clausify.specs.Scanning.{Ready}
 use Rattle.ap_clausify.specs.Splitting.{Left, Splitter, spend, before, then_rest, each_split, cases, split_by, split_to, split_of, steps_left, settled, settled_all, settled_left}
 use Rattle.ap_clausify.specs.Frames.{by_steps, done_clauses, due, resumed, outcome, origin, Waits, Linked, at_hand, comes, weight, GoesOn, Goes}
 
@@ -77,22 +78,22 @@ enough zero (suc k) c n h l = by_agree (λ d m. None) (split_to k) none_falls n 
 enough (suc d) zero c n h l = by_agree (split_to d) (λ d m. None) (to_falls d) n (λ c m q. absurd (omega arith)) c (cases c)
 enough (suc d) (suc k) c n h l = by_agree (split_to d) (split_to k) (to_falls d) n (λ c m q. enough d k c m (omega arith) (omega arith)) c (cases c)
 
-abbrev untidied : Splitter
+abbrev pub untidied : Splitter
 untidied c n = split_of n c
 
-unfolds : (n : ℕ) (c : Clause) → split_of n c ≡ split_by untidied c n (cases c)
+pub unfolds : (n : ℕ) (c : Clause) → split_of n c ≡ split_by untidied c n (cases c)
 unfolds zero c = by_agree (λ d m. None) untidied none_falls zero (λ c m q. absurd (omega arith)) c (cases c)
 unfolds (suc d) c = by_agree (split_to d) untidied (to_falls d) (suc d) (λ c m q. enough d m c m (omega arith) (omega arith)) c (cases c)
 
 -- lists
-append_nil : {A : Type 0} (xs : List A) → xs ++ [] ≡ xs
+pub append_nil : {A : Type 0} (xs : List A) → xs ++ [] ≡ xs
 append_nil [] = refl
 append_nil (x ∷ xs) = ap (λ ys. x ∷ ys) (append_nil xs)
 
 length_end : {A : Type 0} (xs : List A) (x : A) → length (xs ++ x ∷ []) ≡ length xs + 1
 length_end xs x = length-append xs (x ∷ [])
 
-drop_next : {A : Type 0} (n : ℕ) (x : A) (xs : List A) → drop (suc n + 1) (x ∷ xs) ≡ drop (n + 1) xs
+pub drop_next : {A : Type 0} (n : ℕ) (x : A) (xs : List A) → drop (suc n + 1) (x ∷ xs) ≡ drop (n + 1) xs
 drop_next n x xs = ap (λ k. drop k (x ∷ xs)) (add-one (suc n)) ∙ ap (λ k. drop k xs) (sym (add-one n))
 
 take_next : {A : Type 0} (n : ℕ) (x : A) (xs : List A) → take (suc n + 1) (x ∷ xs) ≡ x ∷ take (n + 1) xs
@@ -168,14 +169,14 @@ settled_each s (c ∷ cs) (suc m) = go (s c m) (settled_each s cs)
 pub opened_whole : (n : ℕ) (c : Clause) → cases c ≡ None → settled_left (split_of n c) ≡ Some (settled c, n)
 opened_whole n c h = ap settled_left (unfolds n c ∙ ap (split_by untidied c n) h) ∙ ap (λ ds. Some (ds, n)) (append_nil (settled c))
 
-pub opened_cases : (n : ℕ) (c : Clause) (r : Reduction) → cases c ≡ Some r.says → settled_left (split_of n c) ≡ due (record { split = r; done = [] }) n
-opened_cases n c r h = ap settled_left (unfolds n c ∙ ap (split_by untidied c n) h) ∙ settled_each untidied r.says.to n ∙ sym (before_none (each_split by_steps r.says.to n))
+pub opened_cases : (n : ℕ) (c : Clause) (r : Reduction) (seen : List Term) (literal : ℕ) → cases c ≡ Some r.says → settled_left (split_of n c) ≡ due (record { split = r; done = []; seen = seen; literal = literal }) n
+opened_cases n c r seen literal h = ap settled_left (unfolds n c ∙ ap (split_by untidied c n) h) ∙ settled_each untidied r.says.to n ∙ sym (before_none (each_split by_steps r.says.to n))
 
-pub begins : (W : Shown) (r : Reduction) → Reduces W r → Waits W (record { split = r; done = [] })
-begins W r s = record { split = s; done = tt; from = refl }
+pub begins : (W : Shown) (r : Reduction) (seen : List Term) (literal : ℕ) → Reduces W r → Each (λ c. Ready c seen literal) r.says.to → Waits W (record { split = r; done = []; seen = seen; literal = literal })
+begins W r seen literal s k = record { split = s; done = tt; from = refl; ready = k }
 
 -- a case that is done
-pub closed_due : (f : Frame) (r : Reduction) (n : ℕ) → resumed f (Some (r.says.to, n)) ≡ due (record { split = f.split; done = f.done ++ r ∷ [] }) n
+pub closed_due : (f : Frame) (r : Reduction) (n : ℕ) → resumed f (Some (r.says.to, n)) ≡ due (record { split = f.split; done = f.done ++ r ∷ []; seen = f.seen; literal = f.literal }) n
 closed_due f r n =
     before_before (done_clauses f) r.says.to (each_split by_steps (drop (length f.done + 1) f.split.says.to) n)
     ∙ ap (λ cs. before cs (each_split by_steps (drop (length f.done + 1) f.split.says.to) n)) (sym (all_to_end f.done r))
@@ -185,11 +186,12 @@ from_end : (rs : List Reduction) (r : Reduction) → all_from (claims (rs ++ r �
 from_end [] r = refl
 from_end (q ∷ rs) r = ap (λ cs. q.says.from ∷ cs) (from_end rs r)
 
-pub closed_waits : (W : Shown) (f : Frame) (r : Reduction) → Waits W f → Reduces W r → slice_get f.split.says.to (length f.done) ≡ Some r.says.from → Waits W (record { split = f.split; done = f.done ++ r ∷ [] })
+pub closed_waits : (W : Shown) (f : Frame) (r : Reduction) → Waits W f → Reduces W r → slice_get f.split.says.to (length f.done) ≡ Some r.says.from → Waits W (record { split = f.split; done = f.done ++ r ∷ []; seen = f.seen; literal = f.literal })
 closed_waits W f r w s h = record {
   split = w.split;
   done = each_append (Reduces W) f.done (r ∷ []) w.done (s, tt);
   from = from_end f.done r ∙ ap (λ cs. cs ++ r.says.from ∷ []) w.from ∙ sym (get_take f.split.says.to (length f.done) r.says.from h) ∙ ap (λ k. take k f.split.says.to) (sym (length_end f.done r));
+  ready = w.ready;
 }
 
 -- the next case is due
@@ -216,25 +218,26 @@ pub goes_out : (fs : List Frame) (f : Frame) (c : Clause) (n : ℕ) → slice_ge
 goes_out fs f c n h z = ap (λ k. outcome fs (due f k)) z ∙ ap (outcome fs) (due_case f c 0 h) ∙ outcome_none fs
 
 -- a case is known
-pub case_known : (W : Shown) (f : Frame) (c : Clause) → Waits W f → slice_get f.split.says.to (length f.done) ≡ Some c → KnownClause (function_of W.entries) c
-case_known W f c w h = each_at (KnownClause (function_of W.entries)) f.split.says.to (length f.done) c w.split.says.goals h
-  where
-    each_at : (P : Clause → Type 0) (cs : List Clause) (i : ℕ) (c : Clause) → Each P cs → slice_get cs i ≡ Some c → P c
-    each_at P [] i c ps q = cc
-    each_at P (d ∷ cs) zero c ps q = let same : d ≡ c = cc in subst P same ps.0
-    each_at P (d ∷ cs) (suc i) c ps q = each_at P cs i c ps.1 q
+each_at : (P : Clause → Type 0) (cs : List Clause) (i : ℕ) (c : Clause) → Each P cs → slice_get cs i ≡ Some c → P c
+each_at P [] i c ps q = cc
+each_at P (d ∷ cs) zero c ps q = let same : d ≡ c = cc in subst P same ps.0
+each_at P (d ∷ cs) (suc i) c ps q = each_at P cs i c ps.1 q
 
-pub goes_open : (W : Shown) (fs gs : List Frame) (f : Frame) (c : Clause) (ts : List Term) (n m : ℕ) → Linked W fs f.split.says.from → Waits W f → slice_get f.split.says.to (length f.done) ≡ Some c → gs ≡ fs ++ f ∷ [] → ts ≡ c.0 → n ≡ m + 1
-    → GoesOn W fs f.split.says.from (due f n) (2 * n + (length fs + 1)) (record { frames = gs; task = task.Open (record { 0 = ts }) }) m
-goes_open W fs gs f c ts n m l w h g t e =
-    subst (λ us. GoesOn W fs f.split.says.from (due f n) (2 * n + (length fs + 1)) (record { frames = gs; task = task.Open (record { 0 = us }) }) m) (sym t)
-    (subst (λ hs. GoesOn W fs f.split.says.from (due f n) (2 * n + (length fs + 1)) (record { frames = hs; task = task.Open c }) m) (sym g) (record {
+pub case_known : (W : Shown) (f : Frame) (c : Clause) → Waits W f → slice_get f.split.says.to (length f.done) ≡ Some c → KnownClause (function_of W.entries) c × Ready c f.seen f.literal
+case_known W f c w h = (each_at (KnownClause (function_of W.entries)) f.split.says.to (length f.done) c w.split.says.goals h, each_at (λ c. Ready c f.seen f.literal) f.split.says.to (length f.done) c w.ready h)
+
+pub goes_open : (W : Shown) (fs gs : List Frame) (f : Frame) (c : Clause) (ts xs : List Term) (n m : ℕ) → Linked W fs f.split.says.from → Waits W f → slice_get f.split.says.to (length f.done) ≡ Some c → gs ≡ fs ++ f ∷ [] → ts ≡ c.0 → xs ≡ f.seen → n ≡ m + 1
+    → GoesOn W fs f.split.says.from (due f n) (2 * n + (length fs + 1)) (record { frames = gs; task = task.Open (record { clause = record { 0 = ts }; seen = xs; cursor = f.literal }) }) m
+goes_open W fs gs f c ts xs n m l w h g t x e =
+    subst (λ us. GoesOn W fs f.split.says.from (due f n) (2 * n + (length fs + 1)) (record { frames = gs; task = task.Open (record { clause = record { 0 = us }; seen = xs; cursor = f.literal }) }) m) (sym t)
+    (subst (λ us. GoesOn W fs f.split.says.from (due f n) (2 * n + (length fs + 1)) (record { frames = gs; task = task.Open (record { clause = c; seen = us; cursor = f.literal }) }) m) (sym x)
+    (subst (λ hs. GoesOn W fs f.split.says.from (due f n) (2 * n + (length fs + 1)) (record { frames = hs; task = task.Open (record { clause = c; seen = f.seen; cursor = f.literal }) }) m) (sym g) (record {
       linked = linked_end W fs f c l w h;
       holds = case_known W f c w h;
       origin = origin_end fs f c;
       outcome = outcome_end fs f (by_steps c m) ∙ ap (outcome fs) (sym (ap (due f) (e ∙ add-one m) ∙ due_case f c (suc m) h));
       falls = fewer;
-    }))
+    })))
   where
     fewer : 2 * m + (length (fs ++ f ∷ []) + 1) < 2 * n + (length fs + 1)
     fewer = let p = length_end fs f in omega arith

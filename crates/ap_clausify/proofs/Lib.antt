@@ -1,5 +1,11 @@
 pub mod Flattened
 pub mod Framed
 pub mod Implied
+pub mod LeavesCapped
+pub mod LeavesCounted
 pub mod Placed
+pub mod Seen
 pub mod SplitStands
+pub mod StepsCounted
+pub mod Vanished
+pub mod VanishingGoes

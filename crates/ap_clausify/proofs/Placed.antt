@@ -165,7 +165,7 @@ popped at all left x (Some y) h k = last_one left at y x (sym k ∙ h)
 pub ruleset placing = (place_var, place_quote, place_called)
 
 -- an `if` stands at the place
-choice_step : (f : Symbol) (ts : List Term) (k : ℕ) (js : List ℕ) (t : Term) → slice_get ts k ≡ Some t → choice_at (k ∷ js) (Call f ts) ≡ choice_at js t
+pub choice_step : (f : Symbol) (ts : List Term) (k : ℕ) (js : List ℕ) (t : Term) → slice_get ts k ≡ Some t → choice_at (k ∷ js) (Call f ts) ≡ choice_at js t
 choice_step f ts k js t h = rw (outs-Call f ts) (ap (λ o. and_then (and_then o (part_at js)) (λ v. parts_of (shape_of v))) h)
 
 is_choice : (f : Symbol) (a b c : Term) → symbol_eq f if_name ≡ true → is_some (choice_at [] (Call f (a ∷ b ∷ c ∷ []))) ≡ true
@@ -229,14 +229,14 @@ place_there = term_ind There variable quoted call
     call f ts es is h = go (symbol_eq f if_name) f ts refl es is (sym (place_called f ts) ∙ h)
 
 -- a literal, by its place from a number on
-record Stands (i : ℕ) (us : List Term) (p : ℕ × List ℕ) : Type 0 where
-  k : ℕ
-  u : Term
-  at : p.0 ≡ i + k
-  there : slice_get us k ≡ Some u
-  place : first_place u ≡ Some p.1
+pub record Stands (i : ℕ) (us : List Term) (p : ℕ × List ℕ) : Type 0 where
+  pub k : ℕ
+  pub u : Term
+  pub at : p.0 ≡ i + k
+  pub there : slice_get us k ≡ Some u
+  pub place : first_place u ≡ Some p.1
 
-stands_from : (i : ℕ) (us : List Term) (p : ℕ × List ℕ) → choice_from i us ≡ Some p → Stands i us p
+pub stands_from : (i : ℕ) (us : List Term) (p : ℕ × List ℕ) → choice_from i us ≡ Some p → Stands i us p
 stands_from i [] p h = cc
 stands_from i (u ∷ us) p h = go (first_place u) refl h (stands_from (i + 1) us p)
   where

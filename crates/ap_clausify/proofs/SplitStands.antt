@@ -22,11 +22,11 @@ abbrev Serves : Defs → Splitter → Type 0
 Serves D s = (c : Clause) (n : ℕ) (ds : List Clause) (l : ℕ) → KnownClause D c → s c n ≡ Some (ds, l) → Serve D (c ∷ []) ds
 
 -- what is left, in parts
-abbrev clauses_left : Left → List Clause
+abbrev pub clauses_left : Left → List Clause
 clauses_left None = []
 clauses_left (Some p) = p.0
 
-before_is : (cs ds : List Clause) (o : Left) (l : ℕ) → before cs o ≡ Some (ds, l) → (es : List Clause) × (o ≡ Some (es, l)) × (ds ≡ cs ++ es)
+pub before_is : (cs ds : List Clause) (o : Left) (l : ℕ) → before cs o ≡ Some (ds, l) → (es : List Clause) × (o ≡ Some (es, l)) × (ds ≡ cs ++ es)
 before_is cs ds None l h = cc
 before_is cs ds (Some p) l h = (p.0, ap (λ m. Some (p.0, m)) (ap steps_left h), sym (ap clauses_left h))
 

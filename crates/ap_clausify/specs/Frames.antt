@@ -10,6 +10,7 @@ use Rattle.ap_clausify.specs.declared.states.Task.TheVariants as task
 use Rattle.ap_clausify.specs.declared.states.State.{State}
 use Rattle.ap_clausify.specs.declared.states.Turn.{Turn}
 use Rattle.ap_clausify.specs.declared.states.Turn.TheVariants as turn
+use Rattle.ap_clausify.specs.Scanning.{Ready}
 use Rattle.ap_clausify.specs.Splitting.{Left, before, then_rest, each_split, split_of, settled_left}
 
 -- how a clause is split, each clause that is left tidied
@@ -38,11 +39,13 @@ abbrev pub origin : List Frame → Clause → Clause
 origin [] c = c
 origin (f ∷ fs) c = f.split.says.from
 
--- a clause that waits: there is one reduction for each of its first cases
+-- a clause that waits: there is one reduction for each of its first cases, and each case may be searched from
+-- the literal on that was split
 pub record Waits (w : Shown) (f : Frame) : Type 0 where
   pub split : Reduces w f.split
   pub done : Each (Reduces w) f.done
   pub from : all_from (claims f.done) ≡ take (length f.done) f.split.says.to
+  pub ready : Each (λ c. Ready c f.seen f.literal) f.split.says.to
 
 -- each clause that waits, waits for the next one, the last for the clause at hand
 abbrev pub Linked : Shown → List Frame → Clause → Type 0
@@ -51,20 +54,20 @@ Linked w (f ∷ fs) c = Waits w f × (slice_get f.split.says.to (length f.done) 
 
 -- the clause at hand, what comes of it, and what is known of it
 abbrev pub at_hand : Task → Clause
-at_hand (task.Open c) = c
+at_hand (task.Open k) = k.clause
 at_hand (task.Done r) = r.says.from
 
 abbrev pub comes : Task → ℕ → Left
-comes (task.Open c) n = by_steps c n
+comes (task.Open k) n = by_steps k.clause n
 comes (task.Done r) n = Some (r.says.to, n)
 
 abbrev pub IsAtHand : Shown → Task → Type 0
-IsAtHand w (task.Open c) = KnownClause (function_of w.entries) c
+IsAtHand w (task.Open k) = KnownClause (function_of w.entries) k.clause × Ready k.clause k.seen k.cursor
 IsAtHand w (task.Done r) = Reduces w r
 
 -- a bound on the turns that are left
 abbrev pub weight : Task → ℕ
-weight (task.Open c) = 1
+weight (task.Open k) = 1
 weight (task.Done r) = 0
 
 -- the next state: what comes of the first clause stays the same

@@ -6,7 +6,9 @@
 #![tactic(auto)]
 
 mod flattening;
+mod leaves;
 mod places;
+mod scanning;
 mod splitting;
 mod states;
 

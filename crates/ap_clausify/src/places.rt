@@ -1,11 +1,10 @@
 ghost use Rattle.std.specs.Prelude.{◌≡◌, ◌∷◌, [], ◌++◌, IfOk, OnOk, map};
-ghost use Rattle.std.specs.Option.{option_map};
-ghost use Rattle.ap_clausify.specs.Places.{first_in, first_place, first_choice, found};
+ghost use Rattle.ap_clausify.specs.Places.{first_in, first_place, found};
 
 use ap_kernel::is_if;
 use ap_list::{NoMemory, Seq};
-use ap_term::{Clause, Term};
-use std::alloc::{AllocError, Global};
+use ap_term::Term;
+use std::alloc::AllocError;
 
 /// Where an `if` stands in a clause: the place of its literal, and the places of arguments in that, the
 /// outermost first.
@@ -16,7 +15,7 @@ pub(crate) struct Place {
 }
 
 // The room with which a search begins.
-const USUAL_DEPTH: usize = 16;
+pub(crate) const USUAL_DEPTH: usize = 16;
 
 /// Adds the place of an argument. Where it doesn't fit 32 bits, the call doesn't fit the memory.
 fn push_place(at: &mut Seq<u32>, place: usize) -> Result<(), NoMemory>
@@ -31,7 +30,7 @@ fn push_place(at: &mut Seq<u32>, place: usize) -> Result<(), NoMemory>
 /// Whether a term has an `if`; the place of the first one whose test has none is then added.
 #[cycle(finding)]
 #[tactic(auto, using(crate::proofs::Placed::placing))]
-fn find(t: &Term, at: &mut Seq<u32>) -> Result<bool, NoMemory>
+pub(crate) fn find(t: &Term, at: &mut Seq<u32>) -> Result<bool, NoMemory>
     ensures { IfOk result (λ b. (b, at.new) ≡ found at.old (first_place t.now)) }
 {
     match t {
@@ -63,18 +62,4 @@ fn find_among(ts: &[Term], at: &mut Seq<u32>) -> Result<bool, NoMemory>
         at.pop();
     }
     Ok(false)
-}
-
-/// The `if` of a clause that is split first: in the first literal with an `if`, the first one in preorder
-/// whose test has none. `None` exactly where the clause has no `if`.
-pub(crate) fn first_choice(alloc: Global, c: &Clause) -> Result<Option<Place>, NoMemory>
-    ensures { IfOk result (λ o. option_map (λ p. (p.literal, p.at)) o ≡ first_choice c.now) }
-{
-    let mut at = Seq::with_capacity(alloc, USUAL_DEPTH)?;
-    for (literal, t) in c.0.as_slice().iter().enumerate() {
-        if find(t, &mut at)? {
-            return Ok(Some(Place { literal, at }));
-        }
-    }
-    Ok(None)
 }

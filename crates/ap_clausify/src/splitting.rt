@@ -1,13 +1,18 @@
-ghost use Rattle.std.specs.Prelude.{◌≡◌, ◌+◌, ◌*◌, ◌++◌, ◌∷◌, [], IfOk, IfSome, Some, slice_get, length};
+ghost use Rattle.std.specs.Prelude.{◌≡◌, ◌+◌, ◌*◌, ◌<◌, ◌++◌, ◌∷◌, [], IfOk, IfSome, Some, slice_get, length};
+ghost use Rattle.std.specs.Bool.{OnTrue, OnFalse};
 ghost use Rattle.std.specs.Option.{option_map};
 ghost use Rattle.ap_world.specs.World.{function_of};
 ghost use Rattle.ap_kernel.specs.Standing.{HasGround};
 ghost use Rattle.ap_kernel.specs.Reductions.{KnownClause, Reduces};
+ghost use Rattle.ap_clausify.specs.Leaves.{clause_leaves};
+ghost use Rattle.ap_clausify.specs.Scanning.{Ready};
+ghost use Rattle.ap_clausify.specs.Vanishing.{Vanishes};
 ghost use Rattle.ap_clausify.specs.Splitting.{split_of, settled_left, steps_left};
 ghost use Rattle.ap_clausify.specs.Frames.{Waits, Linked, due, resumed, origin, outcome, at_hand, comes, IsAtHand, Goes, weight};
 
-use crate::places::first_choice;
-use crate::states::{Frame, Split, State, Task, Turn};
+use crate::leaves::clause_leaves;
+use crate::scanning::{Scanned, scan};
+use crate::states::{Case, Frame, Split, State, Task, Turn};
 use ap_kernel::{Reduction, chain, split_if, tidy};
 use ap_list::{NoMemory, Seq};
 use ap_term::{Clause, Steps, copy_terms};
@@ -28,20 +33,45 @@ fn go_on(
     ensures { IfOk result (λ t. Goes w.now frames frame.split.says.from (due frame steps.old.left) (2 * steps.old.left + (length frames + 1)) t steps.new.left) }
 {
     let Some(case) = frame.split.to().get(frame.done.len()) else {
-        let Frame { split, done } = frame;
+        let Frame { split, done, .. } = frame;
         let task = Task::Done(chain(alloc, w, split, done)?);
         return Ok(Turn::On(State { frames, task }));
     };
     if steps.tick().is_err() {
         return Ok(Turn::Out);
     }
-    let task = Task::Open(Clause(copy_terms(alloc, case.0.as_slice())?));
+    let clause = Clause(copy_terms(alloc, case.0.as_slice())?);
+    let seen = copy_terms(alloc, frame.seen.as_slice())?;
+    let task = Task::Open(Case {
+        clause,
+        seen,
+        cursor: frame.literal,
+    });
     frames.push(frame)?;
     Ok(Turn::On(State { frames, task }))
 }
 
-/// Begins to split a clause.
-fn open(
+/// Spends the steps of splitting a clause wholly at once: two for each clause that it is split into but one.
+/// Answers whether there are as many; where there aren't, none is left.
+fn spend_wholly(c: &Clause, steps: &mut Steps) -> bool
+    ensures spent { OnTrue result (steps.new.left + 2 * clause_leaves c.now ≡ steps.old.left + 2) }
+    ensures out { OnFalse result (steps.old.left + 2 < 2 * clause_leaves c.now) }
+    ensures none { OnFalse result (steps.new.left ≡ 0) }
+{
+    let left = steps.left;
+    let others = clause_leaves(c, left / 2 + 2) - 1;
+    let enough = others <= left / 2;
+    if enough {
+        steps.left = left - 2 * others;
+    } else {
+        steps.left = 0;
+    }
+    enough
+}
+
+/// Ends with a clause that is split wholly into clauses that hold by themselves: it is reduced to none by its
+/// own literals, and the steps of splitting it are spent. `Out` where there aren't as many.
+fn vanish(
     alloc: Global,
     w: &World,
     frames: Seq<Frame>,
@@ -51,16 +81,59 @@ fn open(
     requires ground { HasGround (function_of w.now.entries) }
     requires linked { Linked w.now frames c }
     requires clause { KnownClause (function_of w.now.entries) c }
+    requires vanishes { Vanishes c }
     ensures { IfOk result (λ t. Goes w.now frames c (settled_left (split_of steps.old.left c)) (2 * steps.old.left + (length frames + 1)) t steps.new.left) }
 {
-    let Some(place) = first_choice(alloc, &c)? else {
-        let task = Task::Done(tidy(alloc, w, c)?);
-        return Ok(Turn::On(State { frames, task }));
-    };
-    let split = split_if(alloc, w, c, place.literal, &place.at)?;
-    let done = Seq::new(alloc);
-    let turn = go_on(alloc, w, frames, Frame { split, done }, steps)?;
-    Ok(turn)
+    if !spend_wholly(&c, steps) {
+        return Ok(Turn::Out);
+    }
+    let reduction = tidy(alloc, w, c)?;
+    let task = Task::Done(reduction);
+    Ok(Turn::On(State { frames, task }))
+}
+
+/// Begins to split a clause.
+fn open(
+    alloc: Global,
+    w: &World,
+    frames: Seq<Frame>,
+    case: Case,
+    steps: &mut Steps,
+) -> Result<Turn, NoMemory>
+    requires ground { HasGround (function_of w.now.entries) }
+    requires linked { Linked w.now frames case.clause }
+    requires clause { KnownClause (function_of w.now.entries) case.clause }
+    requires ready { Ready case.clause case.seen case.cursor }
+    ensures { IfOk result (λ t. Goes w.now frames case.clause (settled_left (split_of steps.old.left case.clause)) (2 * steps.old.left + (length frames + 1)) t steps.new.left) }
+{
+    let Case {
+        clause: c,
+        mut seen,
+        cursor,
+    } = case;
+    match scan(alloc, &c, &mut seen, cursor)? {
+        Scanned::Whole => {
+            let task = Task::Done(tidy(alloc, w, c)?);
+            Ok(Turn::On(State { frames, task }))
+        }
+        Scanned::Closed => {
+            let turn = vanish(alloc, w, frames, c, steps)?;
+            Ok(turn)
+        }
+        Scanned::Choice(place) => {
+            let literal = place.literal;
+            let split = split_if(alloc, w, c, literal, &place.at)?;
+            let done = Seq::new(alloc);
+            let frame = Frame {
+                split,
+                done,
+                seen,
+                literal,
+            };
+            let turn = go_on(alloc, w, frames, frame, steps)?;
+            Ok(turn)
+        }
+    }
 }
 
 /// Hands what a case is reduced to, to the clause that waits for it.
@@ -92,8 +165,8 @@ fn advance(alloc: Global, w: &World, state: State, steps: &mut Steps) -> Result<
 {
     let State { mut frames, task } = state;
     match task {
-        Task::Open(c) => {
-            let turn = open(alloc, w, frames, c, steps)?;
+        Task::Open(case) => {
+            let turn = open(alloc, w, frames, case, steps)?;
             Ok(turn)
         }
         Task::Done(r) => match frames.pop() {
@@ -114,8 +187,13 @@ fn advance(alloc: Global, w: &World, state: State, steps: &mut Steps) -> Result<
 /// there is no reduction exactly where the steps run out, and then none is left. The only error is want of
 /// memory, which a call of more than 2^32 arguments is taken for.
 ///
-/// The time and the memory are linear in the literals of the clauses that are made. The call's own stack
-/// doesn't grow with the number of splits, but with the depth of a term.
+/// A clause isn't split where some literals before its first `if` close it: one that is a constant other than
+/// `nil`, or two of which one negates the other, in plain form at sight. All that it would be split into holds
+/// by itself then, so what splitting it would spend is spent at once, two steps for each clause but one.
+///
+/// The memory is linear in the literals of the clauses that are made, and so is the time, but that each literal
+/// without `if` is compared with those that are seen before it. The call's own stack doesn't grow with the
+/// number of splits, but with the depth of a term.
 pub fn split(alloc: Global, w: &World, c: Clause, steps: &mut Steps) -> Result<Split, NoMemory>
     requires ground { HasGround (function_of w.now.entries) }
     requires clause { KnownClause (function_of w.now.entries) c }
@@ -125,7 +203,11 @@ pub fn split(alloc: Global, w: &World, c: Clause, steps: &mut Steps) -> Result<S
 {
     let mut state = State {
         frames: Seq::new(alloc),
-        task: Task::Open(c),
+        task: Task::Open(Case {
+            clause: c,
+            seen: Seq::new(alloc),
+            cursor: 0,
+        }),
     };
     loop {
         match advance(alloc, w, state, steps)? {

@@ -18,5 +18,5 @@ pub returns : goal.returns
 returns c =
     let h : slice_get c.args.frame.split.says.to (length c.args.frame.done) ≡ Some c.in-Some.case.now = search rules in
     let e : c.args.steps.now.left ≡ c.tick.new.self.left + 1 = search rules in
-    goes_open c.args.w.now c.args.frames c.push.new.self c.args.frame c.in-Some.case.now c.in_ok-copy_terms.field-0 c.args.steps.now.left c.tick.new.self.left
-    c.requires.linked c.requires.waits h c.in_ok-push.ensures.ok (c.in_ok-copy_terms.ensures ∙ c.as_slice.ensures) e
+    goes_open c.args.w.now c.args.frames c.push.new.self c.args.frame c.in-Some.case.now c.in_ok-copy_terms.field-0 c.in_ok-seen.seen c.args.steps.now.left c.tick.new.self.left
+    c.requires.linked c.requires.waits h c.in_ok-push.ensures.ok (c.in_ok-copy_terms.ensures ∙ c.as_slice.ensures) (search rules) e
