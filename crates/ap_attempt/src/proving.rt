@@ -28,6 +28,7 @@ fn rule_after(rule: Rule, goals: u32) -> Option<Rule>
     Some(Rule {
         initial: false,
         otf: rule.otf,
+        revert: rule.revert,
         goal_limit,
     })
 }

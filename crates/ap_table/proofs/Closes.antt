@@ -29,14 +29,14 @@ use Rattle.ap_table.proofs.Dropping.{SumsShow}
 use Rattle.ap_table.proofs.Heard.{not_none}
 use Rattle.ap_table.proofs.Totals.{Sums, front_short, goes_on}
 
-ends_by : (b : Bool) (l p g : ℕ) → reaches (cond b (Some 2) None) p ≡ false → g < l → (if b && nat_le 2 p then End.Revert else if nat_le l g then End.Limit else End.Through) ≡ End.Through
-ends_by true l p g r h = grind (arith, nat_tests)
-ends_by false l p g r h = grind (arith, nat_tests)
+ends_by : (b : Bool) (r l p g : ℕ) → reaches (cond b (Some r) None) p ≡ false → g < l → (if b && nat_le r p then End.Revert else if nat_le l g then End.Limit else End.Through) ≡ End.Through
+ends_by true n l p g r h = grind (arith, nat_tests)
+ends_by false n l p g r h = grind (arith, nat_tests)
 
 -- a tally that is short of both numbers goes on
 goes_through : (rule : Rule) (t : Tally) → reaches (numbers_of rule).revert t.pushes ≡ false → t.goals < rule.goal_limit → end_at rule t ≡ End.Through
 unfolding end_at
-goes_through rule t r h = ends_by (can_revert rule) rule.goal_limit t.pushes t.goals r h
+goes_through rule t r h = ends_by (can_revert rule) rule.revert rule.goal_limit t.pushes t.goals r h
 
 less_than : (l g : ℕ) → nat_le l g ≡ false → g < l
 less_than l g h = grind (arith, nat_tests)

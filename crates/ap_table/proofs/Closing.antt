@@ -101,13 +101,13 @@ or_false false b e f = f
 or_false true b e f = cc
 
 -- a tally that goes through is short of both numbers
-short_at : (b : Bool) (p g l s t : ℕ) → (if b && nat_le 2 p then End.Revert else if nat_le l g then End.Limit else End.Through) ≡ End.Through → s ≤ p → t ≤ g → (reaches (cond b (Some 2) None) s ≡ false) × (nat_le l t ≡ false)
-short_at true p g l s t h a c = (grind (arith, nat_tests), grind (arith, nat_tests))
-short_at false p g l s t h a c = (refl, grind (arith, nat_tests))
+short_at : (b : Bool) (r p g l s t : ℕ) → (if b && nat_le r p then End.Revert else if nat_le l g then End.Limit else End.Through) ≡ End.Through → s ≤ p → t ≤ g → (reaches (cond b (Some r) None) s ≡ false) × (nat_le l t ≡ false)
+short_at true r p g l s t h a c = (grind (arith, nat_tests), grind (arith, nat_tests))
+short_at false r p g l s t h a c = (refl, grind (arith, nat_tests))
 
 pub short : (rule : Rule) (t : Tally) (s g : ℕ) → end_at rule t ≡ End.Through → s ≤ t.pushes → g ≤ t.goals → (reaches (numbers_of rule).revert s ≡ false) × (nat_le (numbers_of rule).goal_limit g ≡ false)
 unfolding end_at
-short rule t s g h a c = short_at (can_revert rule) t.pushes t.goals rule.goal_limit s g h a c
+short rule t s g h a c = short_at (can_revert rule) rule.revert t.pushes t.goals rule.goal_limit s g h a c
 
 module _ {T : Type 0} (step : T → Stepped T) (depth : T → ℕ) (rule : Rule) where
   abbrev pub whole : T → Walked T

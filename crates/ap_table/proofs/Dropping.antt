@@ -45,9 +45,9 @@ or_last : (a b : Bool) → b ≡ true → (a || b) ≡ true
 or_last true b e = refl
 or_last false b e = e
 
-reverts_at : (b : Bool) (p q : ℕ) → b ≡ true → q ≡ 2 → reaches (cond b (Some 2) None) (p + q) ≡ true
-reverts_at true p q e f = grind (arith, nat_tests)
-reverts_at false p q e f = absurd (cc)
+reverts_at : (b : Bool) (r p q : ℕ) → b ≡ true → q ≡ r → reaches (cond b (Some r) None) (p + q) ≡ true
+reverts_at true r p q e f = grind (arith, nat_tests)
+reverts_at false r p q e f = absurd (cc)
 
 limits_at : (l g h : ℕ) → h ≡ l → nat_le l (g + h) ≡ true
 limits_at l g h e = grind (arith, nat_tests)
@@ -90,7 +90,7 @@ module _ {T : Type 0} (step : T → Stepped T) (depth : T → ℕ) (rule : Rule)
   ended_at : (s : Counted) (w : Walked T) (e : End) → w.end ≡ e → (e ≡ End.Through → ⊥) → StopsAt rule w → stops (numbers_of rule) (add s (counted_of w)) ≡ true
   unfolding stops
   ended_at s w End.Through is other at = absurd (other refl)
-  ended_at s w End.Revert is other at = (let r = at.revert is in or_middle (s.stopped || is_stopped w.end) _ _ (reverts_at (can_revert rule) s.pushes w.tally.pushes r.0 r.1))
+  ended_at s w End.Revert is other at = (let r = at.revert is in or_middle (s.stopped || is_stopped w.end) _ _ (reverts_at (can_revert rule) rule.revert s.pushes w.tally.pushes r.0 r.1))
   ended_at s w End.Limit is other at = or_right (s.stopped || is_stopped w.end) _ _ (limits_at rule.goal_limit s.goals w.tally.goals (at.limit is))
   ended_at s w (End.Stopped r) is other at = or_first (s.stopped || is_stopped w.end) _ _ (or_last s.stopped (is_stopped w.end) (ap is_stopped is))
 

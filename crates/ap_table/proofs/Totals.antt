@@ -51,16 +51,16 @@ no_test true b c e f g = cc
 no_test false true c e f g = cc
 no_test false false true e f g = cc
 
-zero_reaches : (b : Bool) → reaches (cond b (Some 2) None) 0 ≡ false
-zero_reaches true = refl
-zero_reaches false = refl
+zero_reaches : (b : Bool) (r : ℕ) → 2 ≤ r → reaches (cond b (Some r) None) 0 ≡ false
+zero_reaches true r some = grind (arith, nat_tests)
+zero_reaches false r some = refl
 
 abbrev pub zero_sum : Sum
 zero_sum = record { pushes = 0; goals = 0; ended = 0 }
 
 pub zero_goes_on : (rule : Rule) → 1 ≤ rule.goal_limit → sum_stops rule zero_sum ≡ false
 unfolding sum_stops
-zero_goes_on rule h = no_test (nat_le 1 0) (reaches (numbers_of rule).revert 0) (nat_le rule.goal_limit 0) refl (zero_reaches (can_revert rule)) (grind (arith, nat_tests))
+zero_goes_on rule h = no_test (nat_le 1 0) (reaches (numbers_of rule).revert 0) (nat_le rule.goal_limit 0) refl (zero_reaches (can_revert rule) rule.revert rule.reverting.0) (grind (arith, nat_tests))
 
 or_true : (a b c : Bool) → (a || b || c) ≡ true → (a ≡ true) ⊎ (b ≡ true) ⊎ (c ≡ true)
 or_true true b c e = inl refl

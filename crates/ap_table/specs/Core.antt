@@ -7,7 +7,7 @@ use Rattle.ap_walk.specs.declared.rule.Rule.{Rule}
 use Rattle.ap_walk.specs.declared.rule.End.{End}
 use Rattle.ap_walk.specs.declared.mark.Walked.{Walked}
 use Rattle.ap_walk.specs.Visits.{Visit, out_children, visit_of}
-use Rattle.ap_walk.specs.Tallies.{zero_tally, can_revert, revert_count}
+use Rattle.ap_walk.specs.Tallies.{zero_tally, can_revert}
 use Rattle.ap_walk.specs.Walks.{cut, full}
 use Rattle.ap_table.specs.declared.link.Link.{Link}
 use Rattle.ap_table.specs.declared.link.License.{License}
@@ -44,7 +44,7 @@ pub data Turn : Type 0 where
   look : ℕ → Turn
 
 abbrev pub numbers_of : Rule → Numbers
-numbers_of rule = record { revert = cond (can_revert rule) (Some revert_count) None; goal_limit = rule.goal_limit }
+numbers_of rule = record { revert = cond (can_revert rule) (Some rule.revert) None; goal_limit = rule.goal_limit }
 
 abbrev pub is_stopped : End → Bool
 is_stopped End.Through = false

@@ -46,7 +46,7 @@ fn revert_of(rule: Rule) -> Option<u32>
     if rule.otf {
         return None;
     }
-    Some(2)
+    Some(rule.revert)
 }
 
 /// Whether a seat is that of a family, with the place there.

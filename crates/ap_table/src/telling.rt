@@ -83,7 +83,7 @@ fn does_revert(rule: Rule, pushes: u64) -> bool
     if rule.otf {
         return false;
     }
-    pushes >= 2
+    pushes >= rule.revert as u64
 }
 
 /// Whether siblings that come to this end the walk of their family.

@@ -13,7 +13,7 @@ use Rattle.ap_walk.proofs.Trees.{walk_is_cut_of_all}
 
 -- a walk may begin at the empty tally
 pub zero_open : (rule : Rule) → IsOpen rule zero_tally
-zero_open rule = record { in_goals = omega arith; below_limit = omega (arith, rule.limited.0); below_revert = λ _. omega arith }
+zero_open rule = record { in_goals = omega arith; below_limit = omega (arith, rule.limited.0); below_revert = λ _. omega (arith, rule.reverting.0) }
 
 few_from : {T : Type 0} (rule : Rule) (t : Tally) (w : Walked T) → StopsAt rule w → CountsFrom t w → t.goals + length w.marks ≤ rule.goal_limit
 few_from rule t w stops counts = omega (arith, stops.within, counts)

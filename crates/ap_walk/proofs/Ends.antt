@@ -10,35 +10,35 @@ use Rattle.ap_walk.specs.Tallies.{AtMost, can_revert, end_at, tally_at, tally_by
 pub at_most_same : (t : Tally) → AtMost t t
 at_most_same t = record { pushes = omega arith; goals = omega arith }
 
-abbrev tested : Bool → ℕ → ℕ → ℕ → End
-tested b p g l = if b && nat_le 2 p then End.Revert else if nat_le l g then End.Limit else End.Through
+abbrev tested : Bool → ℕ → ℕ → ℕ → ℕ → End
+tested b r p g l = if b && nat_le r p then End.Revert else if nat_le l g then End.Limit else End.Through
 
-passes_pushes : (b : Bool) (p g l : ℕ) → tested b p g l ≡ End.Through → b ≡ true → p < 2
-passes_pushes true p g l h _ = grind (arith, nat_tests)
-passes_pushes false p g l h e = cc
+passes_pushes : (b : Bool) (r p g l : ℕ) → tested b r p g l ≡ End.Through → b ≡ true → p < r
+passes_pushes true r p g l h _ = grind (arith, nat_tests)
+passes_pushes false r p g l h e = cc
 
-passes_goals : (b : Bool) (p g l : ℕ) → tested b p g l ≡ End.Through → g < l
-passes_goals b p g l h = grind (arith, nat_tests)
+passes_goals : (b : Bool) (r p g l : ℕ) → tested b r p g l ≡ End.Through → g < l
+passes_goals b r p g l h = grind (arith, nat_tests)
 
-passed : (b : Bool) (p g l : ℕ) → (b ≡ true → p < 2) → g < l → tested b p g l ≡ End.Through
-passed b p g l hp hg = grind (arith, nat_tests)
+passed : (b : Bool) (r p g l : ℕ) → (b ≡ true → p < r) → g < l → tested b r p g l ≡ End.Through
+passed b r p g l hp hg = grind (arith, nat_tests)
 
 -- a tally at which a walk goes through has too few of each count for its rule
-pub through_pushes : (rule : Rule) (t : Tally) → end_at rule t ≡ End.Through → can_revert rule ≡ true → t.pushes < 2
+pub through_pushes : (rule : Rule) (t : Tally) → end_at rule t ≡ End.Through → can_revert rule ≡ true → t.pushes < rule.revert
 unfolding end_at
-through_pushes rule t = passes_pushes (can_revert rule) t.pushes t.goals rule.goal_limit
+through_pushes rule t = passes_pushes (can_revert rule) rule.revert t.pushes t.goals rule.goal_limit
 
 pub through_goals : (rule : Rule) (t : Tally) → end_at rule t ≡ End.Through → t.goals < rule.goal_limit
 unfolding end_at
-through_goals rule t = passes_goals (can_revert rule) t.pushes t.goals rule.goal_limit
+through_goals rule t = passes_goals (can_revert rule) rule.revert t.pushes t.goals rule.goal_limit
 
 -- where a walk goes through, it does with fewer counts too
 pub earlier_through : (rule : Rule) (z t : Tally) → AtMost z t → end_at rule t ≡ End.Through → end_at rule z ≡ End.Through
 unfolding end_at
 earlier_through rule z t m h =
-    passed (can_revert rule) z.pushes z.goals rule.goal_limit
-    (λ e. let below = passes_pushes (can_revert rule) t.pushes t.goals rule.goal_limit h e in omega (arith, m.pushes))
-    (let below = passes_goals (can_revert rule) t.pushes t.goals rule.goal_limit h in omega (arith, m.goals))
+    passed (can_revert rule) rule.revert z.pushes z.goals rule.goal_limit
+    (λ e. let below = passes_pushes (can_revert rule) rule.revert t.pushes t.goals rule.goal_limit h e in omega (arith, m.pushes))
+    (let below = passes_goals (can_revert rule) rule.revert t.pushes t.goals rule.goal_limit h in omega (arith, m.goals))
 
 -- one more mark keeps the order of two tallies
 at_most_by : (b : Bool) (z t : Tally) → AtMost z t → AtMost (tally_by b z) (tally_by b t)

@@ -12,32 +12,32 @@ use Rattle.ap_walk.specs.Walks.{nothing, and_then, cut}
 use Rattle.ap_walk.specs.Laws.{end_when, StopsAt, CountsFrom}
 use Rattle.ap_walk.proofs.Ends.{through_pushes, through_goals}
 
-abbrev tested : Bool → ℕ → ℕ → ℕ → End
-tested b p g l = if b && nat_le 2 p then End.Revert else if nat_le l g then End.Limit else End.Through
+abbrev tested : Bool → ℕ → ℕ → ℕ → ℕ → End
+tested b r p g l = if b && nat_le r p then End.Revert else if nat_le l g then End.Limit else End.Through
 
-abbrev tested_when : Bool → ℕ → ℕ → ℕ → End
-tested_when b p g l = if b && nat_eq p 2 then End.Revert else if nat_eq g l then End.Limit else End.Through
+abbrev tested_when : Bool → ℕ → ℕ → ℕ → ℕ → End
+tested_when b r p g l = if b && nat_eq p r then End.Revert else if nat_eq g l then End.Limit else End.Through
 
-reverts_only : (b : Bool) (p g l : ℕ) → tested b p g l ≡ End.Revert → b ≡ true
-reverts_only true p g l h = refl
-reverts_only false p g l h = absurd (grind (arith, nat_tests))
+reverts_only : (b : Bool) (r p g l : ℕ) → tested b r p g l ≡ End.Revert → b ≡ true
+reverts_only true r p g l h = refl
+reverts_only false r p g l h = absurd (grind (arith, nat_tests))
 
-reverts_past : (b : Bool) (p g l : ℕ) → tested b p g l ≡ End.Revert → 2 ≤ p
-reverts_past true p g l h = grind (arith, nat_tests)
-reverts_past false p g l h = absurd (grind (arith, nat_tests))
+reverts_past : (b : Bool) (r p g l : ℕ) → tested b r p g l ≡ End.Revert → r ≤ p
+reverts_past true r p g l h = grind (arith, nat_tests)
+reverts_past false r p g l h = absurd (grind (arith, nat_tests))
 
-limits_past : (b : Bool) (p g l : ℕ) → tested b p g l ≡ End.Limit → l ≤ g
-limits_past b p g l h = grind (arith, nat_tests)
+limits_past : (b : Bool) (r p g l : ℕ) → tested b r p g l ≡ End.Limit → l ≤ g
+limits_past b r p g l h = grind (arith, nat_tests)
 
-same_tested : (b : Bool) (p g l : ℕ) → (b ≡ true → p ≤ 2) → g ≤ l → tested b p g l ≡ tested_when b p g l
-same_tested true p g l few small = let most : p ≤ 2 = few refl in grind (arith, nat_tests)
-same_tested false p g l few small = grind (arith, nat_tests)
+same_tested : (b : Bool) (r p g l : ℕ) → (b ≡ true → p ≤ r) → g ≤ l → tested b r p g l ≡ tested_when b r p g l
+same_tested true r p g l few small = let most : p ≤ r = few refl in grind (arith, nat_tests)
+same_tested false r p g l few small = grind (arith, nat_tests)
 
 -- what one more goal, and maybe one more push, does to an open tally
 record Next (rule : Rule) (t : Tally) : Type 0 where
   in_goals : t.pushes ≤ t.goals
   in_limit : t.goals ≤ rule.goal_limit
-  in_two : can_revert rule ≡ true → t.pushes ≤ 2
+  in_two : can_revert rule ≡ true → t.pushes ≤ rule.revert
 
 next_by : (rule : Rule) (b : Bool) (t : Tally) → IsOpen rule t → Next rule (tally_by b t)
 next_by rule true t is = record {
@@ -57,7 +57,7 @@ unfolding end_at end_when
 tests_same rule t mark is =
     let next = next_by rule (is_push mark.act.process) t is in
     let u = tally_at mark t in
-    same_tested (can_revert rule) u.pushes u.goals rule.goal_limit next.in_two next.in_limit
+    same_tested (can_revert rule) rule.revert u.pushes u.goals rule.goal_limit next.in_two next.in_limit
 
 -- a tally after one visit from an open one, by how the walk ends there
 stops_tested : {T : Type 0} (rule : Rule) (t : Tally) (ms : List (Visit T)) → Next rule t → StopsAt rule (record { marks = ms; tally = t; end = end_at rule t })
@@ -69,13 +69,13 @@ stops_tested rule t ms next = record {
     below_revert = through_pushes rule t h;
   };
   revert = λ h. (
-    reverts_only (can_revert rule) t.pushes t.goals rule.goal_limit h,
-    let past = reverts_past (can_revert rule) t.pushes t.goals rule.goal_limit h in
-        let few = next.in_two (reverts_only (can_revert rule) t.pushes t.goals rule.goal_limit h) in
+    reverts_only (can_revert rule) rule.revert t.pushes t.goals rule.goal_limit h,
+    let past = reverts_past (can_revert rule) rule.revert t.pushes t.goals rule.goal_limit h in
+        let few = next.in_two (reverts_only (can_revert rule) rule.revert t.pushes t.goals rule.goal_limit h) in
         omega arith,
   );
   limit = λ h.
-      let past = limits_past (can_revert rule) t.pushes t.goals rule.goal_limit h in
+      let past = limits_past (can_revert rule) rule.revert t.pushes t.goals rule.goal_limit h in
       omega (arith, next.in_limit);
   within = next.in_limit;
 }

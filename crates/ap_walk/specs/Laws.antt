@@ -7,7 +7,7 @@ use Rattle.ap_walk.specs.declared.rule.Rule.{Rule}
 use Rattle.ap_walk.specs.declared.rule.End.{End}
 use Rattle.ap_walk.specs.declared.mark.Walked.{Walked}
 use Rattle.ap_walk.specs.Visits.{Visit, out_children}
-use Rattle.ap_walk.specs.Tallies.{IsOpen, can_revert, revert_count, is_push}
+use Rattle.ap_walk.specs.Tallies.{IsOpen, can_revert, is_push}
 
 -- the task stands before the others where it was pushed
 abbrev pub with_pushed : {T : Type 0} → Bool → T → List T → List T
@@ -27,14 +27,14 @@ IsPath step task (next ∷ path) = AnyOf (λ child. child ≡ next) (out_childre
 -- the tests of a tally by equality: pushes are those of a revert where the rule reverts, or else goals are the limit
 unfoldable pub end_when : Rule → Tally → End
 end_when rule tally =
-    if can_revert rule && nat_eq tally.pushes revert_count then End.Revert
+    if can_revert rule && nat_eq tally.pushes rule.revert then End.Revert
     else if nat_eq tally.goals rule.goal_limit then End.Limit
     else End.Through
 
 -- a walk that began at an open tally ends where a count is what its rule says, and not past it
 pub record StopsAt {T : Type 0} (rule : Rule) (w : Walked T) : Type 0 where
   pub through : w.end ≡ End.Through → IsOpen rule w.tally
-  pub revert : w.end ≡ End.Revert → IsTrue (can_revert rule) × (w.tally.pushes ≡ revert_count)
+  pub revert : w.end ≡ End.Revert → IsTrue (can_revert rule) × (w.tally.pushes ≡ rule.revert)
   pub limit : w.end ≡ End.Limit → w.tally.goals ≡ rule.goal_limit
   pub within : w.tally.goals ≤ rule.goal_limit
 

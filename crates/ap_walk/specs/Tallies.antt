@@ -11,19 +11,15 @@ use Rattle.ap_walk.specs.Visits.{Visit, reason_of}
 abbrev pub zero_tally : Tally
 zero_tally = record { pushes = 0; goals = 0 }
 
--- the second push reverts a walk under this rule: it is the initial one, and `:otf-flg` isn't set
+-- pushes revert a walk under this rule: it is the initial one, and `:otf-flg` isn't set
 abbrev pub can_revert : Rule → Bool
 can_revert rule = rule.initial && not rule.otf
-
--- at how many pushes such a walk reverts
-abbrev pub revert_count : ℕ
-revert_count = 2
 
 -- a walk under this rule may go on from this tally
 pub record IsOpen (rule : Rule) (tally : Tally) : Type 0 where
   pub in_goals : tally.pushes ≤ tally.goals
   pub below_limit : tally.goals < rule.goal_limit
-  pub below_revert : IsTrue (can_revert rule) → tally.pushes < revert_count
+  pub below_revert : IsTrue (can_revert rule) → tally.pushes < rule.revert
 
 -- neither count of the first tally is above that of the second
 pub record AtMost (low high : Tally) : Type 0 where
@@ -35,7 +31,7 @@ pub record AtMost (low high : Tally) : Type 0 where
 -- tests by order are those by equality: `end_when`.)
 unfoldable pub end_at : Rule → Tally → End
 end_at rule tally =
-    if can_revert rule && nat_le revert_count tally.pushes then End.Revert
+    if can_revert rule && nat_le rule.revert tally.pushes then End.Revert
     else if nat_le rule.goal_limit tally.goals then End.Limit
     else End.Through
 

@@ -23,10 +23,7 @@ fn reason_at(number: u32) -> Reason
     }
 }
 
-/// At how many pushes a walk reverts, where its rule lets it.
-const REVERT_COUNT: u32 = 2;
-
-/// Whether a second push reverts a walk under this rule.
+/// Whether pushes revert a walk under this rule.
 fn reverts(rule: Rule) -> bool
     ensures { result ≡ can_revert rule }
 {
@@ -38,7 +35,7 @@ fn reverts(rule: Rule) -> bool
 pub fn end_of(rule: Rule, tally: Tally) -> End
     ensures { result ≡ end_at rule tally }
 {
-    if reverts(rule) && tally.pushes >= REVERT_COUNT {
+    if reverts(rule) && tally.pushes >= rule.revert {
         End::Revert
     } else if tally.goals >= rule.goal_limit {
         End::Limit
