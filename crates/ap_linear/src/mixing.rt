@@ -1,11 +1,11 @@
 // The sum of two rows in which an atom vanishes.
 ghost use Rattle.std.specs.Prelude.{◌≡◌, ◌+◌, ◌*◌, ◌<◌, IfOk};
 ghost use Rattle.ap_poly.specs.Elimination.{gcd, multiplier, mixed, combined, meeting};
-ghost use Rattle.ap_linear.specs.Steps.{mix, summed};
+ghost use Rattle.ap_linear.specs.Steps.{mix, added, both, summed};
 
 use crate::rows::Row;
 use ap_list::{NoMemory, Seq};
-use ap_poly::{add, scale};
+use ap_poly::{Poly, add, scale};
 use std::alloc::Global;
 
 /// The greatest common divisor, by Euclid's steps.
@@ -96,17 +96,31 @@ fn combined(alloc: Global, k: u128, p: &Row, l: u128, q: &Row) -> Result<Option<
     summed(alloc, k, p, l, q)
 }
 
+/// A polynomial and so many of another. `None` where a number leaves its type.
+fn added(alloc: Global, a: &Poly, l: u64, q: &Poly) -> Result<Option<Poly>, NoMemory>
+    ensures { IfOk result (λ o. o ≡ added a.now l q.now) }
+{
+    let Some(b) = scale(alloc, q, l)? else {
+        return Ok(None);
+    };
+    add(alloc, a, &b)
+}
+
+/// So many of one polynomial and so many of another. `None` where a number leaves its type.
+fn both(alloc: Global, k: u64, p: &Poly, l: u64, q: &Poly) -> Result<Option<Poly>, NoMemory>
+    ensures { IfOk result (λ o. o ≡ both k p.now l q.now) }
+{
+    let Some(a) = scale(alloc, p, k)? else {
+        return Ok(None);
+    };
+    added(alloc, &a, l, q)
+}
+
 /// The same of multipliers.
 fn summed(alloc: Global, k: u64, p: &Row, l: u64, q: &Row) -> Result<Option<Row>, NoMemory>
     ensures { IfOk result (λ o. o ≡ summed k p.now l q.now) }
 {
-    let Some(a) = scale(alloc, &p.poly, k)? else {
-        return Ok(None);
-    };
-    let Some(b) = scale(alloc, &q.poly, l)? else {
-        return Ok(None);
-    };
-    let Some(poly) = add(alloc, &a, &b)? else {
+    let Some(poly) = both(alloc, k, &p.poly, l, &q.poly)? else {
         return Ok(None);
     };
     match mixed(alloc, k, p.by.as_slice(), l, q.by.as_slice())? {

@@ -35,11 +35,22 @@ impl Planned for Brand {
 
 /// What holds for a goal and all below it: the theory, the calls that are to be opened, and the processes
 /// that don't apply. See the manual's topic `hints`: `:in-theory`, `:expand` and `:do-not`.
-#[derive(Debug, Drop)]
+#[derive(Debug)]
 pub struct Settings {
     pub theory: Theory,
     pub expand: Seq<Term>,
     pub skip: Seq<Process>,
+}
+
+// One call wherever settings are let go.
+impl Drop for Settings {
+    fn drop(self) {
+        let Settings {
+            theory: _theory,
+            expand: _expand,
+            skip: _skip,
+        } = self;
+    }
 }
 
 /// What holds where no hint says otherwise: the theory of the plan's world.

@@ -128,6 +128,28 @@ pub fn copy_task<'a, J: Planned>(alloc: Global, task: &Task<'a, J>) -> Result<Ta
     })
 }
 
+/// A copy of a task's name and clause.
+fn labelled<J: Planned>(alloc: Global, task: &Task<'_, J>) -> Result<(GoalName, Clause), NoMemory>
+    ensures { IfOk result (λ p. (p.0 ≡ task.now.name) × (p.1 ≡ task.now.clause)) }
+{
+    let name = task.name.copy(alloc)?;
+    let clause = Clause(copy_terms(alloc, task.clause.0.as_slice())?);
+    Ok((name, clause))
+}
+
+/// The settings of a task with what its own name's hint says, and its scheme.
+fn hinted_settings<J: Planned>(
+    alloc: Global,
+    task: &Task<'_, J>,
+) -> Result<(Settings, Option<Term>), NoMemory>
+    ensures { IfOk result (λ p. (p.0 ≡ (hinted task.now).settings) × (p.1 ≡ task.now.scheme)) }
+{
+    task.is_goal();
+    let settings = settings_with_hint(alloc, task.plan, &task.name, &task.settings)?;
+    let scheme = copy_scheme(alloc, &task.scheme)?;
+    Ok((settings, scheme))
+}
+
 /// A copy of a task with what its own name's hint says in its settings.
 pub(crate) fn hinted<'a, J: Planned>(
     alloc: Global,
@@ -135,10 +157,8 @@ pub(crate) fn hinted<'a, J: Planned>(
 ) -> Result<Task<'a, J>, NoMemory>
     ensures { IfOk result (λ t. t ≡ hinted task.now) }
 {
-    let name = task.name.copy(alloc)?;
-    let clause = Clause(copy_terms(alloc, task.clause.0.as_slice())?);
-    let settings = settings_with_hint(alloc, task.plan, &task.name, &task.settings)?;
-    let scheme = copy_scheme(alloc, &task.scheme)?;
+    let (name, clause) = labelled(alloc, task)?;
+    let (settings, scheme) = hinted_settings(alloc, task)?;
     Ok(Task {
         plan: task.plan,
         name,

@@ -7,3 +7,5 @@ mod evaluation;
 mod grounds;
 #[cfg(test)]
 mod worlds;
+#[cfg(test)]
+mod text;
