@@ -2,8 +2,8 @@
 # wrong_bodies.sh [NAME ..]: tries the wrong bodies in crates/NAME/wrong-bodies, those that the gate doesn't try, of the
 # crates that are named, else of all that have some. It works in a clone of what is committed, by the toolchain's own
 # `rt must-fail`, which the clone takes for the wrong bodies of its gate; so the contracts are asked as the gate asks.
-# Libraries that a gate or a build left in this tree are taken over where they are of the same sources; the others are
-# proved first, which for the highest crates takes an hour. It prints what isn't refused and how many were; status 1
+# Libraries that `rt lib` left in this tree are taken over where they are of the same sources (a gate's aren't); the others
+# are proved first, which for the highest crates takes an hour. It prints what isn't refused and how many were; status 1
 # where one wasn't.
 here=$(cd "$(dirname "$0")/.." && pwd)
 folder=$(mktemp -d)
