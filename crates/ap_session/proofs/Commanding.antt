@@ -9,8 +9,8 @@ use Rattle.ap_session.specs.declared.command.Options.{Options}
 use Rattle.ap_session.specs.Command.{Command, flag_of, with_number, with_trace, go_on, first_word, command_from}
 
 -- limits of equal numbers
-pub limits_same : (o : Option Limits) (s g t h : ℕ) → o ≡ limits_of s g → s ≡ t → g ≡ h → o ≡ limits_of t h
-limits_same o s g t h e p q = e ∙ ap (λ n. limits_of n g) p ∙ ap (λ n. limits_of t n) q
+pub limits_same : (o : Option Limits) (s g r t h k : ℕ) → o ≡ limits_of s g r → s ≡ t → g ≡ h → r ≡ k → o ≡ limits_of t h k
+limits_same o s g r t h k e p q u = e ∙ ap (λ n. limits_of n g r) p ∙ ap (λ n. limits_of t n r) q ∙ ap (λ n. limits_of t h n) u
 
 take_all : {A : Type 0} (n : ℕ) (xs : List A) → n ≡ length xs → take n xs ≡ xs
 take_all n xs e = subst (λ k. take k xs ≡ xs) (sym e) (go xs)

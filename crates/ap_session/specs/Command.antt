@@ -1,5 +1,5 @@
--- The command's words: the names of books, behind the options `--workers N`, `--steps N`, `--goals N` and `--trace` where
--- these are given, in any order; or `--demo N`, and `--workers N` before or behind it where that is given.
+-- The command's words: the names of books, behind the options `--workers N`, `--steps N`, `--goals N`, `--revert N` and
+-- `--trace` where these are given, in any order; or `--demo N`, and `--workers N` before or behind it where that is given.
 use Rattle.std.specs.Prelude.{ℕ, ◌+◌, ◌*◌, ◌-◌, Bool, true, false, cond, not, ◌&&◌, nat_eq, nat_le, List, [], ◌∷◌, map, Option, Some, None, is_none, unwrap_or, Result, Ok, Err, codes, string_bytes}
 use Rattle.std.specs.List.{list_all}
 use Rattle.ap_value.specs.Values.{bytes_eq}
@@ -13,7 +13,7 @@ use Rattle.ap_session.specs.declared.command.Demo as demos
 use Rattle.ap_session.specs.declared.command.Command as commands
 use Rattle.ap_session.specs.declared.command.Command.TheVariants as command
 use Rattle.ap_session.specs.declared.command.Counted.{Counted}
-use Rattle.ap_session.specs.declared.command.Counted.TheVariants.{Workers, Steps, Goals, Functions}
+use Rattle.ap_session.specs.declared.command.Counted.TheVariants.{Workers, Steps, Goals, Revert, Functions}
 use Rattle.ap_session.specs.declared.command.Flag.{Flag}
 use Rattle.ap_session.specs.declared.command.Flag.TheVariants.{Number, Trace}
 use Rattle.ap_session.specs.declared.command.Options.{Options}
@@ -62,11 +62,12 @@ flag_of w =
     cond (bytes_eq w (codes "--workers")) (Some (Number Workers))
     (cond (bytes_eq w (codes "--steps")) (Some (Number Steps))
     (cond (bytes_eq w (codes "--goals")) (Some (Number Goals))
+    (cond (bytes_eq w (codes "--revert")) (Some (Number Revert))
     (cond (bytes_eq w (codes "--demo")) (Some (Number Functions))
-    (cond (bytes_eq w (codes "--trace")) (Some Trace) None))))
+    (cond (bytes_eq w (codes "--trace")) (Some Trace) None)))))
 
 abbrev pub no_options : Options
-no_options = record { workers = None; steps = None; goals = None; demo = None; trace = false }
+no_options = record { workers = None; steps = None; goals = None; revert = None; demo = None; trace = false }
 
 -- an option's number, where there is one and the option comes for the first time
 abbrev pub once : Option ℕ → Option ℕ → Option ℕ
@@ -85,6 +86,10 @@ abbrev pub with_goals : Options → Option ℕ → Option Options
 with_goals p None = None
 with_goals p (Some n) = Some (record p { goals = Some n })
 
+abbrev pub with_revert : Options → Option ℕ → Option Options
+with_revert p None = None
+with_revert p (Some n) = Some (record p { revert = Some n })
+
 abbrev pub with_demo : Options → Option ℕ → Option Options
 with_demo p None = None
 with_demo p (Some n) = Some (record p { demo = Some n })
@@ -94,16 +99,17 @@ abbrev pub with_number : Options → Counted → List ℕ → Option Options
 with_number p Workers w = with_workers p (once p.workers (number_in 64 w))
 with_number p Steps w = with_steps p (once p.steps (number_in 1000000 w))
 with_number p Goals w = with_goals p (once p.goals (number_in 100000 w))
+with_number p Revert w = with_revert p (once p.revert (number_in 100 w))
 with_number p Functions w = with_demo p (once p.demo (number_in 1000 w))
 
 -- one option more that has none
 abbrev pub with_trace : Options → Option Options
 with_trace p = cond p.trace None (Some (record p { trace = true }))
 
--- where the words don't say how many, a clause may spend 100,000 steps, an attempt visit 10,000 goals, and one goal is
--- worked at a time
+-- where the words don't say how many, a clause may spend 100,000 steps, an attempt visit 10,000 goals and revert at two
+-- pushes, and one goal is worked at a time
 abbrev pub limits_in : Options → Option Limits
-limits_in p = limits_of (unwrap_or p.steps 100000) (unwrap_or p.goals 10000)
+limits_in p = limits_of (unwrap_or p.steps 100000) (unwrap_or p.goals 10000) (unwrap_or p.revert 2)
 
 abbrev pub books_by : Options → List (List ℕ) → Option Limits → Option Command
 books_by p ws None = None
@@ -120,7 +126,7 @@ demo_by p (Some n) (Some limits) = Some (of_demo (record { number = n; limits = 
 
 -- a demo has no option but how many goals are worked at a time
 abbrev pub is_bare : Options → Bool
-is_bare p = is_none p.steps && is_none p.goals && not p.trace
+is_bare p = is_none p.steps && is_none p.goals && is_none p.revert && not p.trace
 
 -- behind these options nothing
 abbrev pub demo_command : Options → Option Command

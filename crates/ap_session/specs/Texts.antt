@@ -6,7 +6,7 @@ use Rattle.ap_books.specs.Texts.{line}
 
 unfoldable pub usage_text : List ℕ
 usage_text =
-    line (codes "usage: acl2p [--workers N] [--steps N] [--goals N] [--trace] BOOK ..")
+    line (codes "usage: acl2p [--workers N] [--steps N] [--goals N] [--revert N] [--trace] BOOK ..")
     ++ line (codes "       acl2p [--workers N] --demo N")
 
 -- a goal that was dropped, and the one by which its walk stops

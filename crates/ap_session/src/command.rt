@@ -1,6 +1,6 @@
 ghost use Rattle.std.specs.Prelude.{◌≡◌, ◌≤◌, ◌<◌, cond, nat_le, Some, None, IfOk, map, option_map, string_bytes};
 ghost use Rattle.std.specs.List.{list_all};
-ghost use Rattle.ap_session.specs.Command.{is_digit, leads, is_number, read_on, number_in, flag_of, no_options, once, with_workers, with_steps, with_goals, with_demo, with_number, with_trace, limits_in, books_command, is_bare, demo_command, command_from, are_books, where_books, of_books, command_of, shown_order, shown_command};
+ghost use Rattle.ap_session.specs.Command.{is_digit, leads, is_number, read_on, number_in, flag_of, no_options, once, with_workers, with_steps, with_goals, with_revert, with_demo, with_number, with_trace, limits_in, books_command, is_bare, demo_command, command_from, are_books, where_books, of_books, command_of, shown_order, shown_command};
 
 use ap_books::{PlanError, plan};
 use ap_events::Limits;
@@ -21,6 +21,11 @@ const USUAL_GOALS: u32 = 10_000;
 const MOST_STEPS: u32 = 1_000_000;
 
 const USUAL_STEPS: u32 = 100_000;
+
+/// The most pushes at which an attempt may revert, and at how many it does where the words don't say.
+const MOST_REVERT: u32 = 100;
+
+const USUAL_REVERT: u32 = 2;
 
 /// The most functions that the demo may have.
 const MOST_FUNCTIONS: u32 = 1000;
@@ -56,6 +61,7 @@ pub(crate) enum Counted {
     Workers,
     Steps,
     Goals,
+    Revert,
     Functions,
 }
 
@@ -67,12 +73,14 @@ pub(crate) enum Flag {
 }
 
 /// The options that are given: how many goals may be worked at a time, how many steps a clause may spend, how many goals
-/// an attempt may visit, how many functions the demo has, and whether what was dropped is told.
+/// an attempt may visit, at how many pushes it reverts, how many functions the demo has, and whether what was dropped is
+/// told.
 #[derive(Clone, Copy)]
 pub(crate) struct Options {
     pub(crate) workers: Option<u32>,
     pub(crate) steps: Option<u32>,
     pub(crate) goals: Option<u32>,
+    pub(crate) revert: Option<u32>,
     pub(crate) demo: Option<u32>,
     pub(crate) trace: bool,
 }
@@ -158,6 +166,8 @@ fn flag_in(word: &String) -> Option<Flag>
         Some(Flag::Number(Counted::Steps))
     } else if word == b"--goals".as_slice() {
         Some(Flag::Number(Counted::Goals))
+    } else if word == b"--revert".as_slice() {
+        Some(Flag::Number(Counted::Revert))
     } else if word == b"--demo".as_slice() {
         Some(Flag::Number(Counted::Functions))
     } else if word == b"--trace".as_slice() {
@@ -200,6 +210,17 @@ fn with_goals(options: Options, number: Option<u32>) -> Option<Options>
     })
 }
 
+/// These options and the number of pushes at which an attempt reverts, where there is one.
+fn with_revert(options: Options, number: Option<u32>) -> Option<Options>
+    ensures { result ≡ with_revert options number }
+{
+    let revert = number?;
+    Some(Options {
+        revert: Some(revert),
+        ..options
+    })
+}
+
 /// These options and the demo's number of functions, where there is one.
 fn with_demo(options: Options, number: Option<u32>) -> Option<Options>
     ensures { result ≡ with_demo options number }
@@ -226,6 +247,7 @@ fn with_number(options: Options, counted: Counted, word: &String) -> Option<Opti
         }
         Counted::Steps => with_steps(options, once(options.steps, number_in(word, MOST_STEPS))),
         Counted::Goals => with_goals(options, once(options.goals, number_in(word, MOST_GOALS))),
+        Counted::Revert => with_revert(options, once(options.revert, number_in(word, MOST_REVERT))),
         Counted::Functions => {
             with_demo(options, once(options.demo, number_in(word, MOST_FUNCTIONS)))
         }
@@ -251,7 +273,8 @@ fn limits_in(options: Options) -> Option<Limits>
 {
     let steps = options.steps.unwrap_or(USUAL_STEPS);
     let goals = options.goals.unwrap_or(USUAL_GOALS);
-    Limits::new(steps, goals)
+    let revert = options.revert.unwrap_or(USUAL_REVERT);
+    Limits::new(steps, goals, revert)
 }
 
 /// What the words behind the options command, where they name books.
@@ -274,7 +297,7 @@ fn books_command(options: Options, words: &[String]) -> Option<Command<'_>>
 fn is_bare(options: Options) -> bool
     ensures { result ≡ is_bare options }
 {
-    options.steps.is_none() && options.goals.is_none() && !options.trace
+    options.steps.is_none() && options.goals.is_none() && options.revert.is_none() && !options.trace
 }
 
 /// What options command with nothing behind them: the demo, where it is asked for.
@@ -342,6 +365,7 @@ pub(crate) fn command_in(alloc: Global, words: &[String]) -> Result<Option<Comma
         workers: None,
         steps: None,
         goals: None,
+        revert: None,
         demo: None,
         trace: false,
     };

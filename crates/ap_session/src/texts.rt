@@ -7,7 +7,7 @@ use std::alloc::Global;
 
 /// The text of a usage error.
 pub(crate) const USAGE: &[u8] =
-    b"usage: acl2p [--workers N] [--steps N] [--goals N] [--trace] BOOK ..\n       acl2p [--workers N] --demo N\n";
+    b"usage: acl2p [--workers N] [--steps N] [--goals N] [--revert N] [--trace] BOOK ..\n       acl2p [--workers N] --demo N\n";
 
 /// Adds the line that tells of a goal that was dropped.
 #[tactic(auto, unfolding(crate::specs::Texts::drop_text))]

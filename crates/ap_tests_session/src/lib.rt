@@ -3,4 +3,6 @@
 #![tactic(auto)]
 
 #[cfg(test)]
+mod reverts;
+#[cfg(test)]
 mod sessions;

@@ -11,18 +11,18 @@ use std::time::Duration;
 
 /// What is certified, which calls of the library and the sink fail, and what must be seen.
 #[derive(Drop)]
-struct Row {
-    words: &'static [&'static str],
-    book: Option<&'static [u8]>,
-    failing: (&'static [u32], &'static [u32]),
-    status: Status,
-    text: &'static [u8],
+pub(crate) struct Row {
+    pub(crate) words: &'static [&'static str],
+    pub(crate) book: Option<&'static [u8]>,
+    pub(crate) failing: (&'static [u32], &'static [u32]),
+    pub(crate) status: Status,
+    pub(crate) text: &'static [u8],
 }
 
-const NONE: (&[u32], &[u32]) = (&[], &[]);
+pub(crate) const NONE: (&[u32], &[u32]) = (&[], &[]);
 
-const USAGE: &[u8] =
-    b"usage: acl2p [--workers N] [--steps N] [--goals N] [--trace] BOOK ..\n       acl2p [--workers N] --demo N\n";
+pub(crate) const USAGE: &[u8] =
+    b"usage: acl2p [--workers N] [--steps N] [--goals N] [--revert N] [--trace] BOOK ..\n       acl2p [--workers N] --demo N\n";
 
 const REFL: &[u8] = b"(in-package \"ACL2\")\n(defthm refl (equal x x) :rule-classes nil)\n";
 
@@ -445,7 +445,7 @@ const DEMO_ROWS: [Row; 17] = [
 ];
 
 /// Certifies a row's book in memory, and asserts what is seen.
-fn shows<R: Abort + Threads + Wait + Sync>(
+pub(crate) fn shows<R: Abort + Threads + Wait + Sync>(
     rt: &R,
     alloc: Global,
     row: &Row,
@@ -1002,7 +1002,7 @@ DEFTHM B6
 Goal simplify 3
 Subgoal 3 push *1
 Subgoal 2 push *2
-Revert
+Revert 2
 *1 noscheme
 Checkpoints before induction
 Subgoal 3: (OR (NOT (P X)) (NOT (P Y)) (P Z))
@@ -1127,7 +1127,10 @@ x:y => Read error 12 BadPackage at 20
 (defthm cdddar (equal x x)) => DEFTHM refused 2 BadEvent
 (defthm a x nil) => DEFTHM refused 2 BadEvent
 (defthm a x :rule-classes) => DEFTHM refused 2 BadEvent
-(defthm a x :otf-flg t) => DEFTHM refused 2 BadEvent
+(defthm a x :otf-flg 3) => DEFTHM refused 2 BadEvent
+(defthm a x :otf-flg) => DEFTHM refused 2 BadEvent
+(defthm a x :otf-flg t :otf-flg t) => DEFTHM refused 2 BadEvent
+(defthm a x :otf-flg 't) => DEFTHM refused 2 BadEvent
 (defthm a x :rule-classes nil :rule-classes nil) => DEFTHM refused 2 BadEvent
 (defthm a x :rule-classes rewrite) => DEFTHM refused 2 BadEvent
 (defthm a x :hints nil :rule-classes (:rewrite :elim)) => DEFTHM refused 2 BadEvent
@@ -1153,6 +1156,8 @@ x:y => Read error 12 BadPackage at 20
 (defun f (x) (declare (xargs :mode :logic)) x) => DEFUN refused 2 BadEvent
 (defun f (x) (declare (xargs :guard)) x) => DEFUN refused 2 BadEvent
 (defun f (x) (declare (xargs :verify-guards 3)) x) => DEFUN refused 2 BadEvent
+(defun f (x) (declare (xargs :otf-flg 3)) x) => DEFUN refused 2 BadEvent
+(defun f (x) (declare (xargs :otf-flg t :otf-flg nil)) x) => DEFUN refused 2 BadEvent
 (defun f (x) (declare (xargs :hints t)) x) => DEFUN F / DEFUN F refused 6.2 UnknownKeyword
 (defun f (x) (+ 1 (f x))) => DEFUN F / DEFUN F refused 7.1 NoMeasure
 (defun ack (m n) (if (zp m) (+ 1 n) (if (zp n) (ack (- m 1) 1) (ack (- m 1) (ack m (- n 1)))))) => DEFUN ACK / DEFUN ACK refused 7.2 NestedRecursion
@@ -1186,9 +1191,9 @@ x:y => Read error 12 BadPackage at 20
 (defthm a (equal *c* *c*) :rule-classes nil) => DEFTHM A / DEFTHM A refused 4.1 UnknownName
 (defthm a (equal '(a ,b) '(a ,b)) :rule-classes nil) => DEFTHM A / DEFTHM A refused 4.7 CommaOutside
 (defthm e nil :rule-classes nil) => DEFTHM E / Goal simplify 1 / Goal' empty / Checkpoints before induction / Goal': NIL / DEFTHM E refused 8.2 EmptyClause
-(defthm h2 (if (equal (equal x y) (equal z w)) (equal u v) nil) :rule-classes nil) => DEFTHM H2 / Goal simplify 2 / Subgoal 2 push *1 / Subgoal 1 push *2 / Revert / *1 noscheme / Checkpoints before induction / Subgoal 2: (OR (NOT (EQUAL (EQUAL X Y) (EQUAL Z W))) (EQUAL U V)) / Subgoal 1: (EQUAL (EQUAL X Y) (EQUAL Z W)) / DEFTHM H2 refused 8.1 NoScheme
-(defthm a (if x y z) :rule-classes nil) => DEFTHM A / Goal simplify 2 / Subgoal 2 irrelevance 1 / Subgoal 2' push *1 / Subgoal 1 push *2 / Revert / *1 noscheme / Checkpoints before induction / Subgoal 2: (OR (NOT X) Y) / Subgoal 1: (OR X Z) / DEFTHM A refused 8.1 NoScheme
-(defthm a (implies (equal x (car y)) (consp x)) :rule-classes nil) => DEFTHM A / Goal simplify 1 / Goal' elim 2 / Subgoal 2 simplify 1 / Subgoal 2' push *1 / Subgoal 1 push *2 / Revert / *1 noscheme / Checkpoints before induction / Goal': (CONSP (CAR Y)) / DEFTHM A refused 8.1 NoScheme"##;
+(defthm h2 (if (equal (equal x y) (equal z w)) (equal u v) nil) :rule-classes nil) => DEFTHM H2 / Goal simplify 2 / Subgoal 2 push *1 / Subgoal 1 push *2 / Revert 2 / *1 noscheme / Checkpoints before induction / Subgoal 2: (OR (NOT (EQUAL (EQUAL X Y) (EQUAL Z W))) (EQUAL U V)) / Subgoal 1: (EQUAL (EQUAL X Y) (EQUAL Z W)) / DEFTHM H2 refused 8.1 NoScheme
+(defthm a (if x y z) :rule-classes nil) => DEFTHM A / Goal simplify 2 / Subgoal 2 irrelevance 1 / Subgoal 2' push *1 / Subgoal 1 push *2 / Revert 2 / *1 noscheme / Checkpoints before induction / Subgoal 2: (OR (NOT X) Y) / Subgoal 1: (OR X Z) / DEFTHM A refused 8.1 NoScheme
+(defthm a (implies (equal x (car y)) (consp x)) :rule-classes nil) => DEFTHM A / Goal simplify 1 / Goal' elim 2 / Subgoal 2 simplify 1 / Subgoal 2' push *1 / Subgoal 1 push *2 / Revert 2 / *1 noscheme / Checkpoints before induction / Goal': (CONSP (CAR Y)) / DEFTHM A refused 8.1 NoScheme"##;
 
 /// What is admitted: events behind a book's first line, and the lines that they print.
 const ADMITTED: &str = r##"(defun f (x) x) => DEFUN F / DEFUN F admitted
@@ -1199,6 +1204,8 @@ const ADMITTED: &str = r##"(defun f (x) x) => DEFUN F / DEFUN F admitted
 (defun f (x) (declare (xargs :measure (if (consp x) 1 0))) (if (consp x) (f nil) x)) => DEFUN F / Measure (IF (CONSP X) '1 '0) / Obligation 1 / Goal simplify 0 / Obligation 2 / Goal simplify 0 / DEFUN F admitted
 (defun f (x) (* x x)) (defun g (x) (f (f x))) => DEFUN F / DEFUN F admitted / DEFUN G / DEFUN G admitted
 (defun f (x) (declare (xargs :hints nil)) x) => DEFUN F / DEFUN F admitted
+(defun f (x) (declare (xargs :otf-flg t :hints nil)) x) => DEFUN F / DEFUN F admitted
+(defthmd a (equal x x) :otf-flg nil :rule-classes nil) => DEFTHM A / Goal simplify 0 / DEFTHM A proved
 (defthm a (equal x x) :hints () :rule-classes nil) => DEFTHM A / Goal simplify 0 / DEFTHM A proved
 (defun f (x) x) (defthm a (equal (f y) (f y)) :rule-classes nil) => DEFUN F / DEFUN F admitted / DEFTHM A / Goal simplify 0 / DEFTHM A proved
 (defconst *c* 'x) => DEFCONST *C* admitted
@@ -1268,12 +1275,12 @@ fn prints_each<R: Abort + Threads + Wait + Sync>(
 
 #[test]
 fn each_fault_and_refusal_is_printed(rt: HostRuntime) -> Result<(), Fail> {
-    prints_each(&rt, rt.alloc(), REFUSED, "Book b not certified\n", 127)
+    prints_each(&rt, rt.alloc(), REFUSED, "Book b not certified\n", 132)
 }
 
 #[test]
 fn what_is_admitted_is_printed(rt: HostRuntime) -> Result<(), Fail> {
-    prints_each(&rt, rt.alloc(), ADMITTED, "Book b certified\n", 29)
+    prints_each(&rt, rt.alloc(), ADMITTED, "Book b certified\n", 31)
 }
 
 #[test]
