@@ -121,6 +121,7 @@ fn main(rt: HostRuntime) -> anyhow::Result<()> {
         let rule = Rule {
             initial: false,
             otf: false,
+            revert: 2,
             goal_limit: 200_000,
         };
         let start = Instant::now(&rt)?;

@@ -117,6 +117,7 @@ fn marks<R: Threads + Wait + Sync>(
     let rule = Rule {
         initial: false,
         otf: false,
+        revert: 2,
         goal_limit: 100_000,
     };
     let state = speculate(rt, alloc, &Spins, task, rule, workers, &NoGate)?;

@@ -1,10 +1,1 @@
-pub mod Commanding
-pub mod Demoing
 pub mod Given
-pub mod Leading
-pub mod Numbers
-pub mod Passing
-pub mod Sessions
-pub mod Soundness
-pub mod Starting
-pub mod Storing

@@ -1,33 +1,15 @@
 //! `acl2p` certifies ACL2 books: it reads the books that its words name from the current folder, proves their
-//! theorems, and prints each event's goals and verdict.
+//! theorems, and prints each event's goals and verdict. What it does is `ap_session`'s `certify`; here stand the words that
+//! the system gives, the folder and the streams, and the exit status.
 #![tactic(auto)]
 
-ghost use Rattle.std.specs.Prelude.{◌≡◌, ◌≢◌, ◌≤◌, [], Err, take, drop, IfOk, IfErr, IsOkAnd, IsErr, OnOk, OnErr};
+ghost use Rattle.std.specs.Prelude.{◌≡◌, ◌≢◌, [], take, drop, IfOk, IfErr, IsOkAnd, IsErr};
 ghost use Rattle.std.specs.IoError.{error_kind};
 ghost use Rattle.std.specs.Vec.Iter.{into_iter_items, into_iter_len};
-ghost use Rattle.ap_outside.specs.Faults.{Rose};
-ghost use Rattle.ap_outside.specs.Gains.{Gained, GainedPart};
-ghost use Rattle.acl2p.specs.Session.{number_of, message_of};
+ghost use Rattle.ap_session.specs.Session.{number_of};
 
-mod admitting;
-mod book;
-mod certifier;
-mod certs;
-mod command;
-mod demo;
-mod fault;
-mod report;
-mod second;
-mod start;
-#[cfg(test)]
-mod tests;
-mod texts;
-
-use ap_attempt::NoGate;
-use ap_list::NoMemory;
-use ap_outside::{FolderLibrary, Sink, WriteFault, WriterSink, put_all};
-use certifier::certify;
-use report::Status;
+use ap_outside::{FolderLibrary, WriterSink};
+use ap_session::{NoGate, NoMemory, Status, certify, tell};
 use std::alloc::{AllocError, Global};
 use std::env::Args;
 use std::io::ErrorKind;
@@ -61,30 +43,6 @@ fn exit(status: Status) -> u8
         Status::WriteFault => 4,
         Status::NoMemory => 5,
     }
-}
-
-/// What stands on standard error: a line where a fault ended the session.
-fn message(status: Status) -> &'static str
-    ensures { result.now ≡ message_of status }
-{
-    match status {
-        Status::Certified => "",
-        Status::NotCertified => "",
-        Status::Usage => "",
-        Status::ReadFault => "acl2p: read fault\n",
-        Status::WriteFault => "acl2p: write fault\n",
-        Status::NoMemory => "acl2p: no memory\n",
-    }
-}
-
-/// Puts what stands on standard error. Where the sink fails a prefix of it stands there.
-fn tell<S: Sink>(status: Status, errors: &mut S) -> Result<(), WriteFault>
-    ensures whole { OnOk result (Gained (S.content errors.old) (S.content errors.new) (message_of status)) }
-    ensures part { OnErr result (GainedPart (S.content errors.old) (S.content errors.new) (message_of status)) }
-    ensures later { S.faults errors.old ≤ S.faults errors.new }
-    ensures failed { result ≡ Err WriteFault.Failed → Rose (S.faults errors.old) (S.faults errors.new) }
-{
-    put_all(errors, message(status).as_bytes())
 }
 
 fn main(rt: HostRuntime) -> ExitCode {

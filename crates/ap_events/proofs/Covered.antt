@@ -35,7 +35,7 @@ use Rattle.ap_plain.specs.declared.proposing.Proposal.{Proposal}
 use Rattle.ap_plain.specs.declared.proposing.Proposal.TheVariants as proposal
 use Rattle.ap_plain.specs.declared.refusing.Refusal.{Refusal}
 use Rattle.ap_world.specs.Alike.{SameButMask, Covers}
-use Rattle.ap_plain.specs.Attempts.{tried, plan_for}
+use Rattle.ap_plain.specs.Attempts.{first_rule, tried, plan_for}
 use Rattle.ap_events.specs.Backing.{Fits}
 use Rattle.ap_events.specs.Books.{Earlier, book_of, include_title, include_by, include_of, included_by, include_event, Asks, book, events, event, asks_of, asked_first, headed_first, first_event, silent_by, silent, put_again, theorem_again, definition_again, kind_again, known_again, asked_again, headed_again, again_event}
 use Rattle.ap_plain.specs.Changes.{changes_of, changed_event, theory_event}
@@ -401,29 +401,29 @@ module _ (limits : Limits) (w : Shown) where
   proved_same title enabled p lines walks Verdict.Qed v h = h
   proved_same title enabled p lines walks (Verdict.Failed r) v h = no_world v h
 
-  hinted_same : (title : List ℕ) (enabled : Bool) (p : Proposal) (a : Answer Hints) → Same (hinted_event limits w title enabled p a) (admitted (put enabled w p) [] [])
+  hinted_same : (otf : Bool) (title : List ℕ) (enabled : Bool) (p : Proposal) (a : Answer Hints) → Same (hinted_event limits otf w title enabled p a) (admitted (put enabled w p) [] [])
   unfolding hinted_event
-  hinted_same title enabled p (Err r) v h = no_world v h
-  hinted_same title enabled p (Ok hs) v h =
-      let t = tried limits (plan_for limits w hs) (owed_of p) in
+  hinted_same otf title enabled p (Err r) v h = no_world v h
+  hinted_same otf title enabled p (Ok hs) v h =
+      let t = tried (first_rule limits otf) (plan_for limits w hs) (owed_of p) in
       proved_same title enabled p (opening_of p ++ t.lines) t.walks t.verdict v h
 
-  proposed_same : (title again : List ℕ) (enabled : Bool) (hints : Option Form) (a : Answer Proposal) → Same (proposed_event limits w title enabled hints a) (put_again w again enabled a)
+  proposed_same : (otf : Bool) (title again : List ℕ) (enabled : Bool) (hints : Option Form) (a : Answer Proposal) → Same (proposed_event limits otf w title enabled hints a) (put_again w again enabled a)
   unfolding proposed_event
-  proposed_same title again enabled hints (Err r) v h = no_world v h
-  proposed_same title again enabled hints (Ok p) v h = hinted_same title enabled p (given_hints w hints) v h
+  proposed_same otf title again enabled hints (Err r) v h = no_world v h
+  proposed_same otf title again enabled hints (Ok p) v h = hinted_same otf title enabled p (given_hints w hints) v h
 
   theorem_first : (enabled : Bool) (s : Option Stated) → Same (theorem_event limits w enabled s) (theorem_again w enabled s)
   unfolding theorem_event theorem_again
   theorem_first enabled None v h = no_world v h
   theorem_first enabled (Some s) v h =
-      proposed_same (title (codes "DEFTHM") s.name) (title (codes "DEFTHM") s.name) enabled s.chosen.hints (proposed_theorem w s) v h
+      proposed_same s.chosen.otf (title (codes "DEFTHM") s.name) (title (codes "DEFTHM") s.name) enabled s.chosen.hints (proposed_theorem w s) v h
 
   definition_first : (enabled : Bool) (d : Option Defined) → Same (definition_event limits w enabled d) (definition_again w enabled d)
   unfolding definition_event definition_again
   definition_first enabled None v h = no_world v h
   definition_first enabled (Some d) v h =
-      proposed_same (title (codes "DEFUN") d.name) (title (codes "DEFUN") d.name) enabled d.xargs.hints (proposed_definition w d) v h
+      proposed_same d.xargs.otf (title (codes "DEFUN") d.name) (title (codes "DEFUN") d.name) enabled d.xargs.hints (proposed_definition w d) v h
 
   silent_same : (d : Done) → Same d (silent d)
   silent_same d v h = silent_next d ∙ h

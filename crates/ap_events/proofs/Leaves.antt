@@ -107,7 +107,7 @@ first_step limits earlier f w = by_head (head_of f)
 
 -- again
 some_limits : Limits
-some_limits = record { steps = 1; goals = 1; within = are_within 1 1 refl }
+some_limits = record { steps = 1; goals = 1; revert = 2; within = are_within 1 1 2 refl }
 
 put_step : (w : Shown) (title : List ℕ) (enabled : Bool) (a : Answer Proposal) → Step (put_again w title enabled a) w
 put_step w title enabled (Err r) = refused_step title r w

@@ -15,7 +15,7 @@ use Rattle.ap_strategy.specs.declared.plan.Settings.{Settings}
 use Rattle.ap_strategy.specs.Goals.{Goal, IsGoal, defs_of, first_settings}
 use Rattle.ap_strategy.specs.Steps.{step_of, depth_of}
 use Rattle.ap_walk.specs.declared.act.Reason.{Reason}
-use Rattle.ap_plain.specs.declared.limits.Limits.{Limits}
+use Rattle.ap_walk.specs.declared.rule.Rule.{Rule}
 use Rattle.ap_plain.specs.declared.owing.Owed.{Owed}
 use Rattle.ap_plain.specs.declared.attempting.Trial.{Trial}
 use Rattle.ap_plain.specs.Attempts.{clause_goal, Tried, tried_from, before, where_qed, then_tried, tried, Tries}
@@ -55,28 +55,28 @@ pub all_hold : {A : Type 0} (P : A → Type 0) (xs : List A) (i : ℕ) → lengt
 all_hold P xs i h others = others (subst (Each P) (sym (drop_all i xs h)) tt)
 
 -- lines and walks so far, where what is left tells the rest
-pub record SoFar (limits : Limits) (plan : Plan) (os : List Owed) (i : ℕ) (lines : List ℕ) (goals : ℕ) (drops : List DropNote) : Type 0 where
+pub record SoFar (rule : Rule) (plan : Plan) (os : List Owed) (i : ℕ) (lines : List ℕ) (goals : ℕ) (drops : List DropNote) : Type 0 where
   pub walks : List (RootedWalk Goal)
-  pub told : before lines walks (tried limits plan (drop i os)) ≡ tried limits plan os
+  pub told : before lines walks (tried rule plan (drop i os)) ≡ tried rule plan os
   pub counted : goals ≡ goals_of walks
   pub divided : DividedWalks drops walks
 
 before_both : (ls ms : List ℕ) (ws vs : List (RootedWalk Goal)) (t : Tried) → before ls ws (before ms vs t) ≡ before (ls ++ ms) (ws ++ vs) t
 before_both ls ms ws vs t = λ i. record { lines = sym (append_assoc ls ms t.lines) i; verdict = t.verdict; walks = sym (append_assoc ws vs t.walks) i }
 
-module _ (limits : Limits) (plan : Plan) (os : List Owed) (i : ℕ) (o : Owed) (lines : List ℕ) (goals : ℕ) (drops : List DropNote) (r : Trial)
-    (within : i < length os) (is : o ≡ get_or os i o) (s : SoFar limits plan os i lines goals drops) (t : Tries (tried_from limits (clause_goal plan o.clause)) r) where
+module _ (rule : Rule) (plan : Plan) (os : List Owed) (i : ℕ) (o : Owed) (lines : List ℕ) (goals : ℕ) (drops : List DropNote) (r : Trial)
+    (within : i < length os) (is : o ≡ get_or os i o) (s : SoFar rule plan os i lines goals drops) (t : Tries (tried_from rule (clause_goal plan o.clause)) r) where
   abbrev a : Tried
-  a = tried_from limits (clause_goal plan o.clause)
+  a = tried_from rule (clause_goal plan o.clause)
 
   abbrev others : Tried
-  others = tried limits plan (drop (i + 1) os)
+  others = tried rule plan (drop (i + 1) os)
 
   -- one attempt more
-  with_one : before (lines ++ (o.heading ++ a.lines)) (s.walks ++ a.walks) (where_qed a.verdict others) ≡ tried limits plan os
+  with_one : before (lines ++ (o.heading ++ a.lines)) (s.walks ++ a.walks) (where_qed a.verdict others) ≡ tried rule plan os
   with_one =
       sym (before_both lines (o.heading ++ a.lines) s.walks a.walks (where_qed a.verdict others))
-      ∙ ap (λ rest. before lines s.walks (tried limits plan rest)) (sym (at_place os i o within is))
+      ∙ ap (λ rest. before lines s.walks (tried rule plan rest)) (sym (at_place os i o within is))
       ∙ s.told
 
   more_lines : lines ++ o.heading ++ r.lines ≡ lines ++ (o.heading ++ a.lines)
@@ -92,7 +92,7 @@ module _ (limits : Limits) (plan : Plan) (os : List Owed) (i : ℕ) (o : Owed) (
   divided_both = divided_more step_of depth_of (λ (g : Goal). g.name) drops r.drops s.walks a.walks s.divided t.drops
 
   -- one attempt more that is `Qed`
-  pub proved_next : r.verdict ≡ Verdict.Qed → SoFar limits plan os (i + 1) (lines ++ o.heading ++ r.lines) (goals + r.goals) (drops ++ r.drops)
+  pub proved_next : r.verdict ≡ Verdict.Qed → SoFar rule plan os (i + 1) (lines ++ o.heading ++ r.lines) (goals + r.goals) (drops ++ r.drops)
   proved_next qed = record {
     walks = s.walks ++ a.walks;
     told =
@@ -104,9 +104,9 @@ module _ (limits : Limits) (plan : Plan) (os : List Owed) (i : ℕ) (o : Owed) (
   }
 
   -- one that failed is the last
-  pub failed_here : (f : Reason) → r.verdict ≡ Verdict.Failed f → Tries (tried limits plan os) (record { lines = lines ++ o.heading ++ r.lines; verdict = r.verdict; goals = goals + r.goals; drops = drops ++ r.drops })
+  pub failed_here : (f : Reason) → r.verdict ≡ Verdict.Failed f → Tries (tried rule plan os) (record { lines = lines ++ o.heading ++ r.lines; verdict = r.verdict; goals = goals + r.goals; drops = drops ++ r.drops })
   failed_here f failed =
-      let e : before (lines ++ (o.heading ++ a.lines)) (s.walks ++ a.walks) (where_qed (Verdict.Failed f) others) ≡ tried limits plan os =
+      let e : before (lines ++ (o.heading ++ a.lines)) (s.walks ++ a.walks) (where_qed (Verdict.Failed f) others) ≡ tried rule plan os =
       ap (λ v. before (lines ++ (o.heading ++ a.lines)) (s.walks ++ a.walks) (where_qed v others)) (sym failed ∙ t.verdict) ∙ with_one in
       subst (λ (x : Tried). Tries x (record { lines = lines ++ o.heading ++ r.lines; verdict = r.verdict; goals = goals + r.goals; drops = drops ++ r.drops })) e
       (record {
@@ -117,10 +117,10 @@ module _ (limits : Limits) (plan : Plan) (os : List Owed) (i : ℕ) (o : Owed) (
       })
 
 -- where none is left
-pub all_tried : (limits : Limits) (plan : Plan) (os : List Owed) (i : ℕ) (r : Trial) → length os ≤ i → r.verdict ≡ Verdict.Qed → SoFar limits plan os i r.lines r.goals r.drops → Tries (tried limits plan os) r
-all_tried limits plan os i r h qed s =
-    let e : before r.lines s.walks (tried limits plan []) ≡ tried limits plan os =
-    ap (λ rest. before r.lines s.walks (tried limits plan rest)) (sym (drop_all i os h)) ∙ s.told in
+pub all_tried : (rule : Rule) (plan : Plan) (os : List Owed) (i : ℕ) (r : Trial) → length os ≤ i → r.verdict ≡ Verdict.Qed → SoFar rule plan os i r.lines r.goals r.drops → Tries (tried rule plan os) r
+all_tried rule plan os i r h qed s =
+    let e : before r.lines s.walks (tried rule plan []) ≡ tried rule plan os =
+    ap (λ rest. before r.lines s.walks (tried rule plan rest)) (sym (drop_all i os h)) ∙ s.told in
     subst (λ (x : Tried). Tries x r) e
     (record {
       lines = sym (append-nil r.lines);
@@ -129,12 +129,12 @@ all_tried limits plan os i r h qed s =
       drops = subst (DividedWalks r.drops) (sym (append-nil s.walks)) s.divided;
     })
 
-none_tried : (limits : Limits) (plan : Plan) (os : List Owed) → SoFar limits plan os 0 [] 0 []
-none_tried limits plan os = record { walks = []; told = refl; counted = refl; divided = refl }
+none_tried : (rule : Rule) (plan : Plan) (os : List Owed) → SoFar rule plan os 0 [] 0 []
+none_tried rule plan os = record { walks = []; told = refl; counted = refl; divided = refl }
 
 -- before the first
-pub begun : (limits : Limits) (plan : Plan) (os : List Owed) (r : Trial) → r ≡ record { lines = []; verdict = Verdict.Qed; goals = 0; drops = [] } → SoFar limits plan os 0 r.lines r.goals r.drops
-begun limits plan os r is = subst (λ (x : Trial). SoFar limits plan os 0 x.lines x.goals x.drops) (sym is) (none_tried limits plan os)
+pub begun : (rule : Rule) (plan : Plan) (os : List Owed) (r : Trial) → r ≡ record { lines = []; verdict = Verdict.Qed; goals = 0; drops = [] } → SoFar rule plan os 0 r.lines r.goals r.drops
+begun rule plan os r is = subst (λ (x : Trial). SoFar rule plan os 0 x.lines x.goals x.drops) (sym is) (none_tried rule plan os)
 
 -- a verdict that isn't a failure
 pub is_qed : (v : Verdict) → ((f : Reason) → v ≡ Verdict.Failed f → ⊥) → v ≡ Verdict.Qed

@@ -20,7 +20,7 @@ use Rattle.ap_plain.specs.declared.kinds.Kind.{Kind}
 use Rattle.ap_plain.specs.declared.kinds.Kind.TheVariants as kind
 use Rattle.ap_plain.specs.declared.limits.Limits.{Limits}
 use Rattle.ap_plain.specs.declared.proposing.Proposal.{Proposal}
-use Rattle.ap_plain.specs.Attempts.{tried, plan_for}
+use Rattle.ap_plain.specs.Attempts.{first_rule, tried, plan_for}
 use Rattle.ap_plain.specs.Changes.{changes_of, changed_event, theory_event}
 use Rattle.ap_plain.specs.Constants.{stated_constant, valued_constant, written_constant, constant_event}
 use Rattle.ap_plain.specs.Ends.{Done, Did}
@@ -45,27 +45,27 @@ unfolding proved_event
 proved_grows w title enabled p lines walks Verdict.Qed = put_grows enabled w p
 proved_grows w title enabled p lines walks (Verdict.Failed r) = tt
 
-hinted_grows : (limits : Limits) (w : Shown) (title : List ℕ) (enabled : Bool) (p : Proposal) (a : Answer Hints) → GrowsTo w (hinted_event limits w title enabled p a).next
+hinted_grows : (limits : Limits) (otf : Bool) (w : Shown) (title : List ℕ) (enabled : Bool) (p : Proposal) (a : Answer Hints) → GrowsTo w (hinted_event limits otf w title enabled p a).next
 unfolding hinted_event
-hinted_grows limits w title enabled p (Err r) = tt
-hinted_grows limits w title enabled p (Ok hs) =
-    let t = tried limits (plan_for limits w hs) (owed_of p) in
+hinted_grows limits otf w title enabled p (Err r) = tt
+hinted_grows limits otf w title enabled p (Ok hs) =
+    let t = tried (first_rule limits otf) (plan_for limits w hs) (owed_of p) in
     proved_grows w title enabled p (opening_of p ++ t.lines) t.walks t.verdict
 
-proposed_grows : (limits : Limits) (w : Shown) (title : List ℕ) (enabled : Bool) (hints : Option Form) (a : Answer Proposal) → GrowsTo w (proposed_event limits w title enabled hints a).next
+proposed_grows : (limits : Limits) (otf : Bool) (w : Shown) (title : List ℕ) (enabled : Bool) (hints : Option Form) (a : Answer Proposal) → GrowsTo w (proposed_event limits otf w title enabled hints a).next
 unfolding proposed_event
-proposed_grows limits w title enabled hints (Err r) = tt
-proposed_grows limits w title enabled hints (Ok p) = hinted_grows limits w title enabled p (given_hints w hints)
+proposed_grows limits otf w title enabled hints (Err r) = tt
+proposed_grows limits otf w title enabled hints (Ok p) = hinted_grows limits otf w title enabled p (given_hints w hints)
 
 theorem_grows : (limits : Limits) (w : Shown) (enabled : Bool) (s : Option Stated) → GrowsTo w (theorem_event limits w enabled s).next
 unfolding theorem_event
 theorem_grows limits w enabled None = tt
-theorem_grows limits w enabled (Some s) = proposed_grows limits w _ enabled s.chosen.hints (proposed_theorem w s)
+theorem_grows limits w enabled (Some s) = proposed_grows limits s.chosen.otf w _ enabled s.chosen.hints (proposed_theorem w s)
 
 definition_grows : (limits : Limits) (w : Shown) (enabled : Bool) (d : Option Defined) → GrowsTo w (definition_event limits w enabled d).next
 unfolding definition_event
 definition_grows limits w enabled None = tt
-definition_grows limits w enabled (Some d) = proposed_grows limits w _ enabled d.xargs.hints (proposed_definition w d)
+definition_grows limits w enabled (Some d) = proposed_grows limits d.xargs.otf w _ enabled d.xargs.hints (proposed_definition w d)
 
 valued_grows : (w : Shown) (n : Symbol) (a : Answer Value) → GrowsTo w (valued_constant w n a).next
 valued_grows w n (Ok v) = (_ ∷ [], refl)

@@ -50,6 +50,7 @@ use Rattle.ap_strategy.specs.Goals.{Goal, defs_of, inducted}
 use Rattle.ap_strategy.specs.Laws.{kernel_ground, tells, deeper, whole, by_induction}
 use Rattle.ap_strategy.specs.Steps.{step_of, depth_of, IsGood}
 use Rattle.ap_plain.specs.declared.definition.Terminating.{Terminating}
+use Rattle.ap_walk.specs.declared.rule.Rule.{Rule}
 use Rattle.ap_plain.specs.declared.kinds.Kind.{Kind}
 use Rattle.ap_plain.specs.declared.kinds.Kind.TheVariants as kind
 use Rattle.ap_plain.specs.declared.limits.Limits.{Limits}
@@ -115,12 +116,12 @@ left_good false n w good = theory_good w _ good
 -- Attempts.
 
 -- a clause whose attempt is `Qed` is valid
-clause_valid : (limits : Limits) (plan : Plan) (c : Clause) → GoodWorld plan.world → KnownHints plan.world.entries plan.hints → KnownClause (defs_of plan) c
-    → (tried_from limits (clause_goal plan c)).verdict ≡ Verdict.Qed → Valid (defs_of plan) c.0
+clause_valid : (rule : Rule) (plan : Plan) (c : Clause) → GoodWorld plan.world → KnownHints plan.world.entries plan.hints → KnownClause (defs_of plan) c
+    → (tried_from rule (clause_goal plan c)).verdict ≡ Verdict.Qed → Valid (defs_of plan) c.0
 unfolding tried_from
-clause_valid limits plan c good hints c_known qed =
+clause_valid rule plan c good hints c_known qed =
     let g = clause_goal plan c in
-    attempt_good step_of depth_of IsGood tells deeper whole inducted (λ t k some h. by_induction t k h) g g (λ h. h) plan.hints.do_not_induct (first_rule limits) qed
+    attempt_good step_of depth_of IsGood tells deeper whole inducted (λ t k some h. by_induction t k h) g g (λ h. h) plan.hints.do_not_induct rule qed
     good.functions good.sound good.distinct c_known hints tt
 
 both_qed : (v : Verdict) (others : Tried) → (where_qed v others).verdict ≡ Verdict.Qed → (v ≡ Verdict.Qed) × (others.verdict ≡ Verdict.Qed)
@@ -131,13 +132,13 @@ both_qed (Verdict.Failed r) others h = absurd (no h)
     no q = cc
 
 -- so are those of attempts that all are
-all_valid : (limits : Limits) (plan : Plan) (os : List Owed) → GoodWorld plan.world → KnownHints plan.world.entries plan.hints → Each (λ (o : Owed). KnownClause (defs_of plan) o.clause) os
-    → (tried limits plan os).verdict ≡ Verdict.Qed → Each (λ (o : Owed). Valid (defs_of plan) o.clause.0) os
-all_valid limits plan [] good hints ks qed = tt
-all_valid limits plan (o ∷ os) good hints ks qed =
-    let a = tried_from limits (clause_goal plan o.clause) in
-    let both = both_qed a.verdict (tried limits plan os) qed in
-    (clause_valid limits plan o.clause good hints ks.0 both.0, all_valid limits plan os good hints ks.1 both.1)
+all_valid : (rule : Rule) (plan : Plan) (os : List Owed) → GoodWorld plan.world → KnownHints plan.world.entries plan.hints → Each (λ (o : Owed). KnownClause (defs_of plan) o.clause) os
+    → (tried rule plan os).verdict ≡ Verdict.Qed → Each (λ (o : Owed). Valid (defs_of plan) o.clause.0) os
+all_valid rule plan [] good hints ks qed = tt
+all_valid rule plan (o ∷ os) good hints ks qed =
+    let a = tried_from rule (clause_goal plan o.clause) in
+    let both = both_qed a.verdict (tried rule plan os) qed in
+    (clause_valid rule plan o.clause good hints ks.0 both.0, all_valid rule plan os good hints ks.1 both.1)
 
 -- What is stated.
 
@@ -329,30 +330,30 @@ unfolding proved_event
 proved_good w title enabled p lines walks Verdict.Qed h = admitted_good (put enabled w p) walks (h refl)
 proved_good w title enabled p lines walks (Verdict.Failed r) h = refused_good walks
 
-hinted_good : (limits : Limits) (w : Shown) (title : List ℕ) (enabled : Bool) (p : Proposal) (a : Answer Hints) → GoodWorld w → IsStated w p → Gives (KnownHints w.entries) a
-    → AllGood (hinted_event limits w title enabled p a)
+hinted_good : (limits : Limits) (otf : Bool) (w : Shown) (title : List ℕ) (enabled : Bool) (p : Proposal) (a : Answer Hints) → GoodWorld w → IsStated w p → Gives (KnownHints w.entries) a
+    → AllGood (hinted_event limits otf w title enabled p a)
 unfolding hinted_event
-hinted_good limits w title enabled p (Err r) good stated h = tt
-hinted_good limits w title enabled p (Ok hs) good stated h =
-    let t = tried limits (plan_for limits w hs) (owed_of p) in
+hinted_good limits otf w title enabled p (Err r) good stated h = tt
+hinted_good limits otf w title enabled p (Ok hs) good stated h =
+    let t = tried (first_rule limits otf) (plan_for limits w hs) (owed_of p) in
     proved_good w title enabled p (opening_of p ++ t.lines) t.walks t.verdict
-    (λ qed. put_good enabled w p good stated (all_valid limits (plan_for limits w hs) (owed_of p) good h (owed_speaks w p good stated) qed))
+    (λ qed. put_good enabled w p good stated (all_valid (first_rule limits otf) (plan_for limits w hs) (owed_of p) good h (owed_speaks w p good stated) qed))
 
-proposed_good : (limits : Limits) (w : Shown) (title : List ℕ) (enabled : Bool) (hints : Option Form) (a : Answer Proposal) → GoodWorld w → Gives (IsStated w) a
-    → AllGood (proposed_event limits w title enabled hints a)
+proposed_good : (limits : Limits) (otf : Bool) (w : Shown) (title : List ℕ) (enabled : Bool) (hints : Option Form) (a : Answer Proposal) → GoodWorld w → Gives (IsStated w) a
+    → AllGood (proposed_event limits otf w title enabled hints a)
 unfolding proposed_event
-proposed_good limits w title enabled hints (Err r) good h = tt
-proposed_good limits w title enabled hints (Ok p) good h = hinted_good limits w title enabled p (given_hints w hints) good h (hints_give w hints good)
+proposed_good limits otf w title enabled hints (Err r) good h = tt
+proposed_good limits otf w title enabled hints (Ok p) good h = hinted_good limits otf w title enabled p (given_hints w hints) good h (hints_give w hints good)
 
 theorem_good : (limits : Limits) (w : Shown) (enabled : Bool) (s : Option Stated) → GoodWorld w → AllGood (theorem_event limits w enabled s)
 unfolding theorem_event
 theorem_good limits w enabled None good = tt
-theorem_good limits w enabled (Some s) good = proposed_good limits w _ enabled s.chosen.hints (proposed_theorem w s) good (theorem_proposed w s good)
+theorem_good limits w enabled (Some s) good = proposed_good limits s.chosen.otf w _ enabled s.chosen.hints (proposed_theorem w s) good (theorem_proposed w s good)
 
 definition_good : (limits : Limits) (w : Shown) (enabled : Bool) (d : Option Defined) → GoodWorld w → AllGood (definition_event limits w enabled d)
 unfolding definition_event
 definition_good limits w enabled None good = tt
-definition_good limits w enabled (Some d) good = proposed_good limits w _ enabled d.xargs.hints (proposed_definition w d) good (definition_proposed w d good)
+definition_good limits w enabled (Some d) good = proposed_good limits d.xargs.otf w _ enabled d.xargs.hints (proposed_definition w d) good (definition_proposed w d good)
 
 -- a constant
 abbrev IsFree : Shown → Symbol → Value → Type 0

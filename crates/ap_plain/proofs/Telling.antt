@@ -24,7 +24,7 @@ use Rattle.ap_plain.specs.declared.kinds.Kind.TheVariants as kind
 use Rattle.ap_plain.specs.declared.limits.Limits.{Limits}
 use Rattle.ap_plain.specs.declared.proposing.Proposal.{Proposal}
 use Rattle.ap_plain.specs.declared.refusing.Refusal.{Refusal}
-use Rattle.ap_plain.specs.Attempts.{plan_for, tried}
+use Rattle.ap_plain.specs.Attempts.{first_rule, plan_for, tried}
 use Rattle.ap_plain.specs.Changes.{changes_of, changed_event, theory_event}
 use Rattle.ap_plain.specs.Constants.{constant_title, valued_constant, stated_constant, written_constant, constant_event}
 use Rattle.ap_plain.specs.Counts.{goals_of}
@@ -101,27 +101,27 @@ unfolding proved_event
 proved_tells w title enabled p lines walks Verdict.Qed = admitted_tells (put enabled w p) (event_text title lines (said_line title (said_of p))) walks
 proved_tells w title enabled p lines walks (Verdict.Failed r) = refused_tells [] walks
 
-hinted_tells : (limits : Limits) (w : Shown) (title : List ℕ) (enabled : Bool) (p : Proposal) (a : Answer Hints) → Tells (hinted_event limits w title enabled p a)
+hinted_tells : (limits : Limits) (otf : Bool) (w : Shown) (title : List ℕ) (enabled : Bool) (p : Proposal) (a : Answer Hints) → Tells (hinted_event limits otf w title enabled p a)
 unfolding hinted_event
-hinted_tells limits w title enabled p (Err r) = refused_tells [] []
-hinted_tells limits w title enabled p (Ok hs) =
-    let t = tried limits (plan_for limits w hs) (owed_of p) in
+hinted_tells limits otf w title enabled p (Err r) = refused_tells [] []
+hinted_tells limits otf w title enabled p (Ok hs) =
+    let t = tried (first_rule limits otf) (plan_for limits w hs) (owed_of p) in
     proved_tells w title enabled p (opening_of p ++ t.lines) t.walks t.verdict
 
-proposed_tells : (limits : Limits) (w : Shown) (title : List ℕ) (enabled : Bool) (hints : Option Form) (a : Answer Proposal) → Tells (proposed_event limits w title enabled hints a)
+proposed_tells : (limits : Limits) (otf : Bool) (w : Shown) (title : List ℕ) (enabled : Bool) (hints : Option Form) (a : Answer Proposal) → Tells (proposed_event limits otf w title enabled hints a)
 unfolding proposed_event
-proposed_tells limits w title enabled hints (Err r) = refused_tells [] []
-proposed_tells limits w title enabled hints (Ok p) = hinted_tells limits w title enabled p (given_hints w hints)
+proposed_tells limits otf w title enabled hints (Err r) = refused_tells [] []
+proposed_tells limits otf w title enabled hints (Ok p) = hinted_tells limits otf w title enabled p (given_hints w hints)
 
 theorem_tells : (limits : Limits) (w : Shown) (enabled : Bool) (s : Option Stated) → Tells (theorem_event limits w enabled s)
 unfolding theorem_event
 theorem_tells limits w enabled None = refused_tells [] []
-theorem_tells limits w enabled (Some s) = proposed_tells limits w (title (codes "DEFTHM") s.name) enabled s.chosen.hints (proposed_theorem w s)
+theorem_tells limits w enabled (Some s) = proposed_tells limits s.chosen.otf w (title (codes "DEFTHM") s.name) enabled s.chosen.hints (proposed_theorem w s)
 
 definition_tells : (limits : Limits) (w : Shown) (enabled : Bool) (d : Option Defined) → Tells (definition_event limits w enabled d)
 unfolding definition_event
 definition_tells limits w enabled None = refused_tells [] []
-definition_tells limits w enabled (Some d) = proposed_tells limits w (title (codes "DEFUN") d.name) enabled d.xargs.hints (proposed_definition w d)
+definition_tells limits w enabled (Some d) = proposed_tells limits d.xargs.otf w (title (codes "DEFUN") d.name) enabled d.xargs.hints (proposed_definition w d)
 
 valued_tells : (w : Shown) (n : Symbol) (a : Answer Value) → Tells (valued_constant w n a)
 valued_tells w n (Ok v) = admitted_tells (added w (entry.Constant n v)) [] []

@@ -1,5 +1,5 @@
 -- Attempts on what an event owes, and what they print.
-use Rattle.std.specs.Prelude.{◌≡◌, ℕ, ◌≤◌, false, true, List, [], ◌∷◌, ◌++◌, None}
+use Rattle.std.specs.Prelude.{◌≡◌, ℕ, ◌≤◌, Bool, false, true, List, [], ◌∷◌, ◌++◌, None}
 use Rattle.std.proofs.Common.{arith}
 use Rattle.ap_term.specs.declared.term.Clause.{Clause}
 use Rattle.ap_world.specs.World.{Shown}
@@ -22,13 +22,15 @@ use Rattle.ap_plain.specs.Lines.{walks_text, checkpoints_text}
 pub goals_fit : (goals : ℕ) → goals ≤ 100000 → goals ≤ 200002
 goals_fit goals few = omega arith
 
--- the rule of an attempt's first walk
-abbrev pub first_rule : Limits → Rule
-first_rule limits = record {
+-- the rule of an attempt's first walk, by whether its event asks for `:otf-flg`
+abbrev pub first_rule : Limits → Bool → Rule
+first_rule limits otf = record {
   initial = true;
-  otf = false;
+  otf = otf;
+  revert = limits.revert;
   goal_limit = limits.goals;
   limited = (limits.within.goals_some, goals_fit limits.goals limits.within.goals_few);
+  reverting = (limits.within.revert_some, limits.within.revert_few);
 }
 
 -- what an event's goals are worked by, where it gives these hints
@@ -48,9 +50,9 @@ clause_goal plan c = record {
   scheme = None;
 }
 
--- the attempt that starts from a goal; a hint of its plan may forbid induction
-abbrev pub attempt_from : Limits → Goal → Course Goal
-attempt_from limits g = attempt step_of depth_of inducted g g.plan.hints.do_not_induct (first_rule limits) g
+-- the attempt that starts from a goal, its first walk by this rule; a hint of its plan may forbid induction
+abbrev pub attempt_from : Rule → Goal → Course Goal
+attempt_from rule g = attempt step_of depth_of inducted g g.plan.hints.do_not_induct rule g
 
 -- attempts: their lines, what they came to, and their walks
 pub record Tried : Type 0 where
@@ -66,8 +68,8 @@ unproved_text (Verdict.Failed r) ws = checkpoints_text ws
 abbrev pub told : Course Goal → Tried
 told a = record { lines = walks_text (walks_of a) ++ unproved_text a.verdict (walks_of a); verdict = a.verdict; walks = a.walks }
 
-unfoldable pub tried_from : Limits → Goal → Tried
-tried_from limits g = told (attempt_from limits g)
+unfoldable pub tried_from : Rule → Goal → Tried
+tried_from rule g = told (attempt_from rule g)
 
 -- nothing is left to be tried
 abbrev pub all_proved : Tried
@@ -85,10 +87,11 @@ where_qed (Verdict.Failed r) others = record { lines = []; verdict = Verdict.Fai
 abbrev pub then_tried : List ℕ → Tried → Tried → Tried
 then_tried heading a others = before (heading ++ a.lines) a.walks (where_qed a.verdict others)
 
--- the attempts on clauses that are owed, in order, up to the first that fails; the line of each stands before its own
-abbrev pub tried : Limits → Plan → List Owed → Tried
-tried limits plan [] = all_proved
-tried limits plan (o ∷ os) = then_tried o.heading (tried_from limits (clause_goal plan o.clause)) (tried limits plan os)
+-- the attempts on clauses that are owed, in order, up to the first that fails, the first walk of each by this rule; the
+-- line of each stands before its own
+abbrev pub tried : Rule → Plan → List Owed → Tried
+tried rule plan [] = all_proved
+tried rule plan (o ∷ os) = then_tried o.heading (tried_from rule (clause_goal plan o.clause)) (tried rule plan os)
 
 -- a call made these attempts, counts the goals that they visited, and notes what was dropped in them
 pub record Tries (t : Tried) (r : Trial) : Type 0 where

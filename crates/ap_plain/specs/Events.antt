@@ -28,14 +28,14 @@ kind_of h =
 
 -- `defthmd` and `defund` print as `defthm` and `defun`
 abbrev pub stated_event : Limits → Shown → Bool → Stated → Done
-stated_event limits w enabled s = proposed_event limits w (title (codes "DEFTHM") s.name) enabled s.chosen.hints (proposed_theorem w s)
+stated_event limits w enabled s = proposed_event limits s.chosen.otf w (title (codes "DEFTHM") s.name) enabled s.chosen.hints (proposed_theorem w s)
 
 unfoldable pub theorem_event : Limits → Shown → Bool → Option Stated → Done
 theorem_event limits w enabled None = refused_alone (codes "DEFTHM") Refusal.BadEvent
 theorem_event limits w enabled (Some s) = stated_event limits w enabled s
 
 abbrev pub defined_event : Limits → Shown → Bool → Defined → Done
-defined_event limits w enabled d = proposed_event limits w (title (codes "DEFUN") d.name) enabled d.xargs.hints (proposed_definition w d)
+defined_event limits w enabled d = proposed_event limits d.xargs.otf w (title (codes "DEFUN") d.name) enabled d.xargs.hints (proposed_definition w d)
 
 unfoldable pub definition_event : Limits → Shown → Bool → Option Defined → Done
 definition_event limits w enabled None = refused_alone (codes "DEFUN") Refusal.BadEvent

@@ -66,15 +66,15 @@ abbrev pub marks_text : ℕ → List (Visit Goal) → List ℕ
 marks_text k [] = []
 marks_text k (m ∷ ms) = mark_text k m ++ marks_text (next_push k m) ms
 
--- a line where the walk reverted or came to the limit on goals
-unfoldable pub end_text : End → List ℕ
-end_text End.Through = []
-end_text End.Revert = line (codes "Revert")
-end_text End.Limit = line (codes "Goal limit")
-end_text (End.Stopped r) = []
+-- a line where the walk reverted, which it does where its pushes are the revert count, or came to the limit on goals
+unfoldable pub end_text : ℕ → End → List ℕ
+end_text pushes End.Through = []
+end_text pushes End.Revert = line (counted_text (codes "Revert ") pushes)
+end_text pushes End.Limit = line (codes "Goal limit")
+end_text pushes (End.Stopped r) = []
 
 abbrev pub walk_text : Walked Goal → List ℕ
-walk_text w = marks_text 1 w.marks ++ end_text w.end
+walk_text w = marks_text 1 w.marks ++ end_text w.tally.pushes w.end
 
 abbrev pub walks_text : List (Walked Goal) → List ℕ
 walks_text [] = []

@@ -16,7 +16,7 @@ use Rattle.ap_plain.specs.declared.owing.Owed.{Owed}
 use Rattle.ap_plain.specs.declared.proposing.Proposal.{Proposal}
 use Rattle.ap_plain.specs.declared.proposing.Proposal.TheVariants as proposal
 use Rattle.ap_plain.specs.declared.refusing.Refusal.{Refusal}
-use Rattle.ap_plain.specs.Attempts.{Tried, tried, plan_for}
+use Rattle.ap_plain.specs.Attempts.{Tried, first_rule, tried, plan_for}
 use Rattle.ap_plain.specs.Definitions.{IsDefinition, stated_definition, owed_by, measure_text, function_in}
 use Rattle.ap_plain.specs.Ends.{Done, refused, admitted}
 use Rattle.ap_plain.specs.Hinting.{given_hints}
@@ -73,7 +73,7 @@ abbrev pub IsStated : Shown → Proposal → Type 0
 IsStated w (proposal.Theorem t) = IsTheorem w t
 IsStated w (proposal.Function t) = IsDefinition w t
 
--- The event: what it states comes first, then its hints, and then the attempts. A refusal has its line behind those of
+-- The event: what it states comes first, then its hints, and then the attempts, by whether it asks for `:otf-flg`. A refusal has its line behind those of
 -- the attempts that were made.
 
 unfoldable pub proved_event : Shown → List ℕ → Bool → Proposal → List ℕ → List (RootedWalk Goal) → Verdict → Done
@@ -83,10 +83,10 @@ proved_event w title enabled p lines walks (Verdict.Failed r) = refused (event_t
 abbrev pub tried_event : Shown → List ℕ → Bool → Proposal → Tried → Done
 tried_event w title enabled p t = proved_event w title enabled p (opening_of p ++ t.lines) t.walks t.verdict
 
-unfoldable pub hinted_event : Limits → Shown → List ℕ → Bool → Proposal → Answer Hints → Done
-hinted_event limits w title enabled p (Err r) = refused (event_text title [] (refused_line title r)) []
-hinted_event limits w title enabled p (Ok hs) = tried_event w title enabled p (tried limits (plan_for limits w hs) (owed_of p))
+unfoldable pub hinted_event : Limits → Bool → Shown → List ℕ → Bool → Proposal → Answer Hints → Done
+hinted_event limits otf w title enabled p (Err r) = refused (event_text title [] (refused_line title r)) []
+hinted_event limits otf w title enabled p (Ok hs) = tried_event w title enabled p (tried (first_rule limits otf) (plan_for limits w hs) (owed_of p))
 
-unfoldable pub proposed_event : Limits → Shown → List ℕ → Bool → Option Form → Answer Proposal → Done
-proposed_event limits w title enabled hints (Err r) = refused (event_text title [] (refused_line title r)) []
-proposed_event limits w title enabled hints (Ok p) = hinted_event limits w title enabled p (given_hints w hints)
+unfoldable pub proposed_event : Limits → Bool → Shown → List ℕ → Bool → Option Form → Answer Proposal → Done
+proposed_event limits otf w title enabled hints (Err r) = refused (event_text title [] (refused_line title r)) []
+proposed_event limits otf w title enabled hints (Ok p) = hinted_event limits otf w title enabled p (given_hints w hints)

@@ -69,7 +69,12 @@ at_most_one (v ∷ w ∷ vs) = None
 abbrev pub given_once : List ℕ → List Form → Option (Option Form)
 given_once n fs = at_most_one (given n fs)
 
--- Theorems: (defthm NAME TERM [:rule-classes C] [:hints H])
+-- `:otf-flg` and `:verify-guards` take `t` or `nil`, and are `nil` where they aren't given
+abbrev pub truth_in : Option Form → Option Bool
+truth_in None = Some false
+truth_in (Some f) = cond (is_symbol (codes "T") f) (Some true) (cond (is_nil f) (Some false) None)
+
+-- Theorems: (defthm NAME TERM [:rule-classes C] [:hints H] [:otf-flg B])
 
 -- what `:rule-classes` takes: `nil`, a class, or a list of classes
 abbrev pub is_class : Form → Bool
@@ -86,22 +91,25 @@ abbrev pub none_or : (Form → Bool) → Option Form → Bool
 none_or good None = true
 none_or good (Some f) = good f
 
--- what follows a theorem's term: its classes and its hints, if they are given
+-- what follows a theorem's term: its classes and its hints, if they are given, and whether `:otf-flg` is
 pub record Chosen : Type 0 where
   pub classes : Option Form
   pub hints : Option Form
+  pub otf : Bool
 
 abbrev pub as_chosen : Choices → Chosen
-as_chosen c = record { classes = option_map (λ f. f.now) c.classes; hints = option_map (λ f. f.now) c.hints }
+as_chosen c = record { classes = option_map (λ f. f.now) c.classes; hints = option_map (λ f. f.now) c.hints; otf = c.otf }
 
 -- None: it isn't of the shape
-abbrev pub chosen_by : Option Form → Option Form → Option Chosen
-chosen_by classes hints = cond (none_or are_classes classes) (Some (record { classes = classes; hints = hints })) None
+abbrev pub chosen_by : Option Form → Option Form → Bool → Option Chosen
+chosen_by classes hints otf = cond (none_or are_classes classes) (Some (record { classes = classes; hints = hints; otf = otf })) None
 
 abbrev pub chosen_of : List Form → Option Chosen
 chosen_of fs =
-    cond (are_keyed (codes "RULE-CLASSES" ∷ codes "HINTS" ∷ []) fs)
-    (both chosen_by (given_once (codes "RULE-CLASSES") fs) (given_once (codes "HINTS") fs))
+    cond (are_keyed (codes "RULE-CLASSES" ∷ codes "HINTS" ∷ codes "OTF-FLG" ∷ []) fs)
+    (and_then (given_once (codes "RULE-CLASSES") fs) (λ classes.
+    and_then (given_once (codes "HINTS") fs) (λ hints.
+    and_then (and_then (given_once (codes "OTF-FLG") fs) truth_in) (λ otf. chosen_by classes hints otf))))
     None
 
 -- a theorem as its event states it
@@ -131,6 +139,7 @@ pub record Xargs : Type 0 where
   pub hints : Option Form
   pub guard : Option Form
   pub verify : Bool
+  pub otf : Bool
 
 abbrev pub as_xargs : Declared → Xargs
 as_xargs x = record {
@@ -138,26 +147,23 @@ as_xargs x = record {
   hints = option_map (λ f. f.now) x.hints;
   guard = option_map (λ f. f.now) x.guard;
   verify = x.verify;
+  otf = x.otf;
 }
 
 abbrev pub no_xargs : Xargs
-no_xargs = record { measure = None; hints = None; guard = None; verify = false }
+no_xargs = record { measure = None; hints = None; guard = None; verify = false; otf = false }
 
--- `:verify-guards` takes `t` or `nil`
-abbrev pub truth_in : Option Form → Option Bool
-truth_in None = Some false
-truth_in (Some f) = cond (is_symbol (codes "T") f) (Some true) (cond (is_nil f) (Some false) None)
-
-abbrev pub verified_xargs : Option Form → Option Form → Option Form → Bool → Xargs
-verified_xargs measure hints guard verify = record { measure = measure; hints = hints; guard = guard; verify = verify }
+abbrev pub verified_xargs : Option Form → Option Form → Option Form → Bool → Bool → Xargs
+verified_xargs measure hints guard verify otf = record { measure = measure; hints = hints; guard = guard; verify = verify; otf = otf }
 
 abbrev pub xargs_of : List Form → Option Xargs
 xargs_of fs =
-    cond (are_keyed (codes "MEASURE" ∷ codes "HINTS" ∷ codes "GUARD" ∷ codes "VERIFY-GUARDS" ∷ []) fs)
+    cond (are_keyed (codes "MEASURE" ∷ codes "HINTS" ∷ codes "GUARD" ∷ codes "VERIFY-GUARDS" ∷ codes "OTF-FLG" ∷ []) fs)
     (and_then (given_once (codes "MEASURE") fs) (λ measure.
     and_then (given_once (codes "HINTS") fs) (λ hints.
     and_then (given_once (codes "GUARD") fs) (λ guard.
-    and_then (and_then (given_once (codes "VERIFY-GUARDS") fs) truth_in) (λ verify. Some (verified_xargs measure hints guard verify))))))
+    and_then (and_then (given_once (codes "VERIFY-GUARDS") fs) truth_in) (λ verify.
+    and_then (and_then (given_once (codes "OTF-FLG") fs) truth_in) (λ otf. Some (verified_xargs measure hints guard verify otf)))))))
     None
 
 -- A `declare` has one `xargs` at most; (ignore V ..) and (ignorable V ..) are passed over.

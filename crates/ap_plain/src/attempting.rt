@@ -46,13 +46,14 @@ pub struct Trial {
     pub drops: Seq<DropNote>,
 }
 
-/// The rule of an attempt's first walk.
-fn first_rule(limits: &Limits) -> Rule
-    ensures { result ≡ first_rule limits.now }
+/// The rule of an attempt's first walk, by whether its event asks for `:otf-flg`.
+pub(crate) fn first_rule(limits: &Limits, otf: bool) -> Rule
+    ensures { result ≡ first_rule limits.now otf }
 {
     Rule {
         initial: true,
-        otf: false,
+        otf,
+        revert: limits.revert,
         goal_limit: limits.goals,
     }
 }
@@ -93,15 +94,15 @@ fn crosses<T: Send + Sync>()
     ensures sync { IsSync T.row }
 {}
 
-/// Works the attempt that starts from a task. Where it doesn't fail, the task is good.
+/// Works the attempt that starts from a task, its first walk by this rule. Where it doesn't fail, the task is good.
 #[tactic(auto, unfolding(crate::specs::Attempts::tried_from))]
 fn attempt_from<J: Planned + Send + Sync, R: Threads + Wait + Sync, G: Gate + Sync>(
     crew: &Crew<'_, R, G>,
     alloc: Global,
-    limits: &Limits,
+    rule: Rule,
     root: Task<'_, J>,
 ) -> Result<Trial, NoMemory>
-    ensures tried { IfOk result (Tries (tried_from limits.now root.entry)) }
+    ensures tried { IfOk result (Tries (tried_from rule root.entry)) }
     ensures good { IfOk result (λ t. t.verdict ≡ Verdict.Qed → IsGood root.entry) }
     ensures alone { IfOk result (λ t. crew.now.workers ≤ 1 → t.drops ≡ []) }
 {
@@ -110,7 +111,6 @@ fn attempt_from<J: Planned + Send + Sync, R: Threads + Wait + Sync, G: Gate + Sy
     let prover = Proving {
         step: Acl2Step::new(root.plan, crew.workers),
     };
-    let rule = first_rule(limits);
     let done = prove(crew.rt, alloc, &prover, root, rule, crew.workers, crew.gate)?;
     let lines = attempt_lines(alloc, done.verdict, done.walks.as_slice())?;
     let goals = goal_count(done.walks.as_slice());
@@ -165,19 +165,19 @@ fn attempt_as<J: Planned + Send + Sync, R: Threads + Wait + Sync, G: Gate + Sync
     crew: &Crew<'_, R, G>,
     alloc: Global,
     plan: &Plan,
-    limits: &Limits,
+    rule: Rule,
     clause: Clause,
 ) -> Result<Trial, NoMemory>
     requires brand { plan.now ≡ J.plan }
     requires functions { HasFunctions (defs_of plan.now) }
     requires known { KnownClause (defs_of plan.now) clause }
     requires hints { KnownHints plan.now.world.entries plan.now.hints }
-    ensures tried { IfOk result (Tries (tried_from limits.now (clause_goal plan.now clause))) }
+    ensures tried { IfOk result (Tries (tried_from rule (clause_goal plan.now clause))) }
     ensures good { IfOk result (λ t. t.verdict ≡ Verdict.Qed → IsGood (clause_goal plan.now clause)) }
     ensures alone { IfOk result (λ t. crew.now.workers ≤ 1 → t.drops ≡ []) }
 {
     let root: Task<'_, J> = clause_task(alloc, plan, clause)?;
-    attempt_from(crew, alloc, limits, root)
+    attempt_from(crew, alloc, rule, root)
 }
 
 /// A plan's world is sound, and its names are distinct. Costs nothing.
@@ -196,18 +196,18 @@ fn attempt_moved<R: Threads + Wait + Sync, G: Gate + Sync>(
     crew: &Crew<'_, R, G>,
     alloc: Global,
     plan: &Plan,
-    limits: &Limits,
+    rule: Rule,
     clause: Clause,
 ) -> Result<Trial, NoMemory>
     requires functions { HasFunctions (defs_of plan.now) }
     requires known { KnownClause (defs_of plan.now) clause }
     requires hints { KnownHints plan.now.world.entries plan.now.hints }
-    ensures tried { IfOk result (Tries (tried_from limits.now (clause_goal plan.now clause))) }
+    ensures tried { IfOk result (Tries (tried_from rule (clause_goal plan.now clause))) }
     ensures valid { IfOk result (λ t. t.verdict ≡ Verdict.Qed → Valid (defs_of plan.now) clause.0) }
     ensures alone { IfOk result (λ t. crew.now.workers ≤ 1 → t.drops ≡ []) }
 {
     is_sound(plan);
-    attempt_as::<Brand, R, G>(crew, alloc, plan, limits, clause)
+    attempt_as::<Brand, R, G>(crew, alloc, plan, rule, clause)
 }
 
 /// A copy of a clause.
@@ -222,16 +222,16 @@ pub(crate) fn attempt_clause<R: Threads + Wait + Sync, G: Gate + Sync>(
     crew: &Crew<'_, R, G>,
     alloc: Global,
     plan: &Plan,
-    limits: &Limits,
+    rule: Rule,
     clause: &Clause,
 ) -> Result<Trial, NoMemory>
     requires functions { HasFunctions (defs_of plan.now) }
     requires known { KnownClause (defs_of plan.now) clause.now }
     requires hints { KnownHints plan.now.world.entries plan.now.hints }
-    ensures tried { IfOk result (Tries (tried_from limits.now (clause_goal plan.now clause.now))) }
+    ensures tried { IfOk result (Tries (tried_from rule (clause_goal plan.now clause.now))) }
     ensures valid { IfOk result (λ t. t.verdict ≡ Verdict.Qed → Valid (defs_of plan.now) clause.now.0) }
     ensures alone { IfOk result (λ t. crew.now.workers ≤ 1 → t.drops ≡ []) }
 {
     let clause = copy_clause(alloc, clause)?;
-    attempt_moved(crew, alloc, plan, limits, clause)
+    attempt_moved(crew, alloc, plan, rule, clause)
 }

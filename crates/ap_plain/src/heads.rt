@@ -86,6 +86,7 @@ fn stated_event<R: Threads + Wait + Sync, G: Gate + Sync>(
     let asked = Asked {
         title: title.as_slice(),
         hints: statement.choices.hints,
+        otf: statement.choices.otf,
         enabled,
     };
     let stated = proposed_theorem(alloc, w, statement)?;
@@ -131,6 +132,7 @@ fn defined_event<R: Threads + Wait + Sync, G: Gate + Sync>(
     let asked = Asked {
         title: title.as_slice(),
         hints: definition.xargs.hints,
+        otf: definition.xargs.otf,
         enabled,
     };
     let stated = proposed_definition(alloc, w, definition)?;

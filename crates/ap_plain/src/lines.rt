@@ -1,5 +1,6 @@
 //! The lines of an attempt, and its checkpoints.
-ghost use Rattle.std.specs.Prelude.{◌≡◌, ◌++◌, ◌+◌, ◌≤◌, ◌<◌, ◌^◌, length, OnOk, IfOk};
+ghost use Rattle.std.specs.Prelude.{◌≡◌, ◌++◌, ◌+◌, ◌≤◌, ◌<◌, ◌^◌, length, codes, OnOk, IfOk};
+ghost use Rattle.ap_plain.specs.Texts.{line};
 ghost use Rattle.ap_names.specs.Printed.{name_text};
 ghost use Rattle.ap_attempt.specs.Laws.{mark_count};
 ghost use Rattle.ap_plain.specs.Lines.{stop_text, counted_text, push_text, call_text, induct_text, process_text, limited_text, mark_text, marks_text, end_text, walk_text, walks_text, is_checkpoint, checkpoint_text, checkpoints_of, checkpoints_in, headed, checkpoints_text};
@@ -161,13 +162,21 @@ fn put_marks<J: Planned>(
     Ok(())
 }
 
-/// Adds a line where a walk reverted or came to the limit on goals.
+/// Adds the line of a walk that reverted: its pushes are the revert count.
+fn put_revert(text: &mut Bytes, pushes: u32) -> Result<(), NoMemory>
+    ensures { OnOk result (text.new ≡ text.old ++ line (counted_text (codes "Revert ") pushes)) }
+{
+    put_counted(text, b"Revert ", pushes)?;
+    text.push(10)
+}
+
+/// Adds a line where a walk reverted, with its pushes, or came to the limit on goals.
 #[tactic(auto, unfolding(crate::specs::Lines::end_text))]
-fn put_end(text: &mut Bytes, end: End) -> Result<(), NoMemory>
-    ensures { OnOk result (text.new ≡ text.old ++ end_text end) }
+fn put_end(text: &mut Bytes, pushes: u32, end: End) -> Result<(), NoMemory>
+    ensures { OnOk result (text.new ≡ text.old ++ end_text pushes end) }
 {
     match end {
-        End::Revert => text.extend(b"Revert\n"),
+        End::Revert => put_revert(text, pushes),
         End::Limit => text.extend(b"Goal limit\n"),
         End::Through => Ok(()),
         End::Stopped(_) => Ok(()),
@@ -184,7 +193,7 @@ fn put_walk<J: Planned>(
     ensures { OnOk result (text.new ≡ text.old ++ walk_text walked.now) }
 {
     put_marks(alloc, text, walked.marks.as_slice())?;
-    put_end(text, walked.end)
+    put_end(text, walked.tally.pushes, walked.end)
 }
 
 /// The lines of an attempt's walks.

@@ -18,6 +18,7 @@ use ap_list::{Bytes, NoMemory, Seq};
 use ap_rules::Ruled;
 use ap_strategy::Plan;
 use ap_term::Clause;
+use ap_walk::Rule;
 use ap_world::World;
 use std::alloc::{AllocError, Global};
 use std::mem;
@@ -58,24 +59,25 @@ fn add_trial(all: &mut Trial, heading: &[u8], trial: Trial) -> Result<(), NoMemo
     Ok(())
 }
 
-/// Tries clauses in their order, up to the first whose attempt fails. Where none fails, they are valid.
+/// Tries clauses in their order, each attempt's first walk by this rule, up to the first whose attempt fails. Where none
+/// fails, they are valid.
 fn try_each<R: Threads + Wait + Sync, G: Gate + Sync>(
     crew: &Crew<'_, R, G>,
     alloc: Global,
     plan: &Plan,
-    limits: &Limits,
+    rule: Rule,
     owed: &[Owed],
 ) -> Result<Trial, NoMemory>
     requires functions { HasFunctions (defs_of plan.now) }
     requires known { Each (λ o. KnownClause (defs_of plan.now) o.clause) owed.now }
     requires hints { KnownHints plan.now.world.entries plan.now.hints }
-    ensures tried { IfOk result (Tries (tried limits.now plan.now owed.now)) }
+    ensures tried { IfOk result (Tries (tried rule plan.now owed.now)) }
     ensures valid { IfOk result (λ t. t.verdict ≡ Verdict.Qed → Each (λ o. Valid (defs_of plan.now) o.clause.0) owed.now) }
     ensures alone { IfOk result (λ t. crew.now.workers ≤ 1 → t.drops ≡ []) }
 {
     let mut all = no_trial(alloc);
     for one in owed {
-        let trial = attempt_clause(crew, alloc, plan, limits, &one.clause)?;
+        let trial = attempt_clause(crew, alloc, plan, rule, &one.clause)?;
         add_trial(&mut all, one.heading.as_slice(), trial)?;
         if let Verdict::Failed(_) = all.verdict {
             return Ok(all);
@@ -90,6 +92,7 @@ pub(crate) fn try_owed<R: Threads + Wait + Sync, G: Gate + Sync>(
     alloc: Global,
     w: &mut Ruled,
     limits: &Limits,
+    rule: Rule,
     hints: Hints,
     owed: &[Owed],
 ) -> Result<Trial, NoMemory>
@@ -97,7 +100,7 @@ pub(crate) fn try_owed<R: Threads + Wait + Sync, G: Gate + Sync>(
     requires known { Each (λ o. KnownClause (function_of w.old.entries) o.clause) owed.now }
     requires hints { KnownHints w.old.entries hints }
     ensures same { w.new ≡ w.old }
-    ensures tried { IfOk result (Tries (tried limits.now (plan_for limits.now w.old hints) owed.now)) }
+    ensures tried { IfOk result (Tries (tried rule (plan_for limits.now w.old hints) owed.now)) }
     ensures valid { IfOk result (λ t. t.verdict ≡ Verdict.Qed → Each (λ o. Valid (function_of w.old.entries) o.clause.0) owed.now) }
     ensures alone { IfOk result (λ t. crew.now.workers ≤ 1 → t.drops ≡ []) }
 {
@@ -107,7 +110,7 @@ pub(crate) fn try_owed<R: Threads + Wait + Sync, G: Gate + Sync>(
         hints,
         step_limit: limits.steps,
     };
-    let trial = try_each(crew, alloc, &plan, limits, owed);
+    let trial = try_each(crew, alloc, &plan, rule, owed);
     *w = plan.world;
     trial
 }

@@ -6,14 +6,14 @@ ghost use Rattle.ap_world.specs.Sound.{HasFunctions};
 ghost use Rattle.ap_world.specs.World.{Shown, added, function_of};
 ghost use Rattle.ap_hints.specs.Known.{KnownHints};
 ghost use Rattle.ap_plain.specs.declared.refusing.Refusal.{Refusal};
-ghost use Rattle.ap_plain.specs.Attempts.{Tried, plan_for, before, tried, Tries};
+ghost use Rattle.ap_plain.specs.Attempts.{Tried, first_rule, plan_for, before, tried, Tries};
 ghost use Rattle.ap_plain.specs.Ends.{Did, refused};
 ghost use Rattle.ap_plain.specs.Hinting.{given_hints};
 ghost use Rattle.ap_plain.specs.Proposals.{opening_of, owed_of, said_of, name_of, entry_in, put, IsStated, proved_event, tried_event, hinted_event, proposed_event};
 ghost use Rattle.ap_plain.specs.Texts.{said_line, refused_line, event_text};
 ghost use Rattle.ap_attempt.specs.declared.verdict.Verdict.{Verdict};
 
-use crate::attempting::{Crew, Trial};
+use crate::attempting::{Crew, Trial, first_rule};
 use crate::changes::{disable, remember};
 use crate::definition::{Terminating, add_definition, measure_text, owed_definition};
 use crate::end::{Outcome, without_drops};
@@ -29,7 +29,7 @@ use ap_list::{Bytes, NoMemory, Seq};
 use ap_reader::Form;
 use ap_rules::Ruled;
 use ap_value::{Symbol, copy_symbol};
-use ap_walk::Reason;
+use ap_walk::{Reason, Rule};
 use ap_world::Theorem;
 use std::alloc::Global;
 use std::sync::Wait;
@@ -42,12 +42,13 @@ pub enum Proposal {
     Function(Terminating),
 }
 
-/// What an event with a name asks for, beside what it states: its title; its hints, if they are given; and whether what
-/// it makes is enabled.
+/// What an event with a name asks for, beside what it states: its title; its hints, if they are given; whether
+/// `:otf-flg` is set for its attempts; and whether what it makes is enabled.
 #[derive(Drop)]
 pub(crate) struct Asked<'a> {
     pub title: &'a [u8],
     pub hints: Option<&'a Form>,
+    pub otf: bool,
     pub enabled: bool,
 }
 
@@ -250,12 +251,13 @@ fn with_opening(alloc: Global, proposal: &Proposal, trial: Trial) -> Result<Tria
     })
 }
 
-/// Tries what a proposal owes by hints. The world is as it was.
+/// Tries what a proposal owes by hints, each attempt's first walk by this rule. The world is as it was.
 fn try_proposal<R: Threads + Wait + Sync, G: Gate + Sync>(
     crew: &Crew<'_, R, G>,
     alloc: Global,
     w: &mut Ruled,
     limits: &Limits,
+    rule: Rule,
     hints: Hints,
     proposal: &Proposal,
 ) -> Result<Trial, NoMemory>
@@ -263,13 +265,13 @@ fn try_proposal<R: Threads + Wait + Sync, G: Gate + Sync>(
     requires stated { IsStated w.old proposal.now }
     requires hints { KnownHints w.old.entries hints }
     ensures same { w.new ≡ w.old }
-    ensures tried { IfOk result (Tries (before (opening_of proposal.now) [] (tried limits.now (plan_for limits.now w.old hints) (owed_of proposal.now)))) }
+    ensures tried { IfOk result (Tries (before (opening_of proposal.now) [] (tried rule (plan_for limits.now w.old hints) (owed_of proposal.now)))) }
     ensures valid { IfOk result (λ t. t.verdict ≡ Verdict.Qed → Each (λ o. Valid (function_of w.old.entries) o.clause.0) (owed_of proposal.now)) }
     ensures alone { IfOk result (λ t. crew.now.workers ≤ 1 → t.drops ≡ []) }
 {
     w.world().is_sound();
     let owed = owed_of(alloc, proposal)?;
-    let trial = try_owed(crew, alloc, w, limits, hints, owed.as_slice())?;
+    let trial = try_owed(crew, alloc, w, limits, rule, hints, owed.as_slice())?;
     with_opening(alloc, proposal, trial)
 }
 
@@ -286,11 +288,12 @@ fn tried_event<R: Threads + Wait + Sync, G: Gate + Sync>(
     requires functions { HasFunctions (function_of w.old.entries) }
     requires stated { IsStated w.old proposal }
     requires hints { KnownHints w.old.entries hints }
-    ensures done { IfOk result (Did (tried_event w.old asked.now.title.now asked.now.enabled proposal (tried limits.now (plan_for limits.now w.old hints) (owed_of proposal))) w.old w.new) }
+    ensures done { IfOk result (Did (tried_event w.old asked.now.title.now asked.now.enabled proposal (tried (first_rule limits.now asked.now.otf) (plan_for limits.now w.old hints) (owed_of proposal))) w.old w.new) }
     ensures alone { IfOk result (λ e. crew.now.workers ≤ 1 → e.drops ≡ []) }
     ensures error { OnErr result (w.new ≡ w.old) }
 {
-    let trial = try_proposal(crew, alloc, w, limits, hints, &proposal)?;
+    let rule = first_rule(limits, asked.otf);
+    let trial = try_proposal(crew, alloc, w, limits, rule, hints, &proposal)?;
     end_tried(alloc, w, asked, proposal, trial)
 }
 
@@ -306,7 +309,7 @@ fn hinted_event<R: Threads + Wait + Sync, G: Gate + Sync>(
 ) -> Result<Outcome, NoMemory>
     requires functions { HasFunctions (function_of w.old.entries) }
     requires stated { IsStated w.old proposal }
-    ensures done { IfOk result (Did (hinted_event limits.now w.old asked.now.title.now asked.now.enabled proposal (given_hints w.old (option_map (λ f. f.now) asked.now.hints))) w.old w.new) }
+    ensures done { IfOk result (Did (hinted_event limits.now asked.now.otf w.old asked.now.title.now asked.now.enabled proposal (given_hints w.old (option_map (λ f. f.now) asked.now.hints))) w.old w.new) }
     ensures alone { IfOk result (λ e. crew.now.workers ≤ 1 → e.drops ≡ []) }
     ensures error { OnErr result (w.new ≡ w.old) }
 {
@@ -328,7 +331,7 @@ pub(crate) fn proposed_event<R: Threads + Wait + Sync, G: Gate + Sync>(
 ) -> Result<Outcome, NoMemory>
     requires functions { HasFunctions (function_of w.old.entries) }
     requires stated { IfOk stated (IsStated w.old) }
-    ensures done { IfOk result (Did (proposed_event limits.now w.old asked.now.title.now asked.now.enabled (option_map (λ f. f.now) asked.now.hints) stated) w.old w.new) }
+    ensures done { IfOk result (Did (proposed_event limits.now asked.now.otf w.old asked.now.title.now asked.now.enabled (option_map (λ f. f.now) asked.now.hints) stated) w.old w.new) }
     ensures alone { IfOk result (λ e. crew.now.workers ≤ 1 → e.drops ≡ []) }
     ensures error { OnErr result (w.new ≡ w.old) }
 {

@@ -97,25 +97,50 @@ fn are_classes_if_given(classes: Option<&Form>) -> bool
     }
 }
 
+/// What `:otf-flg` or `:verify-guards` says: `t` or `nil`, and `nil` where it isn't given.
+fn truth(value: Option<&Form>) -> Option<bool>
+    ensures { result ≡ truth_in (option_map (λ f. f.now) value.entry) }
+{
+    match value {
+        None => Some(false),
+        Some(value) => {
+            if is_symbol(value, b"T") {
+                Some(true)
+            } else if is_nil(value) {
+                Some(false)
+            } else {
+                None
+            }
+        }
+    }
+}
+
 /// What follows a theorem's term.
 #[derive(Clone, Copy)]
 pub struct Choices<'a> {
     pub classes: Option<&'a Form>,
     pub hints: Option<&'a Form>,
+    /// `:otf-flg` is given as `t`.
+    pub otf: bool,
 }
 
-/// What follows a theorem's term: its classes and its hints, if they are given; `None` where it isn't of the
-/// shape. What the hints say isn't looked at.
+/// What follows a theorem's term: its classes and its hints, if they are given, and `:otf-flg`; `None` where it isn't of
+/// the shape. What the hints say isn't looked at.
 fn chosen(options: &[Form]) -> Option<Choices<'_>>
     ensures { option_map as_chosen result ≡ chosen_of options.now }
 {
-    if !are_keyed(&[b"RULE-CLASSES", b"HINTS"], options) {
+    if !are_keyed(&[b"RULE-CLASSES", b"HINTS", b"OTF-FLG"], options) {
         return None;
     }
     let classes = given(b"RULE-CLASSES", options)?;
     let hints = given(b"HINTS", options)?;
+    let otf = truth(given(b"OTF-FLG", options)?)?;
     if are_classes_if_given(classes) {
-        Some(Choices { classes, hints })
+        Some(Choices {
+            classes,
+            hints,
+            otf,
+        })
     } else {
         None
     }
@@ -129,7 +154,7 @@ pub struct Statement<'a> {
     pub choices: Choices<'a>,
 }
 
-/// What a `defthm` states, or `None` where it isn't `(defthm NAME TERM [:rule-classes C] [:hints H])`, its
+/// What a `defthm` states, or `None` where it isn't `(defthm NAME TERM [:rule-classes C] [:hints H] [:otf-flg B])`, its
 /// keywords in any order.
 pub fn theorem_in(form: &Form) -> Option<Statement<'_>>
     ensures { option_map as_stated result ≡ statement_of form.now }
@@ -156,6 +181,8 @@ pub struct Declared<'a> {
     pub guard: Option<&'a Form>,
     /// `:verify-guards` is given as `t`.
     pub verify: bool,
+    /// `:otf-flg` is given as `t`.
+    pub otf: bool,
 }
 
 /// No `xargs`.
@@ -167,24 +194,7 @@ fn nothing_declared<'a>() -> Declared<'a>
         hints: None,
         guard: None,
         verify: false,
-    }
-}
-
-/// What `:verify-guards` says: `t` or `nil`, and `nil` where it isn't given.
-fn truth(value: Option<&Form>) -> Option<bool>
-    ensures { result ≡ truth_in (option_map (λ f. f.now) value.entry) }
-{
-    match value {
-        None => Some(false),
-        Some(value) => {
-            if is_symbol(value, b"T") {
-                Some(true)
-            } else if is_nil(value) {
-                Some(false)
-            } else {
-                None
-            }
-        }
+        otf: false,
     }
 }
 
@@ -192,18 +202,23 @@ fn truth(value: Option<&Form>) -> Option<bool>
 fn xargs(options: &[Form]) -> Option<Declared<'_>>
     ensures { option_map as_xargs result ≡ xargs_of options.now }
 {
-    if !are_keyed(&[b"MEASURE", b"HINTS", b"GUARD", b"VERIFY-GUARDS"], options) {
+    if !are_keyed(
+        &[b"MEASURE", b"HINTS", b"GUARD", b"VERIFY-GUARDS", b"OTF-FLG"],
+        options,
+    ) {
         return None;
     }
     let measure = given(b"MEASURE", options)?;
     let hints = given(b"HINTS", options)?;
     let guard = given(b"GUARD", options)?;
     let verify = truth(given(b"VERIFY-GUARDS", options)?)?;
+    let otf = truth(given(b"OTF-FLG", options)?)?;
     Some(Declared {
         measure,
         hints,
         guard,
         verify,
+        otf,
     })
 }
 

@@ -229,6 +229,7 @@ fn first(otf: bool, goal_limit: u32) -> Rule
     Rule {
         initial: true,
         otf,
+        revert: 2,
         goal_limit,
     }
 }

@@ -145,13 +145,14 @@ const EMPTY: &[(Tree, u32)] = &[(Tree::Empty, 0)];
 const STOP: End = End::Stopped(Reason::EmptyClause);
 
 /// The rule of a walk.
-fn rule(initial: bool, otf: bool, goal_limit: u32) -> Rule
+fn rule(initial: bool, otf: bool, revert: u32, goal_limit: u32) -> Rule
     ensures low { 1 ≤ result.goal_limit }
     ensures high { result.goal_limit ≤ 200002 }
 {
     Rule {
         initial,
         otf,
+        revert: revert.clamp(2, 100),
         goal_limit: goal_limit.clamp(1, 200002),
     }
 }
@@ -179,23 +180,26 @@ fn expect_walk(rt: &impl Abort, walked: &Walked<Tree>, before: u32, row: &Row) {
     assert_eq!(rt; found, (true, pushes, end, count));
 }
 
-/// Each row: a task, whether the walk is initial, its rule's switch and limit, and what is expected.
-const ROWS: &[(Tree, bool, bool, u32, Row)] = &[
-    (Tree::Pair, true, false, 10, (BOTH, 2, End::Revert)),
-    (Tree::Pair, false, false, 10, (BOTH, 2, End::Through)),
-    (Tree::Pair, true, true, 10, (BOTH, 2, End::Through)),
-    (Tree::Deep, true, false, 10, (STOPPED, 0, STOP)),
-    (Tree::Deep, true, false, 3, (STOPPED, 0, STOP)),
-    (Tree::Pair, true, false, 1, (FIRST, 0, End::Limit)),
-    (Tree::Pair, true, false, 2, (SECOND, 1, End::Limit)),
-    (Tree::Pair, true, false, 3, (BOTH, 2, End::Revert)),
-    (Tree::Empty, true, false, 2, (EMPTY, 0, End::Through)),
+/// Each row: a task, whether the walk is initial, its rule's switch, revert count and limit, and what is expected.
+const ROWS: &[(Tree, bool, bool, u32, u32, Row)] = &[
+    (Tree::Pair, true, false, 2, 10, (BOTH, 2, End::Revert)),
+    (Tree::Pair, true, false, 3, 10, (BOTH, 2, End::Through)),
+    (Tree::Pair, true, false, 3, 3, (BOTH, 2, End::Limit)),
+    (Tree::Pair, false, false, 2, 10, (BOTH, 2, End::Through)),
+    (Tree::Pair, true, true, 2, 10, (BOTH, 2, End::Through)),
+    (Tree::Deep, true, false, 2, 10, (STOPPED, 0, STOP)),
+    (Tree::Deep, true, false, 2, 3, (STOPPED, 0, STOP)),
+    (Tree::Pair, true, false, 2, 1, (FIRST, 0, End::Limit)),
+    (Tree::Pair, true, false, 2, 2, (SECOND, 1, End::Limit)),
+    (Tree::Pair, true, false, 2, 3, (BOTH, 2, End::Revert)),
+    (Tree::Empty, true, false, 2, 2, (EMPTY, 0, End::Through)),
 ];
 
 #[test]
-fn walks_end_at_a_stop_a_second_push_and_the_limit(rt: HostRuntime) -> Result<(), NoMemory> {
-    for (root, initial, otf, limit, row) in ROWS {
-        let walked = serial(rt.alloc(), &Trees, root, rule(*initial, *otf, *limit))?;
+fn walks_end_at_a_stop_the_revert_count_and_the_limit(rt: HostRuntime) -> Result<(), NoMemory> {
+    for (root, initial, otf, revert, limit, row) in ROWS {
+        let rule = rule(*initial, *otf, *revert, *limit);
+        let walked = serial(rt.alloc(), &Trees, root, rule)?;
         expect_walk(&rt, &walked, 0, row);
     }
     Ok(())
@@ -203,11 +207,13 @@ fn walks_end_at_a_stop_a_second_push_and_the_limit(rt: HostRuntime) -> Result<()
 
 /// The rule of a cut.
 fn wide(initial: bool) -> Rule
-    ensures { result.goal_limit ≡ 10 }
+    ensures count { result.revert ≡ 2 }
+    ensures limit { result.goal_limit ≡ 10 }
 {
     Rule {
         initial,
         otf: false,
+        revert: 2,
         goal_limit: 10,
     }
 }

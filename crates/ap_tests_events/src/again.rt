@@ -101,7 +101,7 @@ fn again_by_text<R: Threads + Wait + Sync>(
     alloc: Global,
     text: &str,
 ) -> Result<(World, Bytes), NoMemory> {
-    let Some(limits) = Limits::new(1000, 10) else {
+    let Some(limits) = Limits::new(1000, 10, 2) else {
         return Err(AllocError);
     };
     let Ok(list) = forms(alloc, text.as_bytes()) else {

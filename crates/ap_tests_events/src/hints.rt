@@ -61,7 +61,7 @@ Goal simplify 3
 Subgoal 3 hint 2
 Subgoal 3.2 push *1
 Subgoal 3.1 push *2
-Revert
+Revert 2
 *1 noscheme
 Checkpoints before induction
 Subgoal 3.2: (OR (NOT (P W)) (NOT (P X)) (NOT (P Y)) (P Z))
@@ -84,7 +84,7 @@ Subgoal 5 push *1
 Subgoal 4 simplify 0
 Subgoal 3 simplify 0
 Subgoal 2 push *2
-Revert
+Revert 2
 *1 noscheme
 Checkpoints before induction
 Subgoal 5: (OR (NOT (P X)) (NOT (P Y)) (NOT (Q V)) (NOT (Q U)) (P Z))

@@ -62,7 +62,7 @@ const ROWS: &[Row] = &[
 fn world_of<R: Threads + Wait + Sync>(rt: &R, alloc: Global, text: &str) -> Result<World, NoMemory>
     ensures { IfOk result (λ w. HasFunctions (function_of w.entries)) }
 {
-    let Some(limits) = Limits::new(1000, 10) else {
+    let Some(limits) = Limits::new(1000, 10, 2) else {
         return Err(AllocError);
     };
     let Ok(list) = forms(alloc, text.as_bytes()) else {

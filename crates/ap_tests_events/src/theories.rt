@@ -124,7 +124,7 @@ fn worked<R: Threads + Wait + Sync>(
     alloc: Global,
     printed: &mut Bytes,
 ) -> Result<Ruled, NoMemory> {
-    let Some(limits) = Limits::new(10000, 10) else {
+    let Some(limits) = Limits::new(10000, 10, 2) else {
         return Err(AllocError);
     };
     let Ok(list) = forms(alloc, EVENTS.as_bytes()) else {

@@ -16,7 +16,7 @@ const PRINTED: &str = "DEFTHM B6
 Goal simplify 3
 Subgoal 3 push *1
 Subgoal 2 push *2
-Revert
+Revert 2
 *1 noscheme
 Checkpoints before induction
 Subgoal 3: (OR (NOT (P X)) (NOT (P Y)) (P Z))
@@ -36,7 +36,7 @@ fn printed_by_two<R: Threads + Wait + Sync>(
     let [first, second] = events.as_slice() else {
         return Err(AllocError);
     };
-    let Some(limits) = Limits::new(1000, 100) else {
+    let Some(limits) = Limits::new(1000, 100, 2) else {
         return Err(AllocError);
     };
     let mut before = Bytes::new(alloc);

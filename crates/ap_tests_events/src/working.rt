@@ -79,7 +79,7 @@ pub(crate) fn worked_within<R: Threads + Wait + Sync>(
     goals: u32,
     printed: &mut Bytes,
 ) -> Result<World, NoMemory> {
-    let Some(limits) = Limits::new(1000, goals) else {
+    let Some(limits) = Limits::new(1000, goals, 2) else {
         return Err(AllocError);
     };
     let Ok(list) = forms(alloc, text.as_bytes()) else {

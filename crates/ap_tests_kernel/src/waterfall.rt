@@ -128,6 +128,7 @@ fn walk<'a, J: Planned>(
     let rule = Rule {
         initial: true,
         otf: true,
+        revert: 2,
         goal_limit: 100,
     };
     serial(alloc, &Acl2Step::new(plan, 1), task.get(), rule)

@@ -12,6 +12,7 @@ use std::sync::Wait;
 pub(crate) const RULE: Rule = Rule {
     initial: true,
     otf: false,
+    revert: 2,
     goal_limit: 100,
 };
 

@@ -16,6 +16,7 @@ use std::process::Abort;
 const RULE: Rule = Rule {
     initial: true,
     otf: false,
+    revert: 2,
     goal_limit: 100,
 };
 

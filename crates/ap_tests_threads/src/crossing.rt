@@ -51,6 +51,7 @@ fn a_world_is_read_and_dropped_elsewhere(rt: HostRuntime) -> Result<(), Fail> {
 const RULE: Rule = Rule {
     initial: true,
     otf: true,
+    revert: 2,
     goal_limit: 100,
 };
 

@@ -33,6 +33,7 @@ pub(crate) fn initial(otf: bool, goal_limit: u32) -> Rule
     Rule {
         initial: true,
         otf,
+        revert: 2,
         goal_limit,
     }
 }

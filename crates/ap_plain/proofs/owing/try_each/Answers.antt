@@ -13,8 +13,8 @@ use Rattle.ap_plain.proofs.owing.try_each.Goals as goal
 pub returns-in-Failed-clause-tried : goal.returns-in-Failed-clause-tried
 returns-in-Failed-clause-tried g c =
     let added = c.in_ok-add_trial.ensures ∙ ap (λ h. record { lines = c.loop-one.all.lines ++ h ++ c.in_ok-trial.trial.lines; verdict = c.in_ok-trial.trial.verdict; goals = c.loop-one.all.goals + c.in_ok-trial.trial.goals; drops = c.loop-one.all.drops ++ c.in_ok-trial.trial.drops }) c.as_slice.ensures in
-    subst (Tries (tried c.args.limits.now c.args.plan.now c.args.owed.now)) (sym added)
-    (failed_here c.args.limits.now c.args.plan.now c.args.owed.now c.loop-one.one-index c.one-item.result c.loop-one.all.lines c.loop-one.all.goals c.loop-one.all.drops c.in_ok-trial.trial
+    subst (Tries (tried c.args.rule c.args.plan.now c.args.owed.now)) (sym added)
+    (failed_here c.args.rule c.args.plan.now c.args.owed.now c.loop-one.one-index c.one-item.result c.loop-one.all.lines c.loop-one.all.goals c.loop-one.all.drops c.in_ok-trial.trial
     (omega arith) c.one-item.is c.loop-one.invariant.so_far c.in_ok-trial.ensures.tried c.in-Failed.field-0 (sym (ap (λ (a : Trial). a.verdict) added) ∙ c.in-Failed.is))
 
 pub loop-one-preserved : goal.loop-one-preserved
@@ -34,7 +34,7 @@ loop-one-preserved g c =
       known = (first_left P os i o within c.one-item.is so.known).1;
       valid = λ rest. so.valid (first_done V os i o within c.one-item.is (c.in_ok-trial.ensures.valid qed) rest);
       qed = all_qed;
-      so_far = subst (λ (a : Trial). SoFar c.args.limits.now c.args.plan.now os (i + 1) a.lines a.goals a.drops) (sym added)
-          (proved_next c.args.limits.now c.args.plan.now os i o c.loop-one.all.lines c.loop-one.all.goals c.loop-one.all.drops r within c.one-item.is so.so_far c.in_ok-trial.ensures.tried qed);
+      so_far = subst (λ (a : Trial). SoFar c.args.rule c.args.plan.now os (i + 1) a.lines a.goals a.drops) (sym added)
+          (proved_next c.args.rule c.args.plan.now os i o c.loop-one.all.lines c.loop-one.all.goals c.loop-one.all.drops r within c.one-item.is so.so_far c.in_ok-trial.ensures.tried qed);
       alone = λ one. ap (λ (a : Trial). a.drops) added ∙ ap (λ ds. ds ++ r.drops) (so.alone one) ∙ c.in_ok-trial.ensures.alone one;
     }

@@ -13,6 +13,6 @@ invariant-loop-one g l = record {
   known : Each (λ o. KnownClause (defs_of l.plan) o.clause) (drop l.one-index l.owed);
   valid : Each (λ o. Valid (defs_of l.plan) o.clause.0) (drop l.one-index l.owed) → Each (λ o. Valid (defs_of l.plan) o.clause.0) l.owed;
   qed : l.all.verdict ≡ Verdict.Qed;
-  so_far : SoFar l.limits l.plan l.owed l.one-index l.all.lines l.all.goals l.all.drops;
+  so_far : SoFar l.rule l.plan l.owed l.one-index l.all.lines l.all.goals l.all.drops;
   alone : l.crew.workers ≤ 1 → l.all.drops ≡ [];
 }

@@ -1,5 +1,5 @@
 use Rattle.ap_plain.proofs.Within.{limits_some}
 use Rattle.ap_plain.proofs.limits.Limits.new.Goals as goal
 
-pub returns-then-goals-le100000 : goal.returns-then-goals-le100000
-returns-then-goals-le100000 c = limits_some _ _ _
+pub returns-then-revert-le100 : goal.returns-then-revert-le100
+returns-then-revert-le100 c = limits_some _ _ _ _

@@ -1,5 +1,0 @@
-use Rattle.std.proofs.Common.{length}
-use Rattle.acl2p.proofs.command.+command_from.Given as goal
-
-abbrev pub decreases-command_from : goal.decreases-command_from
-decreases-command_from l = length l.words.now

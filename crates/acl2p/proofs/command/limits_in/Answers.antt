@@ -1,5 +1,0 @@
-use Rattle.acl2p.proofs.Commanding.{limits_same}
-use Rattle.acl2p.proofs.command.limits_in.Goals as goal
-
-pub returns : goal.returns
-returns c = limits_same c.new.result c.unwrap_or-steps.result c.unwrap_or-goals.result _ _ c.new.ensures c.unwrap_or-steps.ensures c.unwrap_or-goals.ensures

@@ -1,0 +1,9 @@
+pub mod Commanding
+pub mod Demoing
+pub mod Leading
+pub mod Numbers
+pub mod Passing
+pub mod Sessions
+pub mod Soundness
+pub mod Starting
+pub mod Storing

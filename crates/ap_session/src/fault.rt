@@ -1,0 +1,50 @@
+ghost use Rattle.std.specs.Prelude.{◌≡◌, ◌≢◌};
+ghost use Rattle.ap_session.specs.Session.{fault_status};
+
+use crate::report::Status;
+use ap_outside::{ReadFault, WriteFault};
+
+/// Why a session ended before its end.
+#[derive(Clone, Copy, Debug, PartialEq, Eq)]
+pub(crate) enum Fault {
+    /// The library failed at a read, which it counted.
+    Read,
+    /// The sink failed, which it counted.
+    Write,
+    NoMemory,
+}
+
+/// The status that a fault gives.
+pub(crate) fn fault_status(fault: Fault) -> Status
+    ensures { result ≡ fault_status fault }
+{
+    match fault {
+        Fault::Read => Status::ReadFault,
+        Fault::Write => Status::WriteFault,
+        Fault::NoMemory => Status::NoMemory,
+    }
+}
+
+/// A fault of reading.
+pub(crate) fn at_read(fault: ReadFault) -> Fault
+    ensures failed { result ≡ Fault.Read → fault ≡ ReadFault.Failed }
+    ensures told { fault ≡ ReadFault.Failed → result ≡ Fault.Read }
+    ensures unwritten { result ≢ Fault.Write }
+{
+    match fault {
+        ReadFault::Failed => Fault::Read,
+        ReadFault::NoMemory => Fault::NoMemory,
+    }
+}
+
+/// A fault of writing.
+pub(crate) fn at_write(fault: WriteFault) -> Fault
+    ensures failed { result ≡ Fault.Write → fault ≡ WriteFault.Failed }
+    ensures told { fault ≡ WriteFault.Failed → result ≡ Fault.Write }
+    ensures unread { result ≢ Fault.Read }
+{
+    match fault {
+        WriteFault::Failed => Fault::Write,
+        WriteFault::NoMemory => Fault::NoMemory,
+    }
+}
