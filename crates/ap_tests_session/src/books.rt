@@ -1,9 +1,12 @@
 //! Several books: what one includes of those before it, and how many there may be.
-use crate::running::{Files, NONE, add_book, run, sees, sessions_print, text_of};
+use crate::running::{Ended, Files, NONE, add_book, run, sees, sessions_print, text_of};
 use crate::words::USAGE;
 use ap_session::{NoGate, Seq, Status};
 use std::alloc::Global;
+use std::process::Abort;
+use std::sync::Wait;
 use std::test::Fail;
+use std::thread::Threads;
 
 /// Sessions whose books are all certified: a book includes those before it, and sees nothing of theirs that is local.
 const INCLUDED: &str =
@@ -61,38 +64,37 @@ fn texts_of(alloc: Global, count: u32) -> Result<Vec<u8>, Fail> {
     Ok(text)
 }
 
+/// Certifies so many of these books.
+fn many<R: Threads + Wait + Sync>(rt: &R, alloc: Global, count: u32) -> Result<Ended, Fail> {
+    let names = names_of(alloc, count)?;
+    let files = library_of(alloc, count)?;
+    run(rt, alloc, names.as_str(), files, NONE, &NoGate)
+}
+
+/// Asserts how many books are listed, the status and what is put.
+fn lists<R: Abort>(
+    rt: &R,
+    ended: &Ended,
+    books: usize,
+    status: Status,
+    text: &[u8],
+) -> Result<(), Fail> {
+    assert_eq!(rt; ended.books, books);
+    sees(rt, ended, status, text)
+}
+
 #[test]
 fn up_to_64_books_are_worked_in_order_each_from_the_ground_world(
     rt: HostRuntime,
 ) -> Result<(), Fail> {
-    let alloc = rt.alloc();
-    let names = names_of(alloc, 64)?;
-    let ended = run(
-        &rt,
-        alloc,
-        names.as_str(),
-        library_of(alloc, 64)?,
-        NONE,
-        &NoGate,
-    )?;
-    assert_eq!(rt; ended.books, 64);
-    let text = texts_of(alloc, 64)?;
-    sees(&rt, &ended, Status::Certified, text.as_slice())
+    let text = texts_of(rt.alloc(), 64)?;
+    let ended = many(&rt, rt.alloc(), 64)?;
+    lists(&rt, &ended, 64, Status::Certified, text.as_slice())
 }
 
 #[test]
 fn of_65_books_none_is_read(rt: HostRuntime) -> Result<(), Fail> {
-    let alloc = rt.alloc();
-    let names = names_of(alloc, 65)?;
-    let ended = run(
-        &rt,
-        alloc,
-        names.as_str(),
-        library_of(alloc, 65)?,
-        NONE,
-        &NoGate,
-    )?;
-    assert_eq!(rt; ended.books, 0);
-    let text = text_of(alloc, USAGE)?;
-    sees(&rt, &ended, Status::Usage, text.as_slice())
+    let text = text_of(rt.alloc(), USAGE)?;
+    let ended = many(&rt, rt.alloc(), 65)?;
+    lists(&rt, &ended, 0, Status::Usage, text.as_slice())
 }

@@ -1,5 +1,5 @@
 //! What is stored of a book that is certified, by whom and when.
-use crate::running::{NONE, session};
+use crate::running::{Ended, NONE, session};
 use ap_session::{NoGate, Status};
 use std::alloc::Global;
 use std::process::Abort;
@@ -39,7 +39,16 @@ const STORED: [Stored; 6] = [
     ),
 ];
 
-/// Asserts what is stored in a file behind a session.
+/// Asserts what is stored in a file behind a session; nothing where it isn't there.
+fn has<R: Abort>(rt: &R, ended: &Ended, name: &str, text: &[u8]) -> Result<(), Fail> {
+    match ended.stored(name) {
+        Some(found) => assert_eq!(rt; found, text),
+        None => assert!(rt; text.is_empty()),
+    }
+    Ok(())
+}
+
+/// Asserts what a row says.
 fn stores<R: Abort + Threads + Wait + Sync>(
     rt: &R,
     alloc: Global,
@@ -47,11 +56,7 @@ fn stores<R: Abort + Threads + Wait + Sync>(
 ) -> Result<(), Fail> {
     let (asked, failing, name, text) = *stored;
     let ended = session(rt, alloc, asked, (failing, 0), &NoGate)?;
-    match ended.stored(name) {
-        Some(found) => assert_eq!(rt; found, text),
-        None => assert!(rt; text.is_empty()),
-    }
-    Ok(())
+    has(rt, &ended, name, text)
 }
 
 #[test]
@@ -78,8 +83,7 @@ fn a_certificate_counts_more_events_than_a_byte(rt: HostRuntime) -> Result<(), F
     let ended = session(&rt, alloc, asked.as_str(), NONE, &NoGate)?;
     let text =
         b"acl2p certificate 1\nbook many\nsha256 e33fec22c9d0a9f4ccc39dd2f9a90f3191cd9cd1eacdfeeb436f52db8acf39fe\nevents 300\nend\n";
-    assert_eq!(rt; ended.stored("many.cert"), Some(text.as_slice()));
-    Ok(())
+    has(&rt, &ended, "many.cert", text)
 }
 
 /// Two books, which put three pieces each: their first line, their event's text, and their last line.
@@ -103,16 +107,21 @@ const CUTS: [Cut; 11] = [
     ((4, 0), Status::WriteFault, 8, (true, false)),
 ];
 
-/// Asserts what is put and stored where these calls fail.
-fn cuts<R: Abort + Threads + Wait + Sync>(rt: &R, alloc: Global, cut: &Cut) -> Result<(), Fail> {
-    let (failing, status, lines, stored) = *cut;
-    let ended = session(rt, alloc, TWO, failing, &NoGate)?;
+/// Asserts the status, how many lines are put, and which certificates are stored.
+fn is_cut<R: Abort>(rt: &R, ended: &Ended, cut: &Cut) -> Result<(), Fail> {
+    let (_, status, lines, stored) = *cut;
     assert_eq!(rt; ended.status, status);
     assert_eq!(rt; ended.lines(), lines);
     let first = ended.stored("refl.cert").is_some();
     let second = ended.stored("a.cert").is_some();
     assert_eq!(rt; (first, second), stored);
     Ok(())
+}
+
+/// Asserts what is put and stored where these calls fail.
+fn cuts<R: Abort + Threads + Wait + Sync>(rt: &R, alloc: Global, cut: &Cut) -> Result<(), Fail> {
+    let ended = session(rt, alloc, TWO, cut.0, &NoGate)?;
+    is_cut(rt, &ended, cut)
 }
 
 #[test]

@@ -181,8 +181,18 @@ const ADMITTED: &str = r##"(defun f (x) x) => DEFUN F / DEFUN F admitted
 (defthm a (if x (equal x x) (not x)) :rule-classes nil) => DEFTHM A / Goal simplify 0 / DEFTHM A proved
 (defthm a (implies (equal x (car y)) (consp (cons x z))) :rule-classes nil) => DEFTHM A / Goal simplify 1 / Goal' simplify 0 / DEFTHM A proved"##;
 
-/// Certifies the book `b` of these events, and asserts the status and what is put: the book's first line, these lines, which
-/// stand between strokes, and the last line.
+/// The text of the book `b` that ends so: its first line, these lines, which stand between strokes, and the last line.
+fn book_text(alloc: Global, lines: &str, status: Status) -> Result<Vec<u8>, Fail> {
+    let last = if status == Status::Certified {
+        "certified"
+    } else {
+        "not certified"
+    };
+    let lines = format!(in alloc; "Book b / {lines} / Book b {last}")?;
+    text_of(alloc, lines.as_str())
+}
+
+/// Certifies the book `b` of these events, and asserts the status and the lines between its first and its last one.
 fn book_prints<R: Abort + Threads + Wait + Sync>(
     rt: &R,
     alloc: Global,
@@ -190,14 +200,9 @@ fn book_prints<R: Abort + Threads + Wait + Sync>(
     lines: &str,
     status: Status,
 ) -> Result<(), Fail> {
-    let last = if status == Status::Certified {
-        "certified"
-    } else {
-        "not certified"
-    };
-    let lines = format!(in alloc; "Book b / {lines} / Book b {last}")?;
-    let text = text_of(alloc, lines.as_str())?;
-    let ended = run(rt, alloc, "b", book_of(alloc, "b", events)?, NONE, &NoGate)?;
+    let text = book_text(alloc, lines, status)?;
+    let files = book_of(alloc, "b", events)?;
+    let ended = run(rt, alloc, "b", files, NONE, &NoGate)?;
     sees(rt, &ended, status, text.as_slice())
 }
 

@@ -27,19 +27,33 @@ fn printed<R: Abort + Threads + Wait + Sync>(
     Ok(ended)
 }
 
-/// Asserts that two workers print what one prints, and then a line for each drop where they are to tell it.
-fn two_print<R: Abort + Threads + Wait + Sync>(
+/// Asserts that two workers print what one prints.
+fn quiet<R: Abort + Threads + Wait + Sync>(
+    rt: &R,
+    alloc: Global,
+    serial: &[u8],
+) -> Result<(), Fail> {
+    let ended = printed(rt, alloc, "--workers 2")?;
+    assert_eq!(rt; ended.text(), serial);
+    Ok(())
+}
+
+/// Asserts that a session printed this text of so many lines, and then a line for each drop.
+fn has_told<R: Abort>(rt: &R, ended: &Ended, serial: &[u8], lines: usize) -> Result<(), Fail> {
+    assert!(rt; ended.text().starts_with(serial));
+    assert_eq!(rt; ended.lines().checked_sub(lines), Some(ended.drops));
+    Ok(())
+}
+
+/// Asserts that two workers print what one prints, which has so many lines, and then what was dropped.
+fn told<R: Abort + Threads + Wait + Sync>(
     rt: &R,
     alloc: Global,
     serial: &[u8],
     lines: usize,
 ) -> Result<(), Fail> {
-    let quiet = printed(rt, alloc, "--workers 2")?;
-    assert_eq!(rt; quiet.text(), serial);
-    let told = printed(rt, alloc, "--workers 2 --trace")?;
-    assert!(rt; told.text().starts_with(serial));
-    assert_eq!(rt; told.lines().checked_sub(lines), Some(told.drops));
-    Ok(())
+    let ended = printed(rt, alloc, "--workers 2 --trace")?;
+    has_told(rt, &ended, serial, lines)
 }
 
 #[test]
@@ -50,7 +64,8 @@ fn two_workers_print_what_one_prints_and_then_what_was_dropped(
     let serial = printed(&rt, alloc, "--trace")?;
     assert_eq!(rt; serial.drops, 0);
     for _ in 0..20 {
-        two_print(&rt, alloc, serial.text(), serial.lines())?;
+        quiet(&rt, alloc, serial.text())?;
+        told(&rt, alloc, serial.text(), serial.lines())?;
     }
     Ok(())
 }
@@ -145,8 +160,14 @@ Book b not certified
 
 const THREE_DROP: &[u8] = b"Dropped Subgoal 1 after Subgoal 2\n";
 
-/// Whether a session by two workers, which pass the gate, ends with a status and, behind the book's text, with this, while
-/// this call of the sink fails.
+/// Whether a session ended with a status and, behind the book's text, with this.
+fn ends<R: Abort>(rt: &R, ended: &Ended, status: Status, told: &[u8]) -> Result<bool, Fail> {
+    assert!(rt; ended.text().starts_with(THREE_TEXT));
+    let is_all = ended.text().len() == THREE_TEXT.len().saturating_add(told.len());
+    Ok(ended.status == status && is_all && ended.text().ends_with(told))
+}
+
+/// Whether a session by two workers, which pass the gate, ends so while this call of the sink fails.
 fn tells<R: Abort + Threads + Wait + Sync>(
     rt: &R,
     alloc: Global,
@@ -155,9 +176,7 @@ fn tells<R: Abort + Threads + Wait + Sync>(
     told: &[u8],
 ) -> Result<bool, Fail> {
     let ended = session(rt, alloc, THREE, (0, failing), &Behind::new())?;
-    assert!(rt; ended.text().starts_with(THREE_TEXT));
-    let ends = ended.text().len() == THREE_TEXT.len().saturating_add(told.len());
-    Ok(ended.status == status && ends && ended.text().ends_with(told))
+    ends(rt, &ended, status, told)
 }
 
 /// Whether one of twenty sessions ends with a status and, behind the book's text, with this. A goal is dropped in nearly
