@@ -1,6 +1,6 @@
 //! `acl2p` certifies ACL2 books: it reads the books that its words name from the current folder, proves their
-//! theorems, and prints each event's goals and verdict. What it does is `ap_session`'s `certify`; here stand the words that
-//! the system gives, the folder and the streams, and the exit status.
+//! theorems, and prints each event's goals and verdict. All its work is [`certify`], which it hands on from `ap_session`;
+//! here stand the words that the system gives, the folder and the streams, and the exit status.
 #![tactic(auto)]
 
 ghost use Rattle.std.specs.Prelude.{◌≡◌, ◌≢◌, [], take, drop, IfOk, IfErr, IsOkAnd, IsErr};
@@ -9,7 +9,8 @@ ghost use Rattle.std.specs.Vec.Iter.{into_iter_items, into_iter_len};
 ghost use Rattle.ap_session.specs.Session.{number_of};
 
 use ap_outside::{FolderLibrary, WriterSink};
-use ap_session::{NoGate, NoMemory, Status, certify, tell};
+pub use ap_session::{Report, Status, certify};
+use ap_session::{NoGate, NoMemory, tell};
 use std::alloc::{AllocError, Global};
 use std::env::Args;
 use std::io::ErrorKind;

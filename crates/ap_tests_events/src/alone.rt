@@ -41,7 +41,7 @@ IN-THEORY admitted
 ";
 
 /// Whether a theorem prints this behind the functions, with attempts of at most so many goals.
-fn prints_within<R: Threads + Wait + Sync>(
+fn prints<R: Threads + Wait + Sync>(
     rt: &R,
     alloc: Global,
     theorem: &str,
@@ -55,16 +55,7 @@ fn prints_within<R: Threads + Wait + Sync>(
     Ok(printed.as_slice() == wanted.as_bytes())
 }
 
-/// The same with at most a hundred goals.
-fn prints<R: Threads + Wait + Sync>(
-    rt: &R,
-    alloc: Global,
-    theorem: &str,
-    expected: &str,
-) -> Result<bool, Fail> {
-    prints_within(rt, alloc, theorem, 100, expected)
-}
-
+/// The first variable that is taken apart is eliminated.
 const ELIMINATED: &str = "DEFTHM E1
 Goal elim 2
 Subgoal 2 simplify 0
@@ -75,20 +66,7 @@ Goal: (OR (NOT (P (CAR X))) (Q (CDR X)))
 DEFTHM E1 refused 8.1 NoScheme
 ";
 
-#[test]
-fn the_first_variable_that_is_taken_apart_is_eliminated(rt: HostRuntime) -> Result<(), Fail> {
-    let alloc = rt.alloc();
-    assert!(rt;
-        prints(
-            &rt,
-            alloc,
-            "(defthm e1 (implies (p (car x)) (q (cdr x))))",
-            ELIMINATED
-        )?
-    );
-    Ok(())
-}
-
+/// A hypothesis that it is a cons leaves one child.
 const ELIMINATED_CONS: &str = "DEFTHM E2
 Goal elim 1
 Goal' push *1
@@ -98,20 +76,7 @@ Goal: (OR (NOT (CONSP X)) (NOT (P (CAR X))) (Q X))
 DEFTHM E2 refused 8.1 NoScheme
 ";
 
-#[test]
-fn a_hypothesis_that_it_is_a_cons_leaves_one_child(rt: HostRuntime) -> Result<(), Fail> {
-    let alloc = rt.alloc();
-    assert!(rt;
-        prints(
-            &rt,
-            alloc,
-            "(defthm e2 (implies (and (consp x) (p (car x))) (q x)))",
-            ELIMINATED_CONS
-        )?
-    );
-    Ok(())
-}
-
+/// A name that is taken is passed over.
 const ELIMINATED_NEW: &str = "DEFTHM E3
 Goal elim 1
 Goal' irrelevance 1
@@ -132,42 +97,21 @@ Subgoal *1/1': (OR (CONSP X3) (Q X1))
 DEFTHM E3 refused 8.1 NoScheme
 ";
 
-#[test]
-fn a_name_that_is_taken_is_passed_over(rt: HostRuntime) -> Result<(), Fail> {
-    let alloc = rt.alloc();
-    let theorem = "(defthm e3 (implies (and (consp x) (p (car x))) (q (app (cdr x) x1))))";
-    assert!(rt; prints(&rt, alloc, theorem, ELIMINATED_NEW)?);
-    Ok(())
-}
-
+/// An equation is used in the left side.
 const FERTILIZED_LEFT: &str = "DEFTHM F1
 Goal fertilize 1
 Goal' simplify 0
 DEFTHM F1 proved
 ";
 
-#[test]
-fn an_equation_is_used_in_the_left_side(rt: HostRuntime) -> Result<(), Fail> {
-    let alloc = rt.alloc();
-    let theorem = "(defthm f1 (implies (equal (p y) (q x)) (equal (r (p y)) (p x))))";
-    assert!(rt; prints(&rt, alloc, theorem, FERTILIZED_LEFT)?);
-    Ok(())
-}
-
+/// An equation is used in the right side first.
 const FERTILIZED_RIGHT: &str = "DEFTHM F2
 Goal fertilize 1
 Goal' simplify 0
 DEFTHM F2 proved
 ";
 
-#[test]
-fn an_equation_is_used_in_the_right_side_first(rt: HostRuntime) -> Result<(), Fail> {
-    let alloc = rt.alloc();
-    let theorem = "(defthm f2 (implies (equal (p y) (p x)) (equal (q (p y)) (q (p x)))))";
-    assert!(rt; prints(&rt, alloc, theorem, FERTILIZED_RIGHT)?);
-    Ok(())
-}
-
+/// An equation with a constant is not used.
 const NOT_FERTILIZED: &str = "DEFTHM F3
 Goal push *1
 *1 noscheme
@@ -176,15 +120,7 @@ Goal: (OR (NOT (EQUAL (P X) 'A)) (EQUAL (R (P X)) (P Y)))
 DEFTHM F3 refused 8.1 NoScheme
 ";
 
-#[test]
-fn an_equation_with_a_constant_is_not_used(rt: HostRuntime) -> Result<(), Fail> {
-    let alloc = rt.alloc();
-    let theorem =
-        "(defthm f3 (implies (equal (p x) 'a) (equal (r (p x)) (p y))) :rule-classes nil)";
-    assert!(rt; prints(&rt, alloc, theorem, NOT_FERTILIZED)?);
-    Ok(())
-}
-
+/// The smallest common call is generalized first.
 const GENERALIZED: &str = "DEFTHM G1
 Goal generalize 1
 Goal' generalize 1
@@ -195,14 +131,7 @@ Goal: (OR (NOT (P (APP (APP X Y) Z))) (Q (APP (APP X Y) Z)))
 DEFTHM G1 refused 8.1 NoScheme
 ";
 
-#[test]
-fn the_smallest_common_call_is_generalized_first(rt: HostRuntime) -> Result<(), Fail> {
-    let alloc = rt.alloc();
-    let theorem = "(defthm g1 (implies (p (app (app x y) z)) (q (app (app x y) z))))";
-    assert!(rt; prints(&rt, alloc, theorem, GENERALIZED)?);
-    Ok(())
-}
-
+/// A call that is a truth is not generalized.
 const NOT_GENERALIZED: &str = "DEFTHM G2
 Goal push *1
 *1 induct 3 (TRUE-LISTP X)
@@ -218,14 +147,7 @@ Subgoal *1/1': (OR (CONSP X) (NOT (P (EQUAL X 'NIL))) (Q (EQUAL X 'NIL)))
 DEFTHM G2 refused 8.1 NoScheme
 ";
 
-#[test]
-fn a_call_that_is_a_truth_is_not_generalized(rt: HostRuntime) -> Result<(), Fail> {
-    let alloc = rt.alloc();
-    let theorem = "(defthm g2 (implies (p (true-listp x)) (q (true-listp x))))";
-    assert!(rt; prints(&rt, alloc, theorem, NOT_GENERALIZED)?);
-    Ok(())
-}
-
+/// What a call answers restricts its variable.
 const RESTRICTED: &str = "DEFTHM G3
 Goal generalize 1
 Goal' push *1
@@ -236,21 +158,7 @@ Goal: (OR (NOT (P (DUP X))) (Q (DUP X)))
 DEFTHM G3 refused 8.3 GoalLimit
 ";
 
-#[test]
-fn what_a_call_answers_restricts_its_variable(rt: HostRuntime) -> Result<(), Fail> {
-    let alloc = rt.alloc();
-    assert!(rt;
-        prints_within(
-            &rt,
-            alloc,
-            "(defthm g3 (implies (p (dup x)) (q (dup x))))",
-            3,
-            RESTRICTED
-        )?
-    );
-    Ok(())
-}
-
+/// A part that says nothing of the rest is left out.
 const LEFT_OUT: &str = "DEFTHM I1
 Goal irrelevance 1
 Goal' push *1
@@ -260,14 +168,7 @@ Goal: (OR (NOT (P X)) (NOT (Q Y)) (EQUAL (CONS X Z) (P Z)))
 DEFTHM I1 refused 8.1 NoScheme
 ";
 
-#[test]
-fn a_part_that_says_nothing_of_the_rest_is_left_out(rt: HostRuntime) -> Result<(), Fail> {
-    let alloc = rt.alloc();
-    let theorem = "(defthm i1 (implies (and (p x) (q y)) (equal (cons x z) (p z))))";
-    assert!(rt; prints(&rt, alloc, theorem, LEFT_OUT)?);
-    Ok(())
-}
-
+/// Where all parts are irrelevant none is left out.
 const ALL_IRRELEVANT: &str = "DEFTHM I2
 Goal push *1
 *1 noscheme
@@ -276,16 +177,65 @@ Goal: (OR (NOT (P X)) (Q Y))
 DEFTHM I2 refused 8.1 NoScheme
 ";
 
+/// Theorems, with how many goals an attempt may visit at most, and what they print.
+const ROWS: [(&str, u32, &str); 11] = [
+    (
+        "(defthm e1 (implies (p (car x)) (q (cdr x))))",
+        100,
+        ELIMINATED,
+    ),
+    (
+        "(defthm e2 (implies (and (consp x) (p (car x))) (q x)))",
+        100,
+        ELIMINATED_CONS,
+    ),
+    (
+        "(defthm e3 (implies (and (consp x) (p (car x))) (q (app (cdr x) x1))))",
+        100,
+        ELIMINATED_NEW,
+    ),
+    (
+        "(defthm f1 (implies (equal (p y) (q x)) (equal (r (p y)) (p x))))",
+        100,
+        FERTILIZED_LEFT,
+    ),
+    (
+        "(defthm f2 (implies (equal (p y) (p x)) (equal (q (p y)) (q (p x)))))",
+        100,
+        FERTILIZED_RIGHT,
+    ),
+    (
+        "(defthm f3 (implies (equal (p x) 'a) (equal (r (p x)) (p y))) :rule-classes nil)",
+        100,
+        NOT_FERTILIZED,
+    ),
+    (
+        "(defthm g1 (implies (p (app (app x y) z)) (q (app (app x y) z))))",
+        100,
+        GENERALIZED,
+    ),
+    (
+        "(defthm g2 (implies (p (true-listp x)) (q (true-listp x))))",
+        100,
+        NOT_GENERALIZED,
+    ),
+    (
+        "(defthm g3 (implies (p (dup x)) (q (dup x))))",
+        3,
+        RESTRICTED,
+    ),
+    (
+        "(defthm i1 (implies (and (p x) (q y)) (equal (cons x z) (p z))))",
+        100,
+        LEFT_OUT,
+    ),
+    ("(defthm i2 (implies (p x) (q y)))", 100, ALL_IRRELEVANT),
+];
+
 #[test]
-fn where_all_parts_are_irrelevant_none_is_left_out(rt: HostRuntime) -> Result<(), Fail> {
-    let alloc = rt.alloc();
-    assert!(rt;
-        prints(
-            &rt,
-            alloc,
-            "(defthm i2 (implies (p x) (q y)))",
-            ALL_IRRELEVANT
-        )?
-    );
+fn each_process_by_itself_leaves_what_it_says(rt: HostRuntime) -> Result<(), Fail> {
+    for (theorem, goals, expected) in ROWS {
+        assert!(rt; prints(&rt, rt.alloc(), theorem, goals, expected)?);
+    }
     Ok(())
 }

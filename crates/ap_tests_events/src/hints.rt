@@ -1,9 +1,4 @@
-use crate::working::printed_by;
-use ap_events::NoMemory;
-use std::alloc::Global;
-use std::process::Abort;
-use std::sync::Wait;
-use std::thread::Threads;
+//! Hints: a table of events and of what they print.
 
 const FORBIDDEN: &str = r#"(defun app (x y) (if (consp x) (cons (car x) (app (cdr x) y)) y))
 (defthm app-assoc (equal (app (app x y) z) (app x (app y z))) :hints (("Goal" :do-not-induct t)))
@@ -293,52 +288,17 @@ DEFUN PLAIN
 DEFUN PLAIN admitted
 ";
 
-/// Compares what a text's events print with what is wanted.
-fn expect_printed<R: Threads + Wait + Sync + Abort>(
-    rt: &R,
-    alloc: Global,
-    events: &str,
-    wanted: &str,
-) -> Result<(), NoMemory> {
-    let printed = printed_by(rt, alloc, events)?;
-    assert_eq!(rt; printed.as_slice(), wanted.as_bytes());
-    Ok(())
-}
-
-#[test]
-fn a_goal_has_the_hint_for_its_name_and_those_below_what_it_sets(
-    rt: HostRuntime,
-) -> Result<(), NoMemory> {
-    for (events, wanted) in [
-        (CASES, CASES_PRINTED),
-        (ENABLED, ENABLED_PRINTED),
-        (OPENED, OPENED_PRINTED),
-        (USED, USED_PRINTED),
-    ] {
-        expect_printed(&rt, rt.alloc(), events, wanted)?;
-    }
-    Ok(())
-}
-
-#[test]
-fn induction_is_forbidden_and_names_that_no_goal_has_are_refused(
-    rt: HostRuntime,
-) -> Result<(), NoMemory> {
-    expect_printed(&rt, rt.alloc(), FORBIDDEN, FORBIDDEN_PRINTED)?;
-    expect_printed(&rt, rt.alloc(), MISNAMED, MISNAMED_PRINTED)
-}
-
-#[test]
-fn each_key_of_a_hint_does_what_it_says(rt: HostRuntime) -> Result<(), NoMemory> {
-    expect_printed(&rt, rt.alloc(), KEYS, KEYS_PRINTED)
-}
-
-#[test]
-fn hints_that_are_wrong_are_refused_before_any_proof(rt: HostRuntime) -> Result<(), NoMemory> {
-    expect_printed(&rt, rt.alloc(), REFUSED, REFUSED_PRINTED)
-}
-
-#[test]
-fn hints_of_a_function_hold_for_what_it_owes(rt: HostRuntime) -> Result<(), NoMemory> {
-    expect_printed(&rt, rt.alloc(), OWED, OWED_PRINTED)
-}
+/// Events, and what they print: a goal has the hint for its name, and those below what it sets; induction is forbidden, and
+/// names that no goal has are refused; each key of a hint does what it says; hints that are wrong are refused before any
+/// proof; and hints of a function hold for what it owes.
+pub(crate) const ROWS: [(&str, &str); 9] = [
+    (CASES, CASES_PRINTED),
+    (ENABLED, ENABLED_PRINTED),
+    (OPENED, OPENED_PRINTED),
+    (USED, USED_PRINTED),
+    (FORBIDDEN, FORBIDDEN_PRINTED),
+    (MISNAMED, MISNAMED_PRINTED),
+    (KEYS, KEYS_PRINTED),
+    (REFUSED, REFUSED_PRINTED),
+    (OWED, OWED_PRINTED),
+];

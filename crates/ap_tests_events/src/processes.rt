@@ -1,5 +1,11 @@
+//! The processes behind simplification: a table of events and of what they print, and the test of this and of hints.
+use crate::hints;
 use crate::working::printed_by;
+use std::alloc::Global;
+use std::process::Abort;
+use std::sync::Wait;
 use std::test::Fail;
+use std::thread::Threads;
 
 const REVERSED: &str = r#"(defun app (x y) (if (consp x) (cons (car x) (app (cdr x) y)) y))
 (defun rev (x) (if (consp x) (app (rev (cdr x)) (cons (car x) nil)) nil))
@@ -101,23 +107,29 @@ Subgoal *1.1/2': (OR (NOT (CONSP R1)) (NOT (EQUAL (REV (APP (CDR R1) (CONS X1 'N
 DEFTHM RB refused 8.1 NoScheme
 ";
 
-#[test]
-fn a_proof_goes_through_each_process_and_a_second_induction(rt: HostRuntime) -> Result<(), Fail> {
-    let printed = printed_by(&rt, rt.alloc(), REVERSED)?;
-    assert_eq!(rt; printed.as_slice(), REVERSED_PRINTED.as_bytes());
+/// Events, and what they print: a proof goes through each process and a second induction; elimination makes way for the
+/// induction hypothesis; and what is below a checkpoint is none.
+const ROWS: [(&str, &str); 3] = [
+    (REVERSED, REVERSED_PRINTED),
+    (ANNIHILATED, ANNIHILATED_PRINTED),
+    (UNTRUE, UNTRUE_PRINTED),
+];
+
+/// Compares what each row's events print with what is wanted.
+fn print_all<R: Threads + Wait + Sync + Abort>(
+    rt: &R,
+    alloc: Global,
+    rows: &[(&str, &str)],
+) -> Result<(), Fail> {
+    for (events, wanted) in rows {
+        let printed = printed_by(rt, alloc, events)?;
+        assert_eq!(rt; printed.as_slice(), wanted.as_bytes());
+    }
     Ok(())
 }
 
 #[test]
-fn elimination_makes_way_for_the_induction_hypothesis(rt: HostRuntime) -> Result<(), Fail> {
-    let printed = printed_by(&rt, rt.alloc(), ANNIHILATED)?;
-    assert_eq!(rt; printed.as_slice(), ANNIHILATED_PRINTED.as_bytes());
-    Ok(())
-}
-
-#[test]
-fn what_is_below_a_checkpoint_is_none(rt: HostRuntime) -> Result<(), Fail> {
-    let printed = printed_by(&rt, rt.alloc(), UNTRUE)?;
-    assert_eq!(rt; printed.as_slice(), UNTRUE_PRINTED.as_bytes());
-    Ok(())
+fn processes_and_hints_do_what_they_say(rt: HostRuntime) -> Result<(), Fail> {
+    print_all(&rt, rt.alloc(), &ROWS)?;
+    print_all(&rt, rt.alloc(), &hints::ROWS)
 }

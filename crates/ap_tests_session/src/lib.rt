@@ -3,6 +3,18 @@
 #![tactic(auto)]
 
 #[cfg(test)]
+mod books;
+#[cfg(test)]
 mod reverts;
 #[cfg(test)]
-mod sessions;
+mod running;
+#[cfg(test)]
+mod sizes;
+#[cfg(test)]
+mod stores;
+#[cfg(test)]
+mod texts;
+#[cfg(test)]
+mod words;
+#[cfg(test)]
+mod workers;

@@ -1,0 +1,133 @@
+//! What is stored of a book that is certified, by whom and when.
+use crate::running::{Ended, NONE, session};
+use ap_session::{NoGate, Status};
+use std::alloc::Global;
+use std::process::Abort;
+use std::sync::Wait;
+use std::test::Fail;
+use std::thread::Threads;
+
+/// What is asked for, which call of the library fails, a file, and what is stored in it; nothing where it isn't.
+type Stored = (&'static str, u32, &'static str, &'static [u8]);
+
+const STORED: [Stored; 6] = [
+    (
+        "refl",
+        0,
+        "refl.cert",
+        b"acl2p certificate 1\nbook refl\nsha256 be899e77109c580c5dcb9c41207e46f3e3e5afd9b1862e2b27bd03ad6b065e7a\nevents 1\nend\n",
+    ),
+    (
+        "refl a | refl: (defthm refl (equal x x) :rule-classes nil) | a: (defun f (x) x)",
+        3,
+        "refl.cert",
+        b"acl2p certificate 1\nbook refl\nsha256 be899e77109c580c5dcb9c41207e46f3e3e5afd9b1862e2b27bd03ad6b065e7a\nevents 1\nend\n",
+    ),
+    ("a | a: (defun f (x) x)", 2, "a.cert", b""),
+    ("a | a: (defun f (x) x) (defun f (x) x)", 0, "a.cert", b""),
+    (
+        "a | a: (local (defun g (x) x)) (defun f (x) (g x))",
+        0,
+        "a.cert",
+        b"",
+    ),
+    (
+        "a u | a: (defun f (x) x) | u: (include-book \"a\") (local (include-book \"a\")) (progn (local (defun g (x) x)) (encapsulate () (defun h (x) x) (defconst *c* 3)))",
+        0,
+        "u.cert",
+        b"acl2p certificate 1\nbook u\nsha256 c8774a14e8ec6d3957a2f366671dfe4f0acb9c9fec578ff82835ff3f497e806c\ninclude a c159457df1e97b5b23919e164936796a1868c65652b072062c9a825222f69bd4\nevents 5\nend\n",
+    ),
+];
+
+/// Asserts what is stored in a file behind a session; nothing where it isn't there.
+fn has<R: Abort>(rt: &R, ended: &Ended, name: &str, text: &[u8]) -> Result<(), Fail> {
+    match ended.stored(name) {
+        Some(found) => assert_eq!(rt; found, text),
+        None => assert!(rt; text.is_empty()),
+    }
+    Ok(())
+}
+
+/// Asserts what a row says.
+fn stores<R: Abort + Threads + Wait + Sync>(
+    rt: &R,
+    alloc: Global,
+    stored: &Stored,
+) -> Result<(), Fail> {
+    let (asked, failing, name, text) = *stored;
+    let ended = session(rt, alloc, asked, (failing, 0), &NoGate)?;
+    has(rt, &ended, name, text)
+}
+
+#[test]
+fn a_certified_book_leaves_its_certificate(rt: HostRuntime) -> Result<(), Fail> {
+    for stored in &STORED {
+        stores(&rt, rt.alloc(), stored)?;
+    }
+    Ok(())
+}
+
+/// A session of a book of 300 events, each of which enables nothing.
+fn many_events(alloc: Global) -> Result<String, Fail> {
+    let mut books = String::from_str(alloc, "many | many: ")?;
+    for _ in 0..300 {
+        books.push_str("(in-theory (enable)) ")?;
+    }
+    Ok(books)
+}
+
+#[test]
+fn a_certificate_counts_more_events_than_a_byte(rt: HostRuntime) -> Result<(), Fail> {
+    let alloc = rt.alloc();
+    let asked = many_events(alloc)?;
+    let ended = session(&rt, alloc, asked.as_str(), NONE, &NoGate)?;
+    let text =
+        b"acl2p certificate 1\nbook many\nsha256 e33fec22c9d0a9f4ccc39dd2f9a90f3191cd9cd1eacdfeeb436f52db8acf39fe\nevents 300\nend\n";
+    has(&rt, &ended, "many.cert", text)
+}
+
+/// Two books, which put three pieces each: their first line, their event's text, and their last line.
+const TWO: &str = "refl a | refl: (defthm refl (equal x x) :rule-classes nil) | a: (defun f (x) x)";
+
+/// Which call of the library and which of the sink fails, the status, how many lines are put, and whether the first book's
+/// certificate is stored, and the second one's.
+type Cut = ((u32, u32), Status, usize, (bool, bool));
+
+const CUTS: [Cut; 11] = [
+    (NONE, Status::Certified, 9, (true, true)),
+    ((0, 1), Status::WriteFault, 0, (false, false)),
+    ((0, 2), Status::WriteFault, 1, (false, false)),
+    ((0, 3), Status::WriteFault, 4, (true, false)),
+    ((0, 4), Status::WriteFault, 5, (true, false)),
+    ((0, 5), Status::WriteFault, 6, (true, false)),
+    ((0, 6), Status::WriteFault, 8, (true, true)),
+    ((1, 0), Status::ReadFault, 0, (false, false)),
+    ((2, 0), Status::WriteFault, 4, (false, false)),
+    ((3, 0), Status::ReadFault, 5, (true, false)),
+    ((4, 0), Status::WriteFault, 8, (true, false)),
+];
+
+/// Asserts the status, how many lines are put, and which certificates are stored.
+fn is_cut<R: Abort>(rt: &R, ended: &Ended, cut: &Cut) -> Result<(), Fail> {
+    let (_, status, lines, stored) = *cut;
+    assert_eq!(rt; ended.status, status);
+    assert_eq!(rt; ended.lines(), lines);
+    let first = ended.stored("refl.cert").is_some();
+    let second = ended.stored("a.cert").is_some();
+    assert_eq!(rt; (first, second), stored);
+    Ok(())
+}
+
+/// Asserts what is put and stored where these calls fail.
+fn cuts<R: Abort + Threads + Wait + Sync>(rt: &R, alloc: Global, cut: &Cut) -> Result<(), Fail> {
+    let ended = session(rt, alloc, TWO, cut.0, &NoGate)?;
+    is_cut(rt, &ended, cut)
+}
+
+#[test]
+fn a_certificate_is_stored_before_the_last_line(rt: HostRuntime) -> Result<(), Fail> {
+    for cut in &CUTS {
+        cuts(&rt, rt.alloc(), cut)?;
+    }
+    Ok(())
+}
