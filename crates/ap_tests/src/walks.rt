@@ -152,6 +152,7 @@ fn rule(initial: bool, otf: bool, goal_limit: u32) -> Rule
     Rule {
         initial,
         otf,
+        revert: 2,
         goal_limit: goal_limit.clamp(1, 200002),
     }
 }
@@ -208,6 +209,7 @@ fn wide(initial: bool) -> Rule
     Rule {
         initial,
         otf: false,
+        revert: 2,
         goal_limit: 10,
     }
 }

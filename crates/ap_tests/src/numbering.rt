@@ -26,7 +26,7 @@ fn one_byte(alloc: Global, byte: u8) -> Result<Bytes, NoMemory>
 
 impl Admitter for Numbering {
     ghost use Rattle.std.specs.Prelude.{ℕ};
-    ghost use Rattle.ap_tests_books.specs.Numbering.{Numbers, numbered, ended};
+    ghost use Rattle.ap_tests.specs.Numbering.{Numbers, numbered, ended};
 
     ghost State = { Numbers };
 
