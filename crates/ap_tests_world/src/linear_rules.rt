@@ -3,12 +3,14 @@ ghost use Rattle.std.specs.Prelude.{◌≡◌, length, take, IfOk, OnOk};
 ghost use Rattle.ap_world.specs.Names.{implies_name};
 ghost use Rattle.ap_world.specs.Ground.{two};
 
-use crate::text::{classes, put_hyps, put_term, term, terms};
+use crate::expect::expect;
+use crate::showing::{classes, put_hyps};
 use ap_eval::is_known;
 use ap_ground::ground_world;
 use ap_list::{Bytes, NoMemory, Seq};
 use ap_rules::{LinearRule, Ruled, linear_for, linear_rule};
 use ap_term::{Term, copy_term};
+use ap_tests_terms::{put_term, term, terms};
 use ap_value::acl2;
 use ap_world::copy_theory;
 use std::alloc::{AllocError, Global};
@@ -137,12 +139,6 @@ fn bearing(alloc: Global, world: &Ruled, atoms: &str) -> Result<Bytes, NoMemory>
     Ok(out)
 }
 
-/// Compares a text with what it should be.
-fn expect(rt: &impl Abort, found: &[u8], wanted: &str, of: &str) {
-    let found = str::from_utf8(found).unwrap_or("no text");
-    assert_eq!(rt; found, wanted, "{of}");
-}
-
 /// Compares each linear rule with its line; there are no others.
 fn expect_rules(rt: &impl Abort, alloc: Global, world: &Ruled) -> Result<(), NoMemory> {
     for (place, wanted) in RULES.lines().enumerate() {
@@ -152,12 +148,6 @@ fn expect_rules(rt: &impl Abort, alloc: Global, world: &Ruled) -> Result<(), NoM
     }
     assert!(rt; linear_rule(world.rules(), RULES.lines().count()).is_none());
     Ok(())
-}
-
-#[test]
-fn each_conjunct_is_a_rule(rt: HostRuntime) -> Result<(), NoMemory> {
-    let world = with_theorems(rt.alloc())?;
-    expect_rules(&rt, rt.alloc(), &world)
 }
 
 /// Compares the rules that may bear on atoms with what they should be.
@@ -181,12 +171,6 @@ fn expect_all_bearing(rt: &impl Abort, alloc: Global, world: &Ruled) -> Result<(
     Ok(())
 }
 
-#[test]
-fn rules_are_found_by_the_heads_of_atoms(rt: HostRuntime) -> Result<(), NoMemory> {
-    let world = with_theorems(rt.alloc())?;
-    expect_all_bearing(&rt, rt.alloc(), &world)
-}
-
 /// Compares the rules that may bear on a call of `car` once a theorem more is added, and once it is taken away.
 fn expect_there_and_back(
     rt: &impl Abort,
@@ -203,7 +187,11 @@ fn expect_there_and_back(
 }
 
 #[test]
-fn a_rule_goes_with_its_theorem(rt: HostRuntime) -> Result<(), NoMemory> {
+fn each_conjunct_is_a_rule_which_is_found_by_heads_and_goes_with_its_theorem(
+    rt: HostRuntime,
+) -> Result<(), NoMemory> {
     let mut world = with_theorems(rt.alloc())?;
+    expect_rules(&rt, rt.alloc(), &world)?;
+    expect_all_bearing(&rt, rt.alloc(), &world)?;
     expect_there_and_back(&rt, rt.alloc(), &mut world)
 }

@@ -4,8 +4,8 @@ use Rattle.ap_world.specs.Meaning.{Valid}
 use Rattle.ap_world.specs.Sound.{known, Sound}
 use Rattle.ap_world.specs.Ground.{two}
 use Rattle.ap_world.specs.World.{Shown, function_of}
-use Rattle.ap_tests_rules.proofs.Handed.{itself_valid}
-use Rattle.ap_tests_rules.proofs.linear.add.Goals as goal
+use Rattle.ap_tests_world.proofs.Handed.{itself_valid}
+use Rattle.ap_tests_world.proofs.linear_rules.add.Goals as goal
 
 pub add_theorem-requires-clause-valid : goal.add_theorem-requires-clause-valid
 unfolding implies_name

@@ -1,6 +1,8 @@
-use crate::text::{classes, shown, sides, term, word};
+use crate::expect::expect;
+use crate::showing::{classes, shown, word};
 use ap_list::{Bytes, NoMemory};
 use ap_rules::rules_of;
+use ap_tests_terms::{sides, term};
 use ap_value::acl2;
 use std::alloc::Global;
 
@@ -75,8 +77,7 @@ fn each_theorem_has_its_rules(rt: HostRuntime) -> Result<(), NoMemory> {
         let (stated, wanted) = sides(line);
         let (initials, text) = stated.split_once(' ').unwrap_or(("", stated));
         let found = found(rt.alloc(), initials, text)?;
-        let found = str::from_utf8(found.as_slice()).unwrap_or("no text");
-        assert_eq!(rt; found, wanted, "{line}");
+        expect(&rt, found.as_slice(), wanted, line);
     }
     Ok(())
 }
