@@ -1,43 +1,13 @@
 //! Definitions for tests, written as text.
 
 use ap_list::{NoMemory, Seq};
-use ap_reader::{Body, Form, forms};
+use ap_reader::{Body, Form};
 use ap_term::Term;
 use ap_terminate::cases_of;
-use ap_value::{Symbol, Value, copy_symbol};
+use ap_tests_terms::{read, written};
+use ap_value::{Symbol, copy_symbol};
 use ap_world::{Case, Defun, Measure};
 use std::alloc::{AllocError, Global};
-
-/// The term that is written: a symbol is a variable, a number or a quoted symbol a constant, a list a call.
-#[cycle(writing)]
-fn term(alloc: Global, form: &Form) -> Result<Term, NoMemory> {
-    match &form.body {
-        Body::Sym(name) => Ok(Term::Var(copy_symbol(alloc, name)?)),
-        Body::Int(n) => Ok(Term::Quote(Value::Int(*n))),
-        Body::Quoted(inner) => match &inner.get().body {
-            Body::Sym(name) => Ok(Term::Quote(Value::Sym(copy_symbol(alloc, name)?))),
-            _ => Err(AllocError),
-        },
-        Body::List(items) => match items.as_slice() {
-            [head, rest @ ..] => {
-                let arguments = terms(alloc, rest)?;
-                Term::call(alloc, symbol(alloc, head)?, arguments)
-            }
-            [] => Err(AllocError),
-        },
-        _ => Err(AllocError),
-    }
-}
-
-/// The terms that are written.
-#[cycle(writing)]
-fn terms(alloc: Global, forms: &[Form]) -> Result<Seq<Term>, NoMemory> {
-    let mut out = Seq::new(alloc);
-    for form in forms {
-        out.push(term(alloc, form)?)?;
-    }
-    Ok(out)
-}
 
 /// The symbol that is written.
 fn symbol(alloc: Global, form: &Form) -> Result<Symbol, NoMemory> {
@@ -64,11 +34,20 @@ fn items(form: &Form) -> &[Form] {
     }
 }
 
+/// The components that are written.
+fn components(alloc: Global, forms: &[Form]) -> Result<Seq<Term>, NoMemory> {
+    let mut out = Seq::new(alloc);
+    for form in forms {
+        out.push(written(alloc, form)?)?;
+    }
+    Ok(out)
+}
+
 /// The measure that is written: a list of its components, or a word where none is given.
 fn measure(alloc: Global, form: &Form) -> Result<Option<Measure>, NoMemory> {
     match &form.body {
         Body::Sym(_) => Ok(None),
-        _ => Ok(Some(Measure(terms(alloc, items(form))?))),
+        _ => Ok(Some(Measure(components(alloc, items(form))?))),
     }
 }
 
@@ -78,7 +57,7 @@ fn body_and_cases(
     name: &Symbol,
     form: &Form,
 ) -> Result<(Term, Seq<Case>), NoMemory> {
-    let body = term(alloc, form)?;
+    let body = written(alloc, form)?;
     let cases = cases_of(alloc, name, &body)?;
     Ok((body, cases))
 }
@@ -103,11 +82,8 @@ fn definition(alloc: Global, parts: &[Form]) -> Result<Defun, NoMemory> {
 
 /// The definition that is written.
 pub(crate) fn defun(alloc: Global, text: &str) -> Result<Defun, NoMemory> {
-    match forms(alloc, text.as_bytes()) {
-        Ok(read) => match read.as_slice() {
-            [form] => definition(alloc, items(form)),
-            _ => Err(AllocError),
-        },
-        Err(_) => Err(AllocError),
+    match read(alloc, text).as_slice() {
+        [form] => definition(alloc, items(form)),
+        _ => Err(AllocError),
     }
 }

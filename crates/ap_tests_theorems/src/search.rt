@@ -1,6 +1,8 @@
-use crate::text::{literals, put_literals, sides};
+use crate::expect::expect;
+use crate::polys::{literals, put_literals};
 use ap_linear::{Linear, LinearOracle, Poly, refute};
 use ap_list::{Bytes, NoMemory, Seq};
+use ap_tests_terms::sides;
 use ap_world::World;
 use std::alloc::Global;
 use std::process::Abort;
@@ -55,17 +57,9 @@ fn expect_certificates(rt: &impl Abort, alloc: Global, w: &World) -> Result<(), 
     for line in LISTS.lines() {
         let (text, wanted) = sides(line);
         let found = certificate(alloc, w, text)?;
-        let found = str::from_utf8(found.as_slice()).unwrap_or("no text");
-        assert_eq!(rt; found, wanted, "{line}");
+        expect(rt, found.as_slice(), wanted, line);
     }
     Ok(())
-}
-
-#[test]
-fn each_list_has_its_first_certificate(rt: HostRuntime) -> Result<(), NoMemory> {
-    assert_eq!(rt; LISTS.lines().count(), 19);
-    let world = World::bare(rt.alloc());
-    expect_certificates(&rt, rt.alloc(), &world)
 }
 
 /// Puts a literal's polynomials so many times, but for another one's at a place.
@@ -123,7 +117,11 @@ fn expect_crowds(rt: &impl Abort, alloc: Global, w: &World) -> Result<(), NoMemo
 }
 
 #[test]
-fn of_more_than_64_sums_the_first_are_kept(rt: HostRuntime) -> Result<(), NoMemory> {
+fn each_list_has_its_first_certificate_of_the_first_64_sums(
+    rt: HostRuntime,
+) -> Result<(), NoMemory> {
+    assert_eq!(rt; LISTS.lines().count(), 19);
     let world = World::bare(rt.alloc());
+    expect_certificates(&rt, rt.alloc(), &world)?;
     expect_crowds(&rt, rt.alloc(), &world)
 }

@@ -3,7 +3,7 @@ use Rattle.ap_list.specs.Lists.{all_true}
 use Rattle.ap_world.specs.Sound.{known}
 use Rattle.ap_world.specs.World.{function_of}
 use Rattle.ap_world.proofs.Knowing.{each_true}
-use Rattle.ap_tests_induction.proofs.given.clause.Goals as goal
+use Rattle.ap_tests_theorems.proofs.clauses.clause.Goals as goal
 
 pub returns-then-are_known : goal.returns-then-are_known
 returns-then-are_known c =
