@@ -3,14 +3,15 @@ ghost use Rattle.std.specs.Prelude.{IfOk};
 ghost use Rattle.ap_world.specs.World.{function_of};
 ghost use Rattle.ap_translate.specs.Laws.{HasMacroFunctions};
 
-use crate::table::{expect, one_form, sides, word};
+use crate::expect::expect;
+use crate::forms::{one_form, word};
 use ap_ground::ground_world;
 use ap_ground::laws::ground_has_its_functions;
 use ap_hints::{Hint, HintError, Hints, hints_of, no_hints, same_hints};
 use ap_list::{Bytes, NoMemory};
-use ap_print::print_term;
 use ap_reader::Form;
 use ap_term::{Subst, Term};
+use ap_tests_terms::{put_term, sides};
 use ap_value::Symbol;
 use ap_walk::Process;
 use ap_world::{Rune, RuneKind, Theory, World};
@@ -105,7 +106,7 @@ hints => UnknownKeyword
 fn put_terms(alloc: Global, text: &mut Bytes, terms: &[Term]) -> Result<(), NoMemory> {
     for term in terms {
         text.extend(b" ")?;
-        text.append(print_term(alloc, term)?)?;
+        put_term(alloc, text, term)?;
     }
     Ok(())
 }
@@ -174,7 +175,7 @@ fn put_pair(alloc: Global, text: &mut Bytes, pair: &(Symbol, Term)) -> Result<()
     text.extend(b" ")?;
     put_symbol(text, &pair.0)?;
     text.extend(b" ")?;
-    text.append(print_term(alloc, &pair.1)?)
+    put_term(alloc, text, &pair.1)
 }
 
 /// A theorem that is used, and each variable with what replaces it.
@@ -205,7 +206,7 @@ fn put_scheme(alloc: Global, text: &mut Bytes, scheme: &Option<Term>) -> Result<
     match scheme {
         Some(scheme) => {
             text.extend(b" induct ")?;
-            text.append(print_term(alloc, scheme)?)
+            put_term(alloc, text, scheme)
         }
         None => Ok(()),
     }
@@ -263,7 +264,7 @@ fn answer(alloc: Global, world: &World, form: &Form) -> Result<Bytes, NoMemory>
 fn answered(alloc: Global, world: &World, text: &str) -> Result<Bytes, NoMemory>
     requires { HasMacroFunctions (function_of world.now.entries) }
 {
-    match one_form(alloc, text.as_bytes()) {
+    match one_form(alloc, text) {
         Some(form) => answer(alloc, world, &form),
         None => word(alloc, "not one form"),
     }
@@ -278,32 +279,23 @@ fn world(alloc: Global) -> Result<World, NoMemory>
     Ok(world)
 }
 
-fn expect_all(rt: &impl Abort, alloc: Global, rows: &str) -> Result<(), NoMemory> {
-    let world = world(alloc)?;
-    for line in rows.lines() {
-        let found = answered(alloc, &world, sides(line).0)?;
-        expect(rt, line, found.as_slice());
+fn expect_all(rt: &impl Abort, alloc: Global, world: &World) -> Result<(), NoMemory>
+    requires { HasMacroFunctions (function_of world.now.entries) }
+{
+    for table in [READ, REFUSED] {
+        for line in table.lines() {
+            let found = answered(alloc, world, sides(line).0)?;
+            expect(rt, found.as_slice(), sides(line).1, line);
+        }
     }
     Ok(())
-}
-
-#[test]
-fn each_key_is_read(rt: HostRuntime) -> Result<(), NoMemory> {
-    assert_eq!(rt; READ.lines().count(), 25);
-    expect_all(&rt, rt.alloc(), READ)
-}
-
-#[test]
-fn the_first_that_is_wrong_is_refused(rt: HostRuntime) -> Result<(), NoMemory> {
-    assert_eq!(rt; REFUSED.lines().count(), 56);
-    expect_all(&rt, rt.alloc(), REFUSED)
 }
 
 /// The hints of a text's one form in the ground world, none where they are refused.
 fn hints(alloc: Global, world: &World, text: &str) -> Hints
     requires { HasMacroFunctions (function_of world.now.entries) }
 {
-    match one_form(alloc, text.as_bytes()) {
+    match one_form(alloc, text) {
         Some(form) => match hints_of(alloc, world, &form) {
             Ok(hints) => hints,
             Err(_) => no_hints(alloc),
@@ -312,26 +304,41 @@ fn hints(alloc: Global, world: &World, text: &str) -> Hints
     }
 }
 
-#[test]
-fn hints_are_one_whatever_the_case_of_letters(rt: HostRuntime) -> Result<(), NoMemory> {
-    let world = world(rt.alloc())?;
-    let a = hints(
-        rt.alloc(),
-        &world,
+/// Each row: two texts of hints, and whether the hints are one.
+const SAME: &[(&str, &str, bool)] = &[
+    (
         r#"(("Goal" :use (:instance car-cons (x z))))"#,
-    );
-    let b = hints(
-        rt.alloc(),
-        &world,
         r#"(("GOAL" :use ((:instance car-cons (x z)))))"#,
-    );
-    let c = hints(
-        rt.alloc(),
-        &world,
+        true,
+    ),
+    (
+        r#"(("Goal" :use (:instance car-cons (x z))))"#,
         r#"(("GOAL" :use ((:instance car-cons (x y)))))"#,
-    );
-    assert!(rt; same_hints(&a, &b));
-    assert!(rt; !same_hints(&a, &c));
-    assert!(rt; !same_hints(&a, &no_hints(rt.alloc())));
+        false,
+    ),
+    (r#"(("Goal" :use (:instance car-cons (x z))))"#, "()", false),
+];
+
+/// Whether the hints of two texts are one.
+fn are_same(alloc: Global, world: &World, a: &str, b: &str) -> bool
+    requires { HasMacroFunctions (function_of world.now.entries) }
+{
+    same_hints(&hints(alloc, world, a), &hints(alloc, world, b))
+}
+
+fn expect_same(rt: &impl Abort, alloc: Global, world: &World)
+    requires { HasMacroFunctions (function_of world.now.entries) }
+{
+    for (a, b, wanted) in SAME {
+        assert_eq!(rt; are_same(alloc, world, *a, *b), *wanted, "{a} {b}");
+    }
+}
+
+#[test]
+fn hints_are_read_or_the_first_that_is_wrong_is_refused(rt: HostRuntime) -> Result<(), NoMemory> {
+    assert_eq!(rt; (READ.lines().count(), REFUSED.lines().count()), (25, 56));
+    let world = world(rt.alloc())?;
+    expect_all(&rt, rt.alloc(), &world)?;
+    expect_same(&rt, rt.alloc(), &world);
     Ok(())
 }

@@ -4,7 +4,7 @@ use Rattle.ap_world.specs.Meaning.{Defs}
 use Rattle.ap_world.specs.Sound.{takes, HasFunctions}
 use Rattle.ap_world.specs.World.{Shown, function_of}
 use Rattle.ap_translate.specs.Laws.{HasMacroFunctions}
-use Rattle.ap_tests_translation.proofs.hints.world.Goals as goal
+use Rattle.ap_tests_world.proofs.hints.world.Goals as goal
 
 -- the functions that macros stand for are among the given ones
 macro_functions : (D : Defs) → HasFunctions D → HasMacroFunctions D

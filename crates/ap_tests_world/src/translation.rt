@@ -1,9 +1,11 @@
-use crate::table::{expect, one_form, refusal, sides, symbol, word};
+use crate::expect::expect;
+use crate::forms::{one_form, refusal, symbol, word};
 use ap_ground::ground_world;
 use ap_list::{Bytes, NoMemory, Seq};
 use ap_print::print_term;
 use ap_reader::Form;
 use ap_term::{Term, size};
+use ap_tests_terms::sides;
 use ap_translate::{TransError, translate};
 use ap_value::{Symbol, Value};
 use ap_world::World;
@@ -251,7 +253,7 @@ fn answered(
     text: &str,
     bound: Option<&Seq<Symbol>>,
 ) -> Result<Bytes, NoMemory> {
-    match one_form(alloc, text.as_bytes()) {
+    match one_form(alloc, text) {
         Some(form) => answer(alloc, world, &form, bound),
         None => word(alloc, "not one form"),
     }
@@ -267,32 +269,9 @@ fn expect_lines(
 ) -> Result<(), NoMemory> {
     for line in table.lines() {
         let found = answered(alloc, world, sides(line).0, bound)?;
-        expect(rt, line, found.as_slice());
+        expect(rt, found.as_slice(), sides(line).1, line);
     }
     Ok(())
-}
-
-/// The same of a table of so many lines, in the ground world with the constant `*k*`.
-fn expect_all(
-    rt: &impl Abort,
-    alloc: Global,
-    table: &str,
-    count: usize,
-    bound: Option<&Seq<Symbol>>,
-) -> Result<(), NoMemory> {
-    assert_eq!(rt; table.lines().count(), count);
-    let world = world_with_constant(alloc)?;
-    expect_lines(rt, alloc, &world, table, bound)
-}
-
-#[test]
-fn each_form_is_its_term(rt: HostRuntime) -> Result<(), NoMemory> {
-    expect_all(&rt, rt.alloc(), TERMS, 95, None)
-}
-
-#[test]
-fn each_first_refusal_has_its_place(rt: HostRuntime) -> Result<(), NoMemory> {
-    expect_all(&rt, rt.alloc(), REFUSALS, 76, None)
 }
 
 /// `x` alone
@@ -300,17 +279,6 @@ fn one_variable(alloc: Global) -> Result<Seq<Symbol>, NoMemory> {
     let mut bound = Seq::new(alloc);
     bound.push(symbol(alloc, "X")?)?;
     Ok(bound)
-}
-
-#[test]
-fn a_variable_that_is_not_bound_is_unknown(rt: HostRuntime) -> Result<(), NoMemory> {
-    let bound = one_variable(rt.alloc())?;
-    expect_all(&rt, rt.alloc(), BOUND, 12, Some(&bound))
-}
-
-#[test]
-fn a_term_of_more_than_4096_nodes_is_refused_last(rt: HostRuntime) -> Result<(), NoMemory> {
-    expect_all(&rt, rt.alloc(), LARGE, 7, None)
 }
 
 /// A form in which `open` stands 400 times, each with its closing parenthesis behind `x`.
@@ -335,7 +303,7 @@ fn nodes(alloc: Global, world: &World, form: &Form) -> Option<u64> {
 }
 
 /// The nodes of the term of a text's one form.
-fn text_nodes(alloc: Global, world: &World, text: &[u8]) -> Option<u64> {
+fn text_nodes(alloc: Global, world: &World, text: &str) -> Option<u64> {
     match one_form(alloc, text) {
         Some(form) => nodes(alloc, world, &form),
         None => None,
@@ -345,18 +313,43 @@ fn text_nodes(alloc: Global, world: &World, text: &[u8]) -> Option<u64> {
 /// The nodes of the term of the form in which `open` stands 400 times.
 fn nested_nodes(alloc: Global, world: &World, open: &[u8]) -> Result<Option<u64>, NoMemory> {
     let text = nested(alloc, open)?;
-    Ok(text_nodes(alloc, world, text.as_slice()))
+    Ok(text_nodes(alloc, world, str::from_utf8(text.as_slice()).unwrap_or("")))
 }
 
 /// Each row: what stands 400 times, and the nodes of the term.
 const NESTED: &[(&[u8], u64)] = &[(b"(list ", 801), (b"(let nil ", 1), (b"(let* nil ", 1)];
 
-#[test]
-fn the_deepest_forms_of_a_text_are_terms(rt: HostRuntime) -> Result<(), NoMemory> {
-    let world = world_with_constant(rt.alloc())?;
+/// Each table in which any variable may stand, and how many lines it has.
+const TABLES: &[(&str, usize)] = &[(TERMS, 95), (REFUSALS, 76), (LARGE, 7)];
+
+fn expect_tables(rt: &impl Abort, alloc: Global, world: &World) -> Result<(), NoMemory> {
+    for (table, count) in TABLES {
+        assert_eq!(rt; table.lines().count(), *count);
+        expect_lines(rt, alloc, world, *table, None)?;
+    }
+    Ok(())
+}
+
+/// The same of the table where `x` alone is bound.
+fn expect_bound(rt: &impl Abort, alloc: Global, world: &World) -> Result<(), NoMemory> {
+    assert_eq!(rt; BOUND.lines().count(), 12);
+    let bound = one_variable(alloc)?;
+    expect_lines(rt, alloc, world, BOUND, Some(&bound))
+}
+
+/// Compares the nodes of the terms of the deepest forms of a text with their rows.
+fn expect_nested(rt: &impl Abort, alloc: Global, world: &World) -> Result<(), NoMemory> {
     for (open, count) in NESTED {
-        let found = nested_nodes(rt.alloc(), &world, *open)?;
+        let found = nested_nodes(alloc, world, *open)?;
         assert!(rt; found == Some(*count), "{count}");
     }
     Ok(())
+}
+
+#[test]
+fn each_form_is_its_term_or_its_first_refusal(rt: HostRuntime) -> Result<(), NoMemory> {
+    let world = world_with_constant(rt.alloc())?;
+    expect_tables(&rt, rt.alloc(), &world)?;
+    expect_bound(&rt, rt.alloc(), &world)?;
+    expect_nested(&rt, rt.alloc(), &world)
 }

@@ -1,7 +1,9 @@
-use crate::table::{expect, one_form, refusal, sides, word};
+use crate::expect::expect;
+use crate::forms::{one_form, refusal, word};
 use ap_list::{Bytes, NoMemory};
 use ap_print::print_value;
 use ap_reader::{Body, Form};
+use ap_tests_terms::sides;
 use ap_translate::{constant_value, may_name, may_name_constant};
 use ap_value::Symbol;
 use std::alloc::Global;
@@ -77,20 +79,10 @@ fn answer(alloc: Global, form: &Form) -> Result<Bytes, NoMemory> {
 
 /// The same of a text's one form.
 fn answered(alloc: Global, text: &str) -> Result<Bytes, NoMemory> {
-    match one_form(alloc, text.as_bytes()) {
+    match one_form(alloc, text) {
         Some(form) => answer(alloc, &form),
         None => word(alloc, "not one form"),
     }
-}
-
-#[test]
-fn each_written_constant_has_its_value(rt: HostRuntime) -> Result<(), NoMemory> {
-    assert_eq!(rt; CONSTANTS.lines().count(), 25);
-    for line in CONSTANTS.lines() {
-        let found = answered(rt.alloc(), sides(line).0)?;
-        expect(&rt, line, found.as_slice());
-    }
-    Ok(())
 }
 
 /// What a symbol may name.
@@ -106,7 +98,7 @@ fn named(symbol: &Symbol) -> &'static [u8] {
 
 /// What a text's one symbol may name.
 fn named_by(alloc: Global, text: &str) -> &'static [u8] {
-    match one_form(alloc, text.as_bytes()) {
+    match one_form(alloc, text) {
         Some(form) => named_by_form(&form),
         None => b"not one form",
     }
@@ -120,9 +112,24 @@ fn named_by_form(form: &Form) -> &'static [u8] {
 }
 
 #[test]
-fn macros_and_constants_name_nothing(rt: HostRuntime) {
-    assert_eq!(rt; NAMES.lines().count(), 31);
-    for line in NAMES.lines() {
-        expect(&rt, line, named_by(rt.alloc(), sides(line).0));
+fn written_constants_have_values_and_macros_and_constants_name_nothing(
+    rt: HostRuntime,
+) -> Result<(), NoMemory> {
+    assert_eq!(rt;
+        (CONSTANTS.lines().count(), NAMES.lines().count()),
+        (25, 31)
+    );
+    for line in CONSTANTS.lines() {
+        let found = answered(rt.alloc(), sides(line).0)?;
+        expect(&rt, found.as_slice(), sides(line).1, line);
     }
+    for line in NAMES.lines() {
+        expect(
+            &rt,
+            named_by(rt.alloc(), sides(line).0),
+            sides(line).1,
+            line,
+        );
+    }
+    Ok(())
 }
