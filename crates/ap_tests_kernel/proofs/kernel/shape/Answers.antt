@@ -2,7 +2,7 @@ use Rattle.std.proofs.Common.{◌≡◌, true, sym, subst, rules}
 use Rattle.ap_world.specs.Meaning.{HasValue}
 use Rattle.ap_world.specs.Sound.{known}
 use Rattle.ap_world.specs.World.{function_of}
-use Rattle.ap_tests_kernel.proofs.kernel.shaped.Goals as goal
+use Rattle.ap_tests_kernel.proofs.kernel.shape.Goals as goal
 
 pub mask-requires-clause-term : goal.mask-requires-clause-term
 mask-requires-clause-term c =
