@@ -329,7 +329,8 @@ const NO_SCHEME: Verdict = Verdict::Failed(Reason::NoScheme);
 
 const FORBIDDEN: Verdict = Verdict::Failed(Reason::DoNotInduct);
 
-const REVERTS: &[Row] = &[
+const ROWS: &[Row] = &[
+    // A second push reverts to the original.
     (
         Trial(Kind::Twice, false, false, 10),
         Verdict::Qed,
@@ -345,14 +346,7 @@ const REVERTS: &[Row] = &[
         NONE_LEFT,
         &[("Goal", 3, End::Revert), ("*1", 1, End::Limit)],
     ),
-];
-
-#[test]
-fn a_second_push_reverts_to_the_original(rt: HostRuntime) -> Result<(), NoMemory> {
-    expect_rows(&rt, rt.alloc(), REVERTS, 1)
-}
-
-const STUCK: &[Row] = &[
+    // A push without an induction fails.
     (
         Trial(Kind::Lone, false, false, 10),
         NO_SCHEME,
@@ -366,14 +360,7 @@ const STUCK: &[Row] = &[
         NO_SCHEME,
         &[("Goal", 1, End::Stopped(Reason::NoScheme))],
     ),
-];
-
-#[test]
-fn a_push_without_an_induction_fails(rt: HostRuntime) -> Result<(), NoMemory> {
-    expect_rows(&rt, rt.alloc(), STUCK, 1)
-}
-
-const LIMITS: &[Row] = &[
+    // Goals run out.
     (
         Trial(Kind::Twice, false, false, 1),
         NONE_LEFT,
@@ -394,14 +381,7 @@ const LIMITS: &[Row] = &[
         NONE_LEFT,
         &[("Goal", 1, End::Through), ("*1", 1, End::Limit)],
     ),
-];
-
-#[test]
-fn goals_run_out(rt: HostRuntime) -> Result<(), NoMemory> {
-    expect_rows(&rt, rt.alloc(), LIMITS, 1)
-}
-
-const HINTS: &[Row] = &[
+    // A hint forbids induction.
     (
         Trial(Kind::Late, true, false, 10),
         FORBIDDEN,
@@ -417,14 +397,7 @@ const HINTS: &[Row] = &[
         FORBIDDEN,
         &[("Goal", 3, End::Revert)],
     ),
-];
-
-#[test]
-fn a_hint_forbids_induction(rt: HostRuntime) -> Result<(), NoMemory> {
-    expect_rows(&rt, rt.alloc(), HINTS, 1)
-}
-
-const ORDERS: &[Row] = &[
+    // Pushes of a pushed goal come before the rest.
     (
         Trial(Kind::Pair, false, true, 10),
         Verdict::Qed,
@@ -449,20 +422,16 @@ const ORDERS: &[Row] = &[
     ),
 ];
 
-#[test]
-fn pushes_of_a_pushed_goal_come_before_the_rest(rt: HostRuntime) -> Result<(), NoMemory> {
-    expect_rows(&rt, rt.alloc(), ORDERS, 1)
-}
-
-/// How often attempts by several workers are made.
-const TIMES: u32 = 20;
+/// Each row: workers, and how often their attempts are made.
+const WORKERS: &[(u32, u32)] = &[(1, 1), (2, 20), (8, 20)];
 
 #[test]
-fn several_workers_prove_as_one_does(rt: HostRuntime) -> Result<(), NoMemory> {
-    for workers in [2, 8] {
-        for _ in 0..TIMES {
-            expect_rows(&rt, rt.alloc(), REVERTS, workers)?;
-            expect_rows(&rt, rt.alloc(), ORDERS, workers)?;
+fn attempts_end_as_the_rows_say_by_one_and_by_several_workers(
+    rt: HostRuntime,
+) -> Result<(), NoMemory> {
+    for (workers, times) in WORKERS {
+        for _ in 0..*times {
+            expect_rows(&rt, rt.alloc(), ROWS, *workers)?;
         }
     }
     Ok(())

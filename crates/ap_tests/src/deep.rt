@@ -1,9 +1,11 @@
 //! The deepest terms and values that a book may have, on a thread of 2 MiB, which isn't the one that made
 //! them. A reader stops at 400 lists within each other, and a translation at 4,096 nodes. The steps of `rt try`
-//! take more stack than those of a built program, so there three of these tests run out of it.
-use ap_print::{print_term, print_value};
-use ap_term::{NoMemory, Seq, Term, Value, copy_term, owned, same_term, size, term_less};
-use ap_value::{acl2, copy, nodes, same};
+//! take more stack than those of a built program, so there the first of these tests runs out of it.
+use ap_print::print_term;
+use ap_term::{
+    NoMemory, Seq, Term, Value, copy_term, copy_terms, owned, same_term, size, term_less,
+};
+use ap_value::acl2;
 use std::alloc::{AllocError, Global};
 use std::test::Fail;
 use std::thread::{Builder, Threads};
@@ -30,160 +32,107 @@ fn chain(alloc: Global, count: u32) -> Result<Term, NoMemory> {
     Ok(t)
 }
 
-/// `(((.. . 0) . 0) . 0)` of so many conses.
-fn nested(alloc: Global, count: u32) -> Result<Value, NoMemory> {
+/// `'(((.. . 0) . 0) . 0)` of so many conses.
+fn nested(alloc: Global, count: u32) -> Result<Term, NoMemory> {
     let mut v = Value::Int(0);
     for _ in 0..count {
         v = Value::cons(alloc, v, Value::Int(0))?;
     }
-    Ok(v)
+    Ok(Term::Quote(v))
 }
 
-/// Whether a term, a copy of it and another term are one by each test.
-fn are_one(t: &Term, shared: &Term, other: &Term) -> bool {
-    same_term(shared, other) && *t == *other && term_less(t, other) == Some(false)
+/// The deepest term twice, or the deepest constant.
+fn deepest(alloc: Global, is_call: bool) -> Result<Seq<Term>, NoMemory> {
+    let mut ts = Seq::new(alloc);
+    for _ in 0..2 {
+        ts.push(if is_call {
+            chain(alloc, MOST_NODES)?
+        } else {
+            nested(alloc, MOST_NODES)?
+        })?;
+    }
+    Ok(ts)
 }
 
-/// The length of a term's text.
-fn text_length(alloc: Global, t: &Term) -> Result<usize, NoMemory> {
-    Ok(print_term(alloc, t)?.len())
-}
+/// Whether a term, a copy of it and another term are one by each test, its nodes, and the length of its text.
+type Found = (bool, Option<u64>, usize);
 
-/// Whether a term, a copy of it and another term are one, its nodes, and the length of its text. The copy is dropped.
-fn looked_at(
-    alloc: Global,
-    t: &Term,
-    other: &Term,
-) -> Result<(bool, Option<u64>, usize), NoMemory> {
+/// The same of a term, where the copy is dropped.
+fn looked_at(alloc: Global, t: &Term, other: &Term) -> Result<Found, NoMemory> {
     let shared = copy_term(alloc, t)?;
-    let one = are_one(t, &shared, other);
-    Ok((one, size(t), text_length(alloc, &shared)?))
+    let one = same_term(&shared, other) && *t == *other && term_less(t, other) == Some(false);
+    Ok((one, size(t), print_term(alloc, &shared)?.len()))
 }
 
-/// The same, where all are dropped.
-fn walked(alloc: Global, t: Term, other: Term) -> Result<(bool, Option<u64>, usize), NoMemory> {
-    looked_at(alloc, &t, &other)
-}
-
-/// The length of a value's text.
-fn value_text_length(alloc: Global, v: &Value) -> Result<usize, NoMemory> {
-    Ok(print_value(alloc, v)?.len())
-}
-
-/// Whether a value, a copy of it and another value are one, its nodes, and the length of its text. The copy is dropped.
-fn looked_at_value(
-    alloc: Global,
-    v: &Value,
-    other: &Value,
-) -> Result<(bool, Option<u64>, usize), NoMemory> {
-    let shared = copy(alloc, v)?;
-    let one = same(&shared, other) && *v == *other;
-    Ok((one, nodes(v), value_text_length(alloc, &shared)?))
-}
-
-/// The same, where all are dropped.
-fn walked_value(
-    alloc: Global,
-    v: Value,
-    other: Value,
-) -> Result<(bool, Option<u64>, usize), NoMemory> {
-    looked_at_value(alloc, &v, &other)
-}
-
-/// What another thread finds of the deepest term.
-fn term_elsewhere(
-    rt: &impl Threads,
-    alloc: Global,
-) -> Result<(bool, Option<u64>, usize), NoMemory> {
-    let t = chain(alloc, MOST_NODES)?;
-    let other = chain(alloc, MOST_NODES)?;
-    let spawned = Builder::new()
-        .stack_size(STACK)
-        .spawn(rt, move || walked(alloc, t, other));
-    let Ok(child) = spawned else {
-        return Err(AllocError);
-    };
-    child.join(rt)
-}
-
-#[test]
-fn the_deepest_term_is_copied_and_dropped_elsewhere(rt: HostRuntime) -> Result<(), Fail> {
-    let found = term_elsewhere(&rt, rt.alloc())?;
-    assert!(rt; found == (true, Some(4096), 4 * 4095 + 1));
-    Ok(())
-}
-
-/// What another thread finds of the deepest value.
-fn value_elsewhere(
-    rt: &impl Threads,
-    alloc: Global,
-) -> Result<(bool, Option<u64>, usize), NoMemory> {
-    let v = nested(alloc, MOST_NODES)?;
-    let other = nested(alloc, MOST_NODES)?;
-    let spawned = Builder::new()
-        .stack_size(STACK)
-        .spawn(rt, move || walked_value(alloc, v, other));
-    let Ok(child) = spawned else {
-        return Err(AllocError);
-    };
-    child.join(rt)
-}
-
-#[test]
-fn the_deepest_value_is_copied_and_dropped_elsewhere(rt: HostRuntime) -> Result<(), Fail> {
-    let found = value_elsewhere(&rt, rt.alloc())?;
-    assert!(rt; found == (true, Some(8193), 6 * 4096 + 1));
-    Ok(())
-}
-
-/// How many nodes another thread finds in a term, which is dropped there.
-fn size_elsewhere(rt: &impl Threads, t: Term) -> Result<Option<u64>, NoMemory> {
-    let spawned = Builder::new().stack_size(STACK).spawn(rt, move || size(&t));
-    let Ok(child) = spawned else {
-        return Err(AllocError);
-    };
-    Ok(child.join(rt))
-}
-
-/// Whether a term has as many nodes after another thread dropped a copy of it.
-fn outlives(rt: &impl Threads, alloc: Global, t: &Term) -> Result<bool, NoMemory> {
-    let copy = copy_term(alloc, t)?;
-    Ok(size_elsewhere(rt, copy)? == size(t))
-}
-
-/// Whether the deepest term, which a copy shares, is the same after another thread dropped the copy.
-fn kept(rt: &impl Threads, alloc: Global) -> Result<bool, NoMemory> {
-    let t = chain(alloc, MOST_NODES)?;
-    outlives(rt, alloc, &t)
-}
-
-#[test]
-fn a_shared_term_outlives_its_copies(rt: HostRuntime) -> Result<(), Fail> {
-    assert!(rt; kept(&rt, rt.alloc())?);
-    Ok(())
-}
-
-/// How many arguments a call has, which are taken from it.
-fn taken(alloc: Global, t: Term) -> Result<usize, NoMemory> {
-    match t {
-        Term::Call(_head, arguments) => Ok(owned(alloc, arguments)?.len()),
-        Term::Var(_name) => Ok(0),
-        Term::Quote(_value) => Ok(0),
+/// The same of the first of two terms, where both are dropped.
+fn walked(alloc: Global, ts: Seq<Term>) -> Result<Found, NoMemory> {
+    match ts.as_slice() {
+        [t, other] => looked_at(alloc, t, other),
+        _ => Err(AllocError),
     }
 }
 
-/// The same of a call that a copy shares, and the nodes of the copy.
-fn taken_from_two(alloc: Global) -> Result<(usize, Option<u64>), NoMemory> {
-    let t = chain(alloc, 3)?;
-    let copy = copy_term(alloc, &t)?;
-    let count = taken(alloc, t)?;
-    Ok((count, size(&copy)))
+/// What another thread finds of two terms, which are dropped there.
+fn elsewhere(rt: &impl Threads, alloc: Global, ts: Seq<Term>) -> Result<Found, NoMemory> {
+    let spawned = Builder::new()
+        .stack_size(STACK)
+        .spawn(rt, move || walked(alloc, ts));
+    let Ok(child) = spawned else {
+        return Err(AllocError);
+    };
+    child.join(rt)
+}
+
+/// The same of the deepest, and how many nodes each has that shares all with what was dropped.
+fn kept(rt: &impl Threads, alloc: Global, is_call: bool) -> Result<(Found, Option<u64>), NoMemory> {
+    let ts = deepest(alloc, is_call)?;
+    let kept = copy_terms(alloc, ts.as_slice())?;
+    let found = elsewhere(rt, alloc, ts)?;
+    Ok((found, kept.as_slice().first().and_then(|t| size(t))))
+}
+
+/// Each row: whether it is a call or a constant, its nodes, and the length of its text.
+const ROWS: &[(bool, u64, usize)] = &[(true, 4096, 4 * 4095 + 1), (false, 8193, 6 * 4096 + 2)];
+
+#[test]
+fn the_deepest_are_copied_and_dropped_elsewhere_and_a_copy_outlives_them(
+    rt: HostRuntime,
+) -> Result<(), Fail> {
+    for (is_call, nodes, length) in ROWS {
+        let found = kept(&rt, rt.alloc(), *is_call)?;
+        assert_eq!(rt; found, ((true, Some(*nodes), *length), Some(*nodes)));
+    }
+    Ok(())
+}
+
+/// `(F (F X))`, alone or before its copy.
+fn shared(alloc: Global, is_alone: bool) -> Result<Seq<Term>, NoMemory> {
+    let mut ts = Seq::new(alloc);
+    ts.push(chain(alloc, 3)?)?;
+    if !is_alone {
+        let copies = copy_terms(alloc, ts.as_slice())?;
+        ts.append(copies)?;
+    }
+    Ok(ts)
+}
+
+/// How many arguments the last of terms has, which are taken from it, and the nodes of the term before it.
+fn taken(alloc: Global, mut ts: Seq<Term>) -> Result<(usize, Option<u64>), NoMemory> {
+    match ts.pop() {
+        Some(Term::Call(_head, arguments)) => {
+            let count = owned(alloc, arguments)?.len();
+            Ok((count, ts.as_slice().first().and_then(|t| size(t))))
+        }
+        _ => Err(AllocError),
+    }
 }
 
 #[test]
 fn arguments_are_taken_from_a_call(rt: HostRuntime) -> Result<(), Fail> {
-    let alone = chain(rt.alloc(), 3)?;
-    assert!(rt; taken(rt.alloc(), alone)? == 1);
-    assert!(rt; taken_from_two(rt.alloc())? == (1, Some(3)));
+    assert_eq!(rt; taken(rt.alloc(), shared(rt.alloc(), true)?)?, (1, None));
+    assert_eq!(rt;
+        taken(rt.alloc(), shared(rt.alloc(), false)?)?,
+        (1, Some(3))
+    );
     Ok(())
 }

@@ -1,5 +1,6 @@
 use crate::expect::expect;
 use ap_list::{Boxed, Bytes, NoMemory};
+use ap_value::copy_bytes;
 use std::alloc::Global;
 use std::test::Fail;
 
@@ -14,7 +15,7 @@ fn add(alloc: Global, bytes: &mut Bytes) -> Result<(), NoMemory> {
 fn made(alloc: Global) -> Result<Bytes, NoMemory> {
     let mut bytes = Bytes::from_slice(alloc, b"ca")?;
     add(alloc, &mut bytes)?;
-    Ok(bytes)
+    copy_bytes(alloc, &bytes)
 }
 
 #[test]

@@ -60,36 +60,16 @@ const ROWS: &[(&[u32], &[u32], &str)] = &[
     (&[1, 1], &[3, 12, 0], "Subgoal *1.1/3.12'"),
 ];
 
-#[test]
-fn names_print_as_the_manual_has_them(rt: HostRuntime) -> Result<(), Fail> {
-    for (numbers, moves, text) in ROWS {
-        let printed = printed(rt.alloc(), *numbers, *moves)?;
-        expect(&rt, printed.as_slice(), *text);
-    }
-    Ok(())
-}
-
-/// Whether a name is that of the root.
-fn is_root(alloc: Global, name: &GoalName) -> bool {
-    same_name(name, &root(alloc))
-}
-
-/// Whether a copy of a name is the same.
-fn is_copied(alloc: Global, name: &GoalName) -> Result<bool, NoMemory> {
+/// Whether a copy of a name is the same, and whether the name is that of the root.
+fn is_copied(alloc: Global, name: &GoalName) -> Result<(bool, bool), NoMemory> {
     let copied = name.copy(alloc)?;
-    Ok(same_name(name, &copied))
+    Ok((same_name(name, &copied), same_name(name, &root(alloc))))
 }
 
-/// Whether the name of a pushed goal is copied, and isn't that of the root.
-fn is_pushed_copied(alloc: Global) -> Result<bool, NoMemory> {
-    let name = pushed(alloc, &[1, 2])?;
-    Ok(is_copied(alloc, &name)? && !is_root(alloc, &name))
-}
-
-#[test]
-fn a_copy_is_the_same_name(rt: HostRuntime) -> Result<(), Fail> {
-    assert!(rt; is_pushed_copied(rt.alloc())?);
-    Ok(())
+/// The same of a pushed goal's name.
+fn is_pushed_copied(alloc: Global, numbers: &[u32]) -> Result<(bool, bool), NoMemory> {
+    let name = pushed(alloc, numbers)?;
+    is_copied(alloc, &name)
 }
 
 /// What the name prints as that a text is read as.
@@ -98,19 +78,6 @@ fn read(alloc: Global, text: &[u8]) -> Result<Option<Bytes>, NoMemory> {
         Some(name) => Ok(Some(name.print(alloc)?)),
         None => Ok(None),
     }
-}
-
-/// A text with its letters in upper or in lower case.
-fn cased(alloc: Global, text: &[u8], upper: bool) -> Result<Bytes, NoMemory> {
-    let mut cased = Seq::new(alloc);
-    for byte in text {
-        cased.push(if upper {
-            byte.to_ascii_uppercase()
-        } else {
-            byte.to_ascii_lowercase()
-        })?;
-    }
-    Ok(cased)
 }
 
 /// Each row: a text, and what the name prints as that it is read as, or nothing where it is no name's.
@@ -152,15 +119,17 @@ const TEXTS: &[(&str, &str)] = &[
     ("Subgoal *1/2/3", ""),
 ];
 
-#[test]
-fn texts_are_read_as_names(rt: HostRuntime) -> Result<(), Fail> {
-    for (text, wanted) in TEXTS {
-        match read(rt.alloc(), text.as_bytes())? {
-            Some(printed) => expect(&rt, printed.as_slice(), *wanted),
-            None => assert_eq!(rt; "", *wanted),
-        }
+/// A text with its letters in upper or in lower case.
+fn cased(alloc: Global, text: &[u8], upper: bool) -> Result<Bytes, NoMemory> {
+    let mut cased = Seq::new(alloc);
+    for byte in text {
+        cased.push(if upper {
+            byte.to_ascii_uppercase()
+        } else {
+            byte.to_ascii_lowercase()
+        })?;
     }
-    Ok(())
+    Ok(cased)
 }
 
 /// What the name prints as that a text is read as, with its letters in upper or in lower case.
@@ -169,27 +138,43 @@ fn read_cased(alloc: Global, text: &[u8], upper: bool) -> Result<Option<Bytes>, 
     read(alloc, text_cased.as_slice())
 }
 
-/// Reads a printed name back in upper and in lower case.
-fn expect_read_back(
+/// Compares what a text is read as with what it should be.
+fn expect_read(rt: &impl Abort, found: Option<Bytes>, wanted: &str) {
+    match found {
+        Some(printed) => expect(rt, printed.as_slice(), wanted),
+        None => assert_eq!(rt; "", wanted),
+    }
+}
+
+/// Compares what a goal prints as, which is read back in upper and in lower case, with its row.
+fn expect_printed(
     rt: &impl Abort,
     alloc: Global,
     printed: &[u8],
     text: &str,
 ) -> Result<(), NoMemory> {
+    expect(rt, printed, text);
     for upper in [false, true] {
-        match read_cased(alloc, printed, upper)? {
-            Some(found) => expect(rt, found.as_slice(), text),
-            None => panic!(rt; "no name"),
-        }
+        expect_read(rt, read_cased(alloc, printed, upper)?, text);
     }
     Ok(())
 }
 
 #[test]
-fn printed_names_are_read_back(rt: HostRuntime) -> Result<(), Fail> {
+fn names_print_as_the_manual_has_them_and_are_read_back(rt: HostRuntime) -> Result<(), Fail> {
     for (numbers, moves, text) in ROWS {
         let printed = printed(rt.alloc(), *numbers, *moves)?;
-        expect_read_back(&rt, rt.alloc(), printed.as_slice(), *text)?;
+        expect_printed(&rt, rt.alloc(), printed.as_slice(), *text)?;
+        let copied = is_pushed_copied(rt.alloc(), *numbers)?;
+        assert_eq!(rt; copied, (true, numbers.is_empty()));
+    }
+    Ok(())
+}
+
+#[test]
+fn texts_are_read_as_names(rt: HostRuntime) -> Result<(), Fail> {
+    for (text, wanted) in TEXTS {
+        expect_read(&rt, read(rt.alloc(), text.as_bytes())?, *wanted);
     }
     Ok(())
 }

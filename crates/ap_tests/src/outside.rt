@@ -156,15 +156,9 @@ const KEPT: &[Call] = &[
     (true, "ap_outside-stored", BOOK, "found"),
     (false, "ap_outside-stored", b"x", "stored"),
     (true, "ap_outside-stored", b"x", "found"),
+    (true, ".", b"", "failed"),
+    (false, ".", b"", "failed"),
 ];
-
-#[test]
-fn a_folder_gives_back_what_was_stored(rt: HostRuntime) -> Result<(), Fail> {
-    let mut folder = FolderLibrary::new(&rt);
-    expect_calls(&rt, &mut folder, rt.alloc(), KEPT);
-    fs::remove_file(&rt, "ap_outside-stored")?;
-    Ok(())
-}
 
 /// Whether a file is too long to be read that is one byte longer than a book may be.
 fn is_too_long<L: Library>(library: &mut L, alloc: Global, name: &str) -> Result<bool, NoMemory> {
@@ -176,21 +170,13 @@ fn is_too_long<L: Library>(library: &mut L, alloc: Global, name: &str) -> Result
 }
 
 #[test]
-fn a_file_of_a_folder_may_be_too_long(rt: HostRuntime) -> Result<(), Fail> {
+fn a_folder_gives_back_what_was_stored_and_is_no_file(rt: HostRuntime) -> Result<(), Fail> {
     let mut folder = FolderLibrary::new(&rt);
+    expect_calls(&rt, &mut folder, rt.alloc(), KEPT);
     assert!(rt; is_too_long(&mut folder, rt.alloc(), "ap_outside-long")?);
+    fs::remove_file(&rt, "ap_outside-stored")?;
     fs::remove_file(&rt, "ap_outside-long")?;
     Ok(())
-}
-
-#[test]
-fn a_folder_is_no_file(rt: HostRuntime) {
-    let mut folder = FolderLibrary::new(&rt);
-    let calls = &[
-        (true, ".", b"".as_slice(), "failed"),
-        (false, ".", b"", "failed"),
-    ];
-    expect_calls(&rt, &mut folder, rt.alloc(), calls);
 }
 
 /// Each row: a piece, and what a writer with room for two more bytes answers.

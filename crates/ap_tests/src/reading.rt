@@ -1,6 +1,5 @@
 use ap_list::Seq;
 use ap_reader::{Body, Form, ReadError, ReadKind, forms};
-use ap_tokens::{FaultKind, over};
 use ap_value::{Bytes, NoMemory, Symbol};
 use std::alloc::Global;
 use std::process::Abort;
@@ -12,45 +11,12 @@ fn after_first_line(alloc: Global, rest: &[u8]) -> Result<Bytes, NoMemory> {
     Ok(text)
 }
 
-/// The kind of a fault, as a call of the tokens or of the forms answers it.
-#[derive(Clone, Copy, PartialEq)]
-enum Kind {
-    Next(FaultKind),
-    Forms(ReadKind),
-}
-
-/// The first fault among the first twenty tokens of a text.
-fn token_fault(text: &[u8]) -> Option<(Kind, usize)> {
-    let mut tokens = over(text);
-    for _ in 0..20 {
-        if let Err(fault) = tokens.next() {
-            return Some((Kind::Next(fault.kind), fault.place));
-        }
-    }
-    None
-}
-
-/// The kind and the place of a text's fault, as a call of the forms answers it.
-fn read_fault(alloc: Global, text: &[u8]) -> Option<(ReadKind, usize)> {
-    match forms(alloc, text) {
-        Err(ReadError::Fault { place, kind }) => Some((kind, place)),
-        _ => None,
-    }
-}
-
-fn form_fault(alloc: Global, text: &[u8]) -> Option<(Kind, usize)> {
-    match read_fault(alloc, text) {
-        Some((kind, place)) => Some((Kind::Forms(kind), place)),
-        None => None,
-    }
-}
-
-/// The fault of a text behind a book's first line, as the call that has faults of this kind answers it.
-fn fault_like(alloc: Global, kind: Kind, rest: &[u8]) -> Result<Option<(Kind, usize)>, NoMemory> {
+/// The kind of a text's fault with its number, and its place, where the text stands behind a book's first line.
+fn fault(alloc: Global, rest: &[u8]) -> Result<Option<(ReadKind, u32, usize)>, NoMemory> {
     let text = after_first_line(alloc, rest)?;
-    match kind {
-        Kind::Next(_) => Ok(token_fault(text.as_slice())),
-        Kind::Forms(_) => Ok(form_fault(alloc, text.as_slice())),
+    match forms(alloc, text.as_slice()) {
+        Err(ReadError::Fault { place, kind }) => Ok(Some((kind, kind.number(), place))),
+        _ => Ok(None),
     }
 }
 
@@ -58,74 +24,57 @@ const OPEN_400: [u8; 400] = [b'('; 400];
 
 const OPEN_401: [u8; 401] = [b'('; 401];
 
-/// Each row: what stands behind a book's first line, and the kind and the place of the fault.
-const FAULTS: &[(&[u8], Kind, usize)] = &[
-    (b"\"ab", Kind::Next(FaultKind::OpenString), 20),
-    (b"#| x", Kind::Next(FaultKind::OpenComment), 20),
-    (b"(a b|c", Kind::Next(FaultKind::OpenBar), 23),
-    (b"(a #y)", Kind::Next(FaultKind::BadHash), 23),
-    (b"'#\\Spac", Kind::Next(FaultKind::BadCharName), 21),
-    (b"(a \"b)", Kind::Forms(ReadKind::OpenString), 23),
-    (b"(a) #| #| |#", Kind::Forms(ReadKind::OpenComment), 24),
-    (b"a\\", Kind::Forms(ReadKind::OpenBar), 20),
-    (b"#x1g", Kind::Forms(ReadKind::BadHash), 20),
-    (b"#\\Nul", Kind::Forms(ReadKind::BadCharName), 20),
-    (&OPEN_400, Kind::Forms(ReadKind::OpenList), 419),
-    (b"a)", Kind::Forms(ReadKind::StrayClose), 21),
-    (b"1.", Kind::Forms(ReadKind::NotInteger), 20),
+/// Each row: what stands behind a book's first line, and the kind, the number and the place of the fault, which is at the
+/// first byte of its token.
+const FAULTS: &[(&[u8], ReadKind, u32, usize)] = &[
+    (b"(a \"b)", ReadKind::OpenString, 1, 23),
+    (b"(a) #| #| |#", ReadKind::OpenComment, 2, 24),
+    (b"a\\", ReadKind::OpenBar, 3, 20),
+    (b"#x1g", ReadKind::BadHash, 4, 20),
+    (b"#\\Nul", ReadKind::BadCharName, 5, 20),
+    (&OPEN_400, ReadKind::OpenList, 6, 419),
+    (b"(a '", ReadKind::OpenList, 6, 23),
+    (b"(a . b", ReadKind::OpenList, 6, 20),
+    (b"a)", ReadKind::StrayClose, 7, 21),
+    (b"(a ')", ReadKind::StrayClose, 7, 24),
+    (b"(a . ')", ReadKind::StrayClose, 7, 26),
+    (b"1.", ReadKind::NotInteger, 8, 20),
+    (b"(a . 1/2)", ReadKind::NotInteger, 8, 25),
+    (b"-.5", ReadKind::NotInteger, 8, 20),
+    (b"+1.5E-2", ReadKind::NotInteger, 8, 20),
     (
         b"(defthm w (equal x 170141183460469231731687303715884105728))",
-        Kind::Forms(ReadKind::IntegerTooWide),
+        ReadKind::IntegerTooWide,
+        9,
         39,
     ),
-    (&OPEN_401, Kind::Forms(ReadKind::TooDeep), 420),
-    (b"(. a)", Kind::Forms(ReadKind::BadDot), 21),
-    (b"x:y", Kind::Forms(ReadKind::BadPackage), 20),
+    (
+        b"#x-80000000000000000000000000000001",
+        ReadKind::IntegerTooWide,
+        9,
+        20,
+    ),
+    (&OPEN_401, ReadKind::TooDeep, 10, 420),
+    (b"(. a)", ReadKind::BadDot, 11, 21),
+    (b".", ReadKind::BadDot, 11, 20),
+    (b"'.", ReadKind::BadDot, 11, 21),
+    (b"(a . )", ReadKind::BadDot, 11, 23),
+    (b"(a . b c)", ReadKind::BadDot, 11, 23),
+    (b"(a . . b)", ReadKind::BadDot, 11, 23),
+    (b"...", ReadKind::BadDot, 11, 20),
+    (b"x:y", ReadKind::BadPackage, 12, 20),
+    (b"acl2:x", ReadKind::BadPackage, 12, 20),
+    (b"::x", ReadKind::BadPackage, 12, 20),
 ];
 
 #[test]
-fn each_fault_kind_has_its_place(rt: HostRuntime) -> Result<(), NoMemory> {
-    for (rest, kind, place) in FAULTS {
-        let found = fault_like(rt.alloc(), *kind, *rest)?;
-        assert!(rt; found == Some((*kind, *place)), "at {place}");
-    }
-    Ok(())
-}
-
-/// Each row: what stands behind a book's first line, and the number and the place of the fault.
-const PLACES: &[(&[u8], u32, usize)] = &[
-    (b"(a '", 6, 23),
-    (b"(a . b", 6, 20),
-    (b"(a ')", 7, 24),
-    (b"(a . ')", 7, 26),
-    (b"(a . 1/2)", 8, 25),
-    (b"-.5", 8, 20),
-    (b"+1.5E-2", 8, 20),
-    (b"#x-80000000000000000000000000000001", 9, 20),
-    (b".", 11, 20),
-    (b"'.", 11, 21),
-    (b"(a . )", 11, 23),
-    (b"(a . b c)", 11, 23),
-    (b"(a . . b)", 11, 23),
-    (b"...", 11, 20),
-    (b"acl2:x", 12, 20),
-    (b"::x", 12, 20),
-];
-
-/// The number and the place of the fault of a text behind a book's first line.
-fn numbered_fault(alloc: Global, rest: &[u8]) -> Result<Option<(u32, usize)>, NoMemory> {
-    let text = after_first_line(alloc, rest)?;
-    match read_fault(alloc, text.as_slice()) {
-        Some((kind, place)) => Ok(Some((kind.number(), place))),
-        None => Ok(None),
-    }
-}
-
-#[test]
-fn a_fault_is_at_the_first_byte_of_its_token(rt: HostRuntime) -> Result<(), NoMemory> {
-    for (rest, number, place) in PLACES {
-        let found = numbered_fault(rt.alloc(), *rest)?;
-        assert_eq!(rt; found, Some((*number, *place)));
+fn each_fault_kind_has_its_number_and_its_place(rt: HostRuntime) -> Result<(), NoMemory> {
+    for (rest, kind, number, place) in FAULTS {
+        let found = fault(rt.alloc(), *rest)?;
+        assert!(rt;
+            found == Some((*kind, *number, *place)),
+            "{number} at {place}"
+        );
     }
     Ok(())
 }

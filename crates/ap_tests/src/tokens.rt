@@ -37,18 +37,38 @@ fn a_text_gives_its_tokens(rt: HostRuntime) {
     assert!(rt; matches!(tokens.next(), Ok(None)));
 }
 
-/// Each row: a text, and the fault at its first token.
+/// Each row: a text, and its first fault.
 const FAULTS: &[(&[u8], usize, FaultKind)] = &[
     (b" \"ab\\\"", 1, FaultKind::OpenString),
+    (b"(in-package \"ACL2\")\n\"ab", 20, FaultKind::OpenString),
     (b"\n#| #| |#", 1, FaultKind::OpenComment),
+    (b"(in-package \"ACL2\")\n#| x", 20, FaultKind::OpenComment),
     (b"a|b", 0, FaultKind::OpenBar),
     (b"a\\", 0, FaultKind::OpenBar),
+    (b"(in-package \"ACL2\")\n(a b|c", 23, FaultKind::OpenBar),
     (b" #\\", 1, FaultKind::BadHash),
     (b"#a", 0, FaultKind::BadHash),
     (b"#b+", 0, FaultKind::BadHash),
     (b"#o18", 0, FaultKind::BadHash),
+    (b"(in-package \"ACL2\")\n(a #y)", 23, FaultKind::BadHash),
     (b"  #\\Spac", 2, FaultKind::BadCharName),
+    (
+        b"(in-package \"ACL2\")\n'#\\Spac",
+        21,
+        FaultKind::BadCharName,
+    ),
 ];
+
+/// The first fault among the first twenty tokens of a text, where the next call answers it again.
+fn fault(text: &[u8]) -> Option<TokenFault> {
+    let mut tokens = over(text);
+    for _ in 0..20 {
+        if let Err(fault) = tokens.next() {
+            return tokens.next().err().filter(|again| *again == fault);
+        }
+    }
+    None
+}
 
 #[test]
 fn a_fault_is_answered_again(rt: HostRuntime) {
@@ -57,9 +77,6 @@ fn a_fault_is_answered_again(rt: HostRuntime) {
             place: *place,
             kind: *kind,
         };
-        let mut tokens = over(*text);
-        for _ in 0..2 {
-            assert_eq!(rt; tokens.next().err(), Some(wanted));
-        }
+        assert_eq!(rt; fault(*text), Some(wanted));
     }
 }

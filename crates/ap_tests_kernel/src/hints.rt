@@ -7,18 +7,19 @@ ghost use Rattle.ap_world.specs.World.{function_of};
 ghost use Rattle.ap_hints.specs.Known.{KnownTerm, KnownUse, KnownHint, KnownHints};
 ghost use Rattle.ap_strategy.specs.Goals.{defs_of};
 
-use crate::clauses::is_written;
-use crate::waterfall::{expect, root, written_task};
-use crate::written::term;
+use crate::expect::expect;
+use crate::waterfall::{root, written_task};
 use ap_eval::is_known;
 use ap_ground::ground_world;
 use ap_ground::laws::ground_has_its_functions;
 use ap_hints::{Hint, Hints};
 use ap_list::{Boxed, Bytes, NoMemory, Seq};
 use ap_names::GoalName;
+use ap_print::print_clause;
 use ap_rules::Ruled;
 use ap_strategy::{Acl2Step, Plan, Planned, Task, induct_task};
-use ap_term::{Clause, Subst, Term, copy_terms};
+use ap_term::{Subst, Term};
+use ap_tests_terms::term;
 use ap_value::{Symbol, acl2};
 use ap_walk::{Act, Out, Process, Step, Stepped};
 use ap_world::{Rune, RuneKind, Theory, World};
@@ -163,95 +164,50 @@ fn kind(act: Act) -> &'static [u8] {
     }
 }
 
-/// What a step did, and the names of the goals that it made.
+/// What a step did, and the names and the clauses of the goals that it made.
 fn told<J: Planned>(alloc: Global, stepped: &Stepped<Task<'_, J>>) -> Result<Bytes, NoMemory> {
     let mut text = Seq::new(alloc);
     text.extend(kind(stepped.act))?;
     if let Out::Split(tasks) = &stepped.out {
         for task in tasks.as_slice() {
-            text.extend(b", ")?;
+            text.extend(b"; ")?;
             text.append(task.name.print(alloc)?)?;
+            text.push(b' ')?;
+            text.append(print_clause(alloc, &task.clause)?)?;
         }
     }
     Ok(text)
 }
 
-/// The clauses of the goals that a step made.
-fn clauses_of<J: Planned>(
-    alloc: Global,
-    stepped: &Stepped<Task<'_, J>>,
-) -> Result<Seq<Clause>, NoMemory> {
-    let mut clauses = Seq::new(alloc);
-    if let Out::Split(tasks) = &stepped.out {
-        for task in tasks.as_slice() {
-            clauses.push(Clause(copy_terms(alloc, task.clause.0.as_slice())?))?;
-        }
-    }
-    Ok(clauses)
-}
-
-/// Whether clauses are these.
-fn are_clauses(alloc: Global, clauses: &[Clause], wanted: &[&str]) -> Result<bool, NoMemory> {
-    for (clause, text) in clauses.iter().zip(wanted) {
-        if !is_written(clause, &term(alloc, text)?) {
-            return Ok(false);
-        }
-    }
-    Ok(clauses.len() == wanted.len())
-}
-
-/// What a step did, and the names and the clauses of the goals that it made.
-fn all_told<J: Planned>(
-    alloc: Global,
-    stepped: &Stepped<Task<'_, J>>,
-) -> Result<(Bytes, Seq<Clause>), NoMemory> {
-    let found = told(alloc, stepped)?;
-    Ok((found, clauses_of(alloc, stepped)?))
-}
-
 /// The same of a task's step.
-fn task_told<J: Planned>(
-    alloc: Global,
-    task: &Task<'_, J>,
-) -> Result<(Bytes, Seq<Clause>), NoMemory> {
+fn task_told<J: Planned>(alloc: Global, task: &Task<'_, J>) -> Result<Bytes, NoMemory> {
     let stepped = Acl2Step::new(task.plan, 1).step(alloc, task)?;
-    all_told(alloc, &stepped)
+    told(alloc, &stepped)
 }
 
-/// What the step of `Goal` does under a plan, with the names and the clauses of the goals that it makes.
+/// The same of the induction of a task.
+fn inducted_told<J: Planned>(alloc: Global, task: &Task<'_, J>) -> Result<Bytes, NoMemory> {
+    let induction = Boxed::new(alloc, induct_task(alloc, task, 1)?)?;
+    task_told(alloc, induction.get())
+}
+
+/// What the step of `Goal`, or of its induction, does under a plan, with the names and the clauses of the goals that it makes.
 fn step_told<J: Planned>(
     alloc: Global,
     plan: &Plan,
     conjecture: &Term,
-) -> Result<(Bytes, Seq<Clause>), NoMemory>
+    is_induction: bool,
+) -> Result<Bytes, NoMemory>
     requires brand { plan.now ≡ J.plan }
     requires functions { HasFunctions (defs_of plan.now) }
     requires hints { KnownHints plan.now.world.entries plan.now.hints }
 {
     let task: Boxed<Task<'_, J>> = Boxed::new(alloc, root(alloc, plan, conjecture)?)?;
-    task_told(alloc, task.get())
-}
-
-/// Compares what the step of `Goal` does under a plan, and the clauses that it makes, with what is wanted.
-fn expect_step(
-    rt: &impl Abort,
-    alloc: Global,
-    plan: &Plan,
-    conjecture: &str,
-    wanted: &str,
-    clauses: &[&str],
-) -> Result<(), NoMemory>
-    requires functions { HasFunctions (defs_of plan.now) }
-    requires hints { KnownHints plan.now.world.entries plan.now.hints }
-{
-    let goal = term(alloc, conjecture)?;
-    let (found, made) = step_told::<Brand>(alloc, plan, &goal)?;
-    expect(rt, conjecture, found.as_slice(), wanted);
-    assert!(rt;
-        are_clauses(alloc, made.as_slice(), clauses)?,
-        "{conjecture}"
-    );
-    Ok(())
+    if is_induction {
+        inducted_told(alloc, task.get())
+    } else {
+        task_told(alloc, task.get())
+    }
 }
 
 /// A theorem of the ground world whose variable X is replaced.
@@ -277,22 +233,6 @@ fn by_instances(alloc: Global) -> Result<Hint, NoMemory> {
     Ok(hint)
 }
 
-#[test]
-fn instances_stand_first_in_an_only_child(rt: HostRuntime) -> Result<(), NoMemory> {
-    let alloc = rt.alloc();
-    let plan = plan(alloc, by_instances(alloc)?)?;
-    expect_step(
-        &rt,
-        alloc,
-        &plan,
-        "(CONSP Y)",
-        "hint, Goal'",
-        &[
-            "(OR (NOT (IMPLIES (CONSP Y) (EQUAL (CONS (CAR Y) (CDR Y)) Y))) (NOT (EQUAL (BINARY-+ 0 (CAR Y)) (FIX (CAR Y)))) (CONSP Y))",
-        ],
-    )
-}
-
 /// A hint for a goal with so many primes, by whether X is a cons.
 fn by_cases(alloc: Global, primes: u32) -> Result<Hint, NoMemory> {
     let mut cases = Seq::new(alloc);
@@ -300,73 +240,6 @@ fn by_cases(alloc: Global, primes: u32) -> Result<Hint, NoMemory> {
     let mut hint = blank(alloc, primes);
     hint.cases = cases;
     Ok(hint)
-}
-
-#[test]
-fn cases_are_numbered_down(rt: HostRuntime) -> Result<(), NoMemory> {
-    let alloc = rt.alloc();
-    let plan = plan(alloc, by_cases(alloc, 0)?)?;
-    expect_step(
-        &rt,
-        alloc,
-        &plan,
-        "(EQUAL X Y)",
-        "hint, Subgoal 2, Subgoal 1",
-        &[
-            "(OR (NOT (CONSP X)) (EQUAL X Y))",
-            "(OR (CONSP X) (EQUAL X Y))",
-        ],
-    )
-}
-
-#[test]
-fn a_hint_for_another_goal_says_nothing(rt: HostRuntime) -> Result<(), NoMemory> {
-    let alloc = rt.alloc();
-    let plan = plan(alloc, by_cases(alloc, 1)?)?;
-    expect_step(&rt, alloc, &plan, "(EQUAL X Y)", "missed", &[])
-}
-
-/// What a task's step does, and the names of the goals that it makes.
-fn names_told<J: Planned>(alloc: Global, task: &Task<'_, J>) -> Result<Bytes, NoMemory> {
-    let stepped = Acl2Step::new(task.plan, 1).step(alloc, task)?;
-    told(alloc, &stepped)
-}
-
-/// The same of the induction of a task.
-fn inducted_told<J: Planned>(alloc: Global, task: &Task<'_, J>) -> Result<Bytes, NoMemory> {
-    let induction = Boxed::new(alloc, induct_task(alloc, task, 1)?)?;
-    names_told(alloc, induction.get())
-}
-
-/// What the step of the induction of `Goal` does, with the names of the goals that it makes.
-fn induction_told<J: Planned>(
-    alloc: Global,
-    plan: &Plan,
-    conjecture: &Term,
-) -> Result<Bytes, NoMemory>
-    requires brand { plan.now ≡ J.plan }
-    requires functions { HasFunctions (defs_of plan.now) }
-    requires hints { KnownHints plan.now.world.entries plan.now.hints }
-{
-    let task: Boxed<Task<'_, J>> = Boxed::new(alloc, root(alloc, plan, conjecture)?)?;
-    inducted_told(alloc, task.get())
-}
-
-/// Compares what the step of the induction of `Goal` does with what is wanted.
-fn expect_induction(
-    rt: &impl Abort,
-    alloc: Global,
-    plan: &Plan,
-    conjecture: &str,
-    wanted: &str,
-) -> Result<(), NoMemory>
-    requires functions { HasFunctions (defs_of plan.now) }
-    requires hints { KnownHints plan.now.world.entries plan.now.hints }
-{
-    let goal = term(alloc, conjecture)?;
-    let found = induction_told::<Brand>(alloc, plan, &goal)?;
-    expect(rt, conjecture, found.as_slice(), wanted);
-    Ok(())
 }
 
 /// A hint for `Goal` to induct by a call.
@@ -377,24 +250,86 @@ fn by_call(alloc: Global) -> Result<Hint, NoMemory> {
     Ok(hint)
 }
 
-fn expect_pushed(rt: &impl Abort, alloc: Global, plan: &Plan) -> Result<(), NoMemory>
+/// What a hint says.
+#[derive(Clone, Copy)]
+enum Says {
+    /// Instances of two theorems.
+    Uses,
+    /// Cases, for a goal with so many primes.
+    Cases(u32),
+    /// A call to induct by.
+    Call,
+}
+
+/// The hint that says so.
+fn hint_of(alloc: Global, says: Says) -> Result<Hint, NoMemory> {
+    match says {
+        Says::Uses => by_instances(alloc),
+        Says::Cases(primes) => by_cases(alloc, primes),
+        Says::Call => by_call(alloc),
+    }
+}
+
+/// Each row: what a hint says, whether the step is of `Goal` or of its induction, the conjecture, and what the step does.
+const ROWS: &[(Says, bool, &str, &str)] = &[
+    // Instances stand first in an only child.
+    (
+        Says::Uses,
+        false,
+        "(consp y)",
+        "hint; Goal' (OR (NOT (IMPLIES (CONSP Y) (EQUAL (CONS (CAR Y) (CDR Y)) Y))) (NOT (EQUAL (BINARY-+ '0 (CAR Y)) (FIX (CAR Y)))) (CONSP Y))",
+    ),
+    // Cases are numbered down.
+    (
+        Says::Cases(0),
+        false,
+        "(equal x y)",
+        "hint; Subgoal 2 (OR (NOT (CONSP X)) (EQUAL X Y)); Subgoal 1 (OR (CONSP X) (EQUAL X Y))",
+    ),
+    // A hint for another goal says nothing.
+    (Says::Cases(1), false, "(equal x y)", "missed"),
+    // A call pushes at once, and is inducted by.
+    (Says::Call, false, "(equal x x)", "pushed"),
+    (
+        Says::Call,
+        true,
+        "(equal x x)",
+        "inducted; Subgoal *1/2 (OR (NOT (CONSP X)) (NOT (EQUAL (CDR X) (CDR X))) (EQUAL X X)); Subgoal *1/1 (OR (CONSP X) (EQUAL X X))",
+    ),
+];
+
+/// What a row's step does.
+fn row_told(
+    alloc: Global,
+    says: Says,
+    is_induction: bool,
+    conjecture: &str,
+) -> Result<Bytes, NoMemory> {
+    let plan = plan(alloc, hint_of(alloc, says)?)?;
+    written_told(alloc, &plan, is_induction, conjecture)
+}
+
+/// The same under a plan.
+fn written_told(
+    alloc: Global,
+    plan: &Plan,
+    is_induction: bool,
+    conjecture: &str,
+) -> Result<Bytes, NoMemory>
     requires functions { HasFunctions (defs_of plan.now) }
     requires hints { KnownHints plan.now.world.entries plan.now.hints }
 {
-    expect_step(rt, alloc, plan, "(EQUAL X X)", "pushed", &[])?;
-    expect_induction(
-        rt,
-        alloc,
-        plan,
-        "(EQUAL X X)",
-        "inducted, Subgoal *1/2, Subgoal *1/1",
-    )
+    let goal = term(alloc, conjecture)?;
+    step_told::<Brand>(alloc, plan, &goal, is_induction)
 }
 
 #[test]
-fn a_call_pushes_at_once_and_is_inducted_by(rt: HostRuntime) -> Result<(), NoMemory> {
-    let plan = plan(rt.alloc(), by_call(rt.alloc())?)?;
-    expect_pushed(&rt, rt.alloc(), &plan)
+fn steps_follow_their_hints_as_the_rows_say(rt: HostRuntime) -> Result<(), NoMemory> {
+    for (says, is_induction, conjecture, wanted) in ROWS {
+        let found = row_told(rt.alloc(), *says, *is_induction, *conjecture)?;
+        expect(&rt, found.as_slice(), *wanted, *conjecture);
+    }
+    Ok(())
 }
 
 /// A theory without a rune.

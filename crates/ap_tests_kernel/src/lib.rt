@@ -1,8 +1,10 @@
-//! The tests of the kernel, of clauses and of the waterfall's step, a module each.
+//! The tests of the kernel, of types, of clauses and of the waterfall's step, a module each.
 #![tactic(auto)]
 
 #[cfg(test)]
 mod clauses;
+#[cfg(test)]
+mod expect;
 #[cfg(test)]
 mod hints;
 #[cfg(test)]
@@ -12,12 +14,8 @@ mod known;
 #[cfg(test)]
 mod matches;
 #[cfg(test)]
-mod splitting;
-#[cfg(test)]
-mod tables;
+mod rows;
 #[cfg(test)]
 mod types;
 #[cfg(test)]
 mod waterfall;
-#[cfg(test)]
-mod written;

@@ -7,11 +7,11 @@ ghost use Rattle.ap_world.specs.World.{function_of};
 ghost use Rattle.ap_kernel.specs.Standing.{HasGround};
 
 use crate::known::{are_facts, first_world};
-use crate::written::term;
 use ap_eval::is_known;
 use ap_ground::ground_world;
 use ap_ground::laws::ground_has_its_functions;
 use ap_list::{NoMemory, Seq};
+use ap_tests_terms::term;
 use ap_types::{Ctx, Term, World, kept_mask, types_of};
 use ap_value::acl2;
 use ap_world::{RuleClass, Rune, Theory};
@@ -87,12 +87,6 @@ fn are_as_said(alloc: Global, w: &World, rows: &[Row]) -> Result<bool, NoMemory>
     Ok(true)
 }
 
-/// Whether each term has the types of its row in the ground world.
-fn hold_at_first(alloc: Global, rows: &[Row]) -> Result<bool, NoMemory> {
-    let world = first_world(alloc)?;
-    are_as_said(alloc, &world, rows)
-}
-
 /// Each function of the ground world with its types, written by hand from its body.
 const FUNCTIONS: &[(&[u8], u16)] = &[
     (b"NOT", 24),
@@ -140,24 +134,18 @@ fn keeps(alloc: Global, w: &World, name: &[u8], types: u16) -> Result<bool, NoMe
 }
 
 /// Whether each function of the ground world keeps the mask of its types.
-fn each_keeps(alloc: Global) -> Result<bool, NoMemory> {
-    let world = first_world(alloc)?;
+fn each_keeps(alloc: Global, w: &World) -> Result<bool, NoMemory> {
     for (name, types) in FUNCTIONS {
-        if !keeps(alloc, &world, name, *types)? {
+        if !keeps(alloc, w, name, *types)? {
             return Ok(false);
         }
     }
     Ok(true)
 }
 
-#[test]
-fn each_ground_function_keeps_the_least_mask(rt: HostRuntime) -> Result<(), Fail> {
-    assert!(rt; each_keeps(rt.alloc())?);
-    Ok(())
-}
-
-/// Each kind of fact, once true and once false, and what is left of the types of a variable.
-const FACTS: &[Row] = &[
+/// Terms under a fact, and their types.
+const TERMS: &[Row] = &[
+    // Each kind of fact, once true and once false, and what is left of the types of a variable.
     ("X", true, "X", ALL - NIL),
     ("X", false, "X", NIL),
     ("(CONSP X)", true, "X", PROPER + IMPROPER),
@@ -193,20 +181,11 @@ const FACTS: &[Row] = &[
     ("(NATP X)", true, "X", ALL),
     ("(NATP X)", false, "X", ALL),
     ("(CONSP X)", true, "Y", ALL),
-];
-
-#[test]
-fn each_kind_of_fact_cuts(rt: HostRuntime) -> Result<(), Fail> {
-    assert!(rt; hold_at_first(rt.alloc(), FACTS)?);
-    Ok(())
-}
-
-/// Terms under a true fact, and their types.
-const TERMS: &[Row] = &[
+    // Terms under a true fact.
     ("'T", true, "7", POSITIVE),
     ("'T", true, "'NIL", NIL),
     ("'T", true, "'A", SYMBOL),
-    ("'T", true, "1.2", IMPROPER),
+    ("'T", true, "'(1 . 2)", IMPROPER),
     ("'T", true, "(EQUAL X Y)", TRUTHS),
     ("'T", true, "(EQUAL 1 'A)", NIL),
     ("'T", true, "(EQUAL 0 0)", TRUE),
@@ -244,16 +223,7 @@ const TERMS: &[Row] = &[
         PROPER + IMPROPER,
     ),
     ("'T", true, "(BINARY-+ 1 (LEN X))", POSITIVE),
-];
-
-#[test]
-fn calls_have_the_types_of_the_table(rt: HostRuntime) -> Result<(), Fail> {
-    assert!(rt; hold_at_first(rt.alloc(), TERMS)?);
-    Ok(())
-}
-
-/// Each branch is looked at under its test, and not at all where a fact decides the test.
-const IFS: &[Row] = &[
+    // Each branch is looked at under its test, and not at all where a fact decides the test.
     ("'T", true, "(IF (CONSP X) 1 'A)", POSITIVE + SYMBOL),
     ("(CONSP X)", true, "(IF (CONSP X) 1 'A)", POSITIVE),
     ("(CONSP X)", false, "(IF (CONSP X) 1 'A)", SYMBOL),
@@ -265,12 +235,6 @@ const IFS: &[Row] = &[
         NIL + PROPER + POSITIVE,
     ),
 ];
-
-#[test]
-fn a_fact_decides_the_test_of_an_if(rt: HostRuntime) -> Result<(), Fail> {
-    assert!(rt; hold_at_first(rt.alloc(), IFS)?);
-    Ok(())
-}
 
 /// The world where the type-prescription rune of this name is disabled.
 fn without_types(alloc: Global, mut world: World, name: &[u8]) -> Result<World, NoMemory>
@@ -295,12 +259,6 @@ fn hold_without_len(alloc: Global) -> Result<bool, NoMemory> {
     let world = first_world(alloc)?;
     let world = without_types(alloc, world, b"LEN")?;
     are_as_said(alloc, &world, SILENT)
-}
-
-#[test]
-fn a_disabled_type_prescription_says_nothing(rt: HostRuntime) -> Result<(), Fail> {
-    assert!(rt; hold_without_len(rt.alloc())?);
-    Ok(())
 }
 
 /// The call of a function on one term.
@@ -345,9 +303,30 @@ fn nfix_has(alloc: Global, disabled: &[u8], types: u16) -> Result<bool, NoMemory
     is_as_said(alloc, &world, &("'T", true, "(NFIX X)", types))
 }
 
+/// Whether all terms have the types of their rows, and the world's functions keep theirs.
+fn hold(alloc: Global, w: &World) -> Result<bool, NoMemory>
+    requires ground { HasGround (function_of w.now.entries) }
+{
+    Ok(each_keeps(alloc, w)? && are_as_said(alloc, w, TERMS)?)
+}
+
+/// The same in the ground world.
+fn hold_at_first(alloc: Global) -> Result<bool, NoMemory> {
+    let world = first_world(alloc)?;
+    hold(alloc, &world)
+}
+
 #[test]
-fn a_theorem_narrows_where_it_is_enabled(rt: HostRuntime) -> Result<(), Fail> {
-    assert!(rt; nfix_has(rt.alloc(), b"LEN", INTEGERS)?);
+fn types_are_those_of_the_tables(rt: HostRuntime) -> Result<(), Fail> {
+    assert!(rt; hold_at_first(rt.alloc())?, "the ground world");
+    assert!(rt;
+        hold_without_len(rt.alloc())?,
+        "a disabled type prescription says nothing"
+    );
+    assert!(rt;
+        nfix_has(rt.alloc(), b"LEN", INTEGERS)?,
+        "an enabled theorem narrows"
+    );
     assert!(rt; nfix_has(rt.alloc(), b"INTEGERP-NFIX", ALL)?);
     assert!(rt; nfix_has(rt.alloc(), b"NFIX", ALL)?);
     Ok(())

@@ -4,35 +4,34 @@ ghost use Rattle.ap_world.specs.Sound.{HasFunctions};
 ghost use Rattle.ap_hints.specs.Known.{KnownHints};
 ghost use Rattle.ap_strategy.specs.Goals.{defs_of};
 
-use crate::clauses::is_written;
-use crate::tables::expect_count;
-use crate::written::{number, term};
+use crate::expect::expect;
 use ap_eval::is_known;
 use ap_ground::ground_world;
 use ap_ground::laws::ground_has_its_functions;
 use ap_hints::no_hints;
 use ap_list::{Boxed, Bytes, NoMemory, Seq};
+use ap_print::print_clause;
 use ap_rules::Ruled;
 use ap_strategy::{Acl2Step, Plan, Planned, Task, induct_task};
 use ap_term::Term;
-use ap_value::is_named;
+use ap_tests_terms::{sides, term};
 use ap_walk::{Act, Mark, Out, Process, Reason, Rule, Step, Stepped, Walked, serial};
 use std::alloc::{AllocError, Global};
 use std::marker::Brand;
 use std::process::Abort;
 
-/// Each row: the steps that a clause may spend; a conjecture, and what is visited in its walk, a kind of step
-/// with the number of children or of the reason, and with the clause; and the names of the goals.
+/// Each row: the steps that a clause may spend and a conjecture; and what is visited in its walk, each goal's name, the kind of
+/// step with the number of children or of the reason, and the clause.
 const ROWS: &str =
-    "(WALK 9 (IMPLIES (EQUAL X Y) (EQUAL Y X)) (SIMPLIFY 1 (OR (NOT (EQUAL X Y)) (EQUAL Y X))) (SIMPLIFY 0 (OR (EQUAL Y Y)))) => Goal, Goal'
-(WALK 14 (IF (EQUAL (EQUAL X Y) (EQUAL Z W)) (EQUAL U V) 'NIL) (SIMPLIFY 2 (OR (IF (EQUAL (EQUAL X Y) (EQUAL Z W)) (EQUAL U V) 'NIL))) (PUSH 0 (OR (NOT (EQUAL (EQUAL X Y) (EQUAL Z W))) (EQUAL U V))) (PUSH 0 (OR (EQUAL (EQUAL X Y) (EQUAL Z W))))) => Goal, Subgoal 2, Subgoal 1
-(WALK 9 'NIL (SIMPLIFY 1 (OR 'NIL)) (EMPTY 2 (OR))) => Goal, Goal'
-(WALK 9 (EQUAL X Y) (PUSH 0 (OR (EQUAL X Y)))) => Goal
-(WALK 11 (IF X (IF Y Z W) U) (SIMPLIFY 3 (OR (IF X (IF Y Z W) U))) (IRRELEVANCE 1 (OR (NOT X) (NOT Y) Z)) (PUSH 0 (OR Z)) (IRRELEVANCE 1 (OR (NOT X) Y W)) (PUSH 0 (OR Y W)) (PUSH 0 (OR X U))) => Goal, Subgoal 3, Subgoal 3', Subgoal 2, Subgoal 2', Subgoal 1
-(WALK 10 (IF X (IF Y Z W) U) (LIMITED 0 (OR (IF X (IF Y Z W) U)))) => Goal
-(WALK 9 (IF X (EQUAL Y Y) (IF X Z X)) (SIMPLIFY 1 (OR (IF X (EQUAL Y Y) (IF X Z X)))) (PUSH 0 (OR X))) => Goal, Goal'
-(WALK 9 (IMPLIES (NOT (NOT (EQUAL X (CONS Y Z)))) (IMPLIES (EQUAL W X) (CONSP W))) (SIMPLIFY 1 (OR (NOT (EQUAL X (CONS Y Z))) (NOT (EQUAL W X)) (CONSP W))) (SIMPLIFY 1 (OR (NOT (EQUAL W (CONS Y Z))) (CONSP W))) (SIMPLIFY 0 (OR (CONSP (CONS Y Z))))) => Goal, Goal', Goal''
-(WALK 0 (IMPLIES (CONSP X) (IMPLIES (NOT (CONSP X)) Y)) (SIMPLIFY 0 (OR (NOT (CONSP X)) (CONSP X) Y))) => Goal";
+    r#"9 (implies (equal x y) (equal y x)) => Goal simplify 1 (OR (NOT (EQUAL X Y)) (EQUAL Y X)); Goal' simplify 0 (EQUAL Y Y)
+14 (if (equal (equal x y) (equal z w)) (equal u v) 'nil) => Goal simplify 2 (IF (EQUAL (EQUAL X Y) (EQUAL Z W)) (EQUAL U V) 'NIL); Subgoal 2 push 0 (OR (NOT (EQUAL (EQUAL X Y) (EQUAL Z W))) (EQUAL U V)); Subgoal 1 push 0 (EQUAL (EQUAL X Y) (EQUAL Z W))
+9 'nil => Goal simplify 1 'NIL; Goal' empty 2 NIL
+9 (equal x y) => Goal push 0 (EQUAL X Y)
+11 (if x (if y z w) u) => Goal simplify 3 (IF X (IF Y Z W) U); Subgoal 3 irrelevance 1 (OR (NOT X) (NOT Y) Z); Subgoal 3' push 0 Z; Subgoal 2 irrelevance 1 (OR (NOT X) Y W); Subgoal 2' push 0 (OR Y W); Subgoal 1 push 0 (OR X U)
+10 (if x (if y z w) u) => Goal limited 0 (IF X (IF Y Z W) U)
+9 (if x (equal y y) (if x z x)) => Goal simplify 1 (IF X (EQUAL Y Y) (IF X Z X)); Goal' push 0 X
+9 (implies (not (not (equal x (cons y z)))) (implies (equal w x) (consp w))) => Goal simplify 1 (OR (NOT (EQUAL X (CONS Y Z))) (NOT (EQUAL W X)) (CONSP W)); Goal' simplify 1 (OR (NOT (EQUAL W (CONS Y Z))) (CONSP W)); Goal'' simplify 0 (CONSP (CONS Y Z))
+0 (implies (consp x) (implies (not (consp x)) y)) => Goal simplify 0 (OR (NOT (CONSP X)) (CONSP X) Y)"#;
 
 /// A plan of the ground world.
 fn first_plan(alloc: Global, step_limit: u32) -> Result<Plan, NoMemory>
@@ -68,48 +67,37 @@ pub(crate) fn root<'a, J: Planned>(
 /// The word for what a step did.
 fn kind(act: Act) -> &'static [u8] {
     match (act.process, act.missed, act.limited) {
-        (Process::Simplify, false, false) => b"SIMPLIFY",
-        (Process::Irrelevance, true, false) => b"IRRELEVANCE",
-        (Process::Push, true, false) => b"PUSH",
-        (Process::Push, true, true) => b"LIMITED",
-        (Process::Stop, true, false) => b"EMPTY",
-        _ => b"OTHER",
+        (Process::Simplify, false, false) => b"simplify",
+        (Process::Irrelevance, true, false) => b"irrelevance",
+        (Process::Push, true, false) => b"push",
+        (Process::Push, true, true) => b"limited",
+        (Process::Stop, true, false) => b"empty",
+        _ => b"other",
     }
 }
 
-/// Whether a mark is the one that is written.
-fn is_mark<J: Planned>(mark: &Mark<Task<'_, J>>, visit: &Term) -> bool {
-    let Term::Call(name, parts) = visit else {
-        return false;
-    };
-    let [children, clause] = parts.as_slice() else {
-        return false;
-    };
+/// Writes a mark.
+fn put_mark<J: Planned>(
+    alloc: Global,
+    text: &mut Bytes,
+    mark: &Mark<Task<'_, J>>,
+) -> Result<(), NoMemory> {
     let task = &mark.task;
-    is_named(name, kind(mark.act))
-        && number(children) == Some(mark.children)
-        && is_written(&task.clause, clause)
+    text.append(task.name.print(alloc)?)?;
+    text.push(b' ')?;
+    text.extend(kind(mark.act))?;
+    text.extend(format!(in alloc; " {} ", mark.children)?.as_bytes())?;
+    text.append(print_clause(alloc, &task.clause)?)
 }
 
-/// Whether marks are those that are written.
-fn are_marks<J: Planned>(marks: &[Mark<Task<'_, J>>], visits: &[Term]) -> bool {
-    for (mark, visit) in marks.iter().zip(visits) {
-        if !is_mark(mark, visit) {
-            return false;
-        }
-    }
-    marks.len() == visits.len()
-}
-
-/// The names of the tasks of marks, with a comma between two.
-fn names<J: Planned>(alloc: Global, marks: &[Mark<Task<'_, J>>]) -> Result<Bytes, NoMemory> {
+/// Marks as text.
+fn marks_told<J: Planned>(alloc: Global, marks: &[Mark<Task<'_, J>>]) -> Result<Bytes, NoMemory> {
     let mut text = Seq::new(alloc);
     for mark in marks {
         if !text.is_empty() {
-            text.extend(b", ")?;
+            text.extend(b"; ")?;
         }
-        let task = &mark.task;
-        text.append(task.name.print(alloc)?)?;
+        put_mark(alloc, &mut text, mark)?;
     }
     Ok(text)
 }
@@ -134,82 +122,35 @@ fn walk<'a, J: Planned>(
     serial(alloc, &Acl2Step::new(plan, 1), task.get(), rule)
 }
 
-/// The names of the tasks of marks, or none where the marks aren't those that are written.
-fn visited_names<J: Planned>(
-    alloc: Global,
-    marks: &[Mark<Task<'_, J>>],
-    visits: &[Term],
-) -> Result<Bytes, NoMemory> {
-    if are_marks(marks, visits) {
-        names(alloc, marks)
-    } else {
-        Ok(Bytes::new(alloc))
-    }
-}
-
-/// The same of a conjecture's walk.
-fn walked_names<J: Planned>(
-    alloc: Global,
-    plan: &Plan,
-    conjecture: &Term,
-    visits: &[Term],
-) -> Result<Bytes, NoMemory>
+/// What is visited in the walk of a conjecture.
+fn walk_told<J: Planned>(alloc: Global, plan: &Plan, conjecture: &Term) -> Result<Bytes, NoMemory>
     requires brand { plan.now ≡ J.plan }
     requires functions { HasFunctions (defs_of plan.now) }
     requires hints { KnownHints plan.now.world.entries plan.now.hints }
 {
     let walked: Walked<Task<'_, J>> = walk(alloc, plan, conjecture)?;
-    visited_names(alloc, walked.marks.as_slice(), visits)
+    marks_told(alloc, walked.marks.as_slice())
 }
 
 /// The same where a clause may spend so many steps.
-fn planned_names(
-    alloc: Global,
-    steps: u32,
-    conjecture: &Term,
-    visits: &[Term],
-) -> Result<Bytes, NoMemory> {
+fn planned_told(alloc: Global, steps: u32, conjecture: &Term) -> Result<Bytes, NoMemory> {
     let plan = first_plan(alloc, steps)?;
-    walked_names::<Brand>(alloc, &plan, conjecture, visits)
+    walk_told::<Brand>(alloc, &plan, conjecture)
 }
 
 /// The same of a row.
-fn row_names(alloc: Global, row: &Term) -> Result<Bytes, NoMemory> {
-    match row {
-        Term::Call(_, parts) => parts_names(alloc, parts.as_slice()),
-        _ => Ok(Bytes::new(alloc)),
-    }
-}
-
-/// The same of the parts of a row.
-fn parts_names(alloc: Global, parts: &[Term]) -> Result<Bytes, NoMemory> {
-    match parts {
-        [steps, conjecture, visits @ ..] => {
-            planned_names(alloc, number(steps).unwrap_or(0), conjecture, visits)
-        }
-        _ => Ok(Bytes::new(alloc)),
-    }
-}
-
-/// The same of a row as it is written.
-fn text_names(alloc: Global, text: &str) -> Result<Bytes, NoMemory> {
-    let row = term(alloc, text)?;
-    row_names(alloc, &row)
-}
-
-/// Compares the names of goals with those that a line has.
-pub(crate) fn expect(rt: &impl Abort, line: &str, found: &[u8], wanted: &str) {
-    let found = str::from_utf8(found).unwrap_or("no text");
-    assert_eq!(rt; found, wanted, "{line}");
+fn row_told(alloc: Global, row: &str) -> Result<Bytes, NoMemory> {
+    let (steps, text) = row.split_once(' ').unwrap_or((row, ""));
+    let conjecture = term(alloc, text)?;
+    planned_told(alloc, steps.parse().unwrap_or(0), &conjecture)
 }
 
 #[test]
 fn goals_are_walked_as_the_rows_say(rt: HostRuntime) -> Result<(), NoMemory> {
-    expect_count(&rt, ROWS, 9);
+    assert_eq!(rt; ROWS.lines().count(), 9);
     for line in ROWS.lines() {
-        let (row, wanted) = line.split_once(" => ").unwrap_or((line, ""));
-        let names = text_names(rt.alloc(), row)?;
-        expect(&rt, line, names.as_slice(), wanted);
+        let found = row_told(rt.alloc(), sides(line).0)?;
+        expect(&rt, found.as_slice(), sides(line).1, line);
     }
     Ok(())
 }
@@ -302,14 +243,6 @@ fn expect_inductions<J: Planned, R: Abort>(
     expect_reasons(rt, alloc, tasks.as_slice())
 }
 
-#[test]
-fn an_induction_without_a_scheme_or_under_nine_others_stops(
-    rt: HostRuntime,
-) -> Result<(), NoMemory> {
-    let plan = first_plan(rt.alloc(), 9)?;
-    expect_inductions::<Brand, _>(&rt, rt.alloc(), &plan)
-}
-
 /// A conjecture that is proved by induction: appending is associative.
 const ASSOCIATIVE: &str =
     "(EQUAL (BINARY-APPEND (BINARY-APPEND X Y) Z) (BINARY-APPEND X (BINARY-APPEND Y Z)))";
@@ -357,9 +290,9 @@ fn expect_cases<J: Planned>(
     let names = induction_cases(alloc, task)?;
     expect(
         rt,
-        "the cases",
         names.as_slice(),
         "Subgoal *1/2, Subgoal *1/1",
+        "the cases",
     );
     Ok(())
 }
@@ -371,12 +304,6 @@ fn expect_split<J: Planned, R: Abort>(rt: &R, alloc: Global, plan: &Plan) -> Res
 {
     let task: Boxed<Task<'_, J>> = Boxed::new(alloc, written_task(alloc, plan, ASSOCIATIVE)?)?;
     expect_cases(rt, alloc, task.get())
-}
-
-#[test]
-fn an_induction_splits_into_its_cases(rt: HostRuntime) -> Result<(), NoMemory> {
-    let plan = first_plan(rt.alloc(), 9)?;
-    expect_split::<Brand, _>(&rt, rt.alloc(), &plan)
 }
 
 /// Whether a copy is the same task.
@@ -412,7 +339,7 @@ fn expect_tasks<J: Planned>(
     assert!(rt; is_copied(alloc, task)?, "a copy");
     assert!(rt; is_other(alloc, task)?, "an induction");
     let name = induction_name(alloc, task)?;
-    expect(rt, "its name", name.as_slice(), "*1");
+    expect(rt, name.as_slice(), "*1", "its name");
     Ok(())
 }
 
@@ -428,8 +355,18 @@ fn expect_copy<J: Planned, R: Abort>(rt: &R, alloc: Global, plan: &Plan) -> Resu
     expect_tasks(rt, alloc, task.get())
 }
 
+fn expect_all<J: Planned, R: Abort>(rt: &R, alloc: Global, plan: &Plan) -> Result<(), NoMemory>
+    requires brand { plan.now ≡ J.plan }
+    requires functions { HasFunctions (defs_of plan.now) }
+    requires hints { KnownHints plan.now.world.entries plan.now.hints }
+{
+    expect_inductions::<J, R>(rt, alloc, plan)?;
+    expect_split::<J, R>(rt, alloc, plan)?;
+    expect_copy::<J, R>(rt, alloc, plan)
+}
+
 #[test]
-fn a_copy_is_the_same_and_an_induction_is_not(rt: HostRuntime) -> Result<(), NoMemory> {
+fn inductions_stop_or_split_and_are_other_tasks(rt: HostRuntime) -> Result<(), NoMemory> {
     let plan = first_plan(rt.alloc(), 9)?;
-    expect_copy::<Brand, _>(&rt, rt.alloc(), &plan)
+    expect_all::<Brand, _>(&rt, rt.alloc(), &plan)
 }

@@ -2,11 +2,12 @@
 ghost use Rattle.ap_world.specs.World.{function_of};
 ghost use Rattle.ap_kernel.specs.Standing.{HasGround};
 
-use crate::given::{expect, first_world, read, sides};
+use crate::given::{expect, first_world};
 use crate::inequalities::{equated, refuted};
 use crate::theorems::{by_theorem, folded, opened};
 use ap_kernel::{Equiv, World};
 use ap_reader::Form;
+use ap_tests_terms::{read, sides};
 use std::alloc::Global;
 use std::process::Abort;
 
@@ -24,18 +25,17 @@ const APPLICATIONS: &str =
 0 (not (consp x)) 1 (not (consp 1)) => (EQUAL (CONSP '1) 'NIL)
 1 (if (consp x) (consp y) 't) z (if (consp z) (consp y) 't) => none"#;
 
-/// Each row: a call that is opened or folded.
-const CALLS: &str =
+/// Each row: a call that is opened to its body's instance or folded to its value; a literal behind its sign, with a fact that
+/// is true, under which polynomials refute it; or two terms neither of which is less.
+const GROUND: &str =
     r#"open (binary-append (car x) z) => (EQUAL (BINARY-APPEND (CAR X) Z) (IF (ENDP (CAR X)) Z (CONS (CAR (CAR X)) (BINARY-APPEND (CDR (CAR X)) Z))))
 open (cons x y) => none
 open x => none
 fold (binary-* 3 4) => (EQUAL (BINARY-* '3 '4) '12)
 fold (cons 'a 1) => (EQUAL (CONS 'A '1) '(A . 1))
 fold (binary-* 3 x) => none
-fold 3 => none"#;
-
-/// Each row: a literal behind its sign with a fact that is true, or two terms neither of which is less.
-const INEQUALITIES: &str = r#"- (< y x) (< y x) => (EQUAL (< Y X) 'T)
+fold 3 => none
+- (< y x) (< y x) => (EQUAL (< Y X) 'T)
 + (< x y) (< y x) => (EQUAL (< X Y) 'NIL)
 + (equal x 3) (< x 3) => (EQUAL (EQUAL X '3) 'NIL)
 + (< x x) 't => (EQUAL (< X X) 'NIL)
@@ -66,42 +66,35 @@ fn expect_row(rt: &impl Abort, alloc: Global, w: &World, line: &str)
     requires ground { HasGround (function_of w.now.entries) }
 {
     let (word, text) = sides(line).0.split_once(' ').unwrap_or((line, ""));
-    let row = read(rt, alloc, text);
+    let row = read(alloc, text);
     let found = on_ground(rt, alloc, w, word, row.as_slice());
     expect(rt, alloc, line, found);
-}
-
-/// Goes through a table of so many lines.
-fn expect_rows(rt: &impl Abort, alloc: Global, table: &str, count: usize) {
-    assert_eq!(rt; table.lines().count(), count);
-    let w = first_world(rt, alloc);
-    for line in table.lines() {
-        expect_row(rt, alloc, &w, line);
-    }
 }
 
 /// Compares what the part of a theorem that a line names answers with what the line says.
 fn expect_part(rt: &impl Abort, alloc: Global, line: &str) {
     let (part, text) = sides(line).0.split_once(' ').unwrap_or((line, ""));
-    let row = read(rt, alloc, text);
+    let row = read(alloc, text);
     let found = by_theorem(rt, alloc, part.parse().unwrap_or(9), row.as_slice());
     expect(rt, alloc, line, found);
 }
 
-#[test]
-fn a_theorem_is_applied_where_its_hypotheses_are_relieved(rt: HostRuntime) {
-    assert_eq!(rt; APPLICATIONS.lines().count(), 10);
-    for line in APPLICATIONS.lines() {
-        expect_part(&rt, rt.alloc(), line);
+/// Compares the answers on the ground world with the table.
+fn expect_rows(rt: &impl Abort, alloc: Global) {
+    let w = first_world(rt, alloc);
+    for line in GROUND.lines() {
+        expect_row(rt, alloc, &w, line);
     }
 }
 
 #[test]
-fn a_call_opens_to_its_body_s_instance_and_folds_to_its_value(rt: HostRuntime) {
-    expect_rows(&rt, rt.alloc(), CALLS, 7)
-}
-
-#[test]
-fn what_polynomials_refute_has_the_other_sign(rt: HostRuntime) {
-    expect_rows(&rt, rt.alloc(), INEQUALITIES, 12)
+fn the_rows_lead_where_they_say(rt: HostRuntime) {
+    assert_eq!(rt;
+        (APPLICATIONS.lines().count(), GROUND.lines().count()),
+        (10, 19)
+    );
+    for line in APPLICATIONS.lines() {
+        expect_part(&rt, rt.alloc(), line);
+    }
+    expect_rows(&rt, rt.alloc());
 }

@@ -51,15 +51,6 @@ fn expect_name(
     assert_eq!(rt; w.enabled_for(RuneKind::Rewrite, &name), is_enabled);
 }
 
-#[test]
-fn a_world_goes_back_to_its_first_entries_with_a_theory(rt: HostRuntime) {
-    let mut world = first_world(&rt, rt.alloc());
-    go_back(&rt, rt.alloc(), &mut world);
-    for (name, is_there, is_enabled) in AFTER {
-        expect_name(&rt, rt.alloc(), &world, *name, *is_there, *is_enabled);
-    }
-}
-
 /// A function of the world with another mask.
 fn masked(rt: &impl Abort, alloc: Global, w: &World, name: &str, mask: u16) -> Entry {
     let name = symbol(rt, alloc, name.as_bytes());
@@ -97,9 +88,13 @@ fn expect_pair(
 }
 
 #[test]
-fn functions_are_alike_whatever_their_masks(rt: HostRuntime) {
-    let w = first_world(&rt, rt.alloc());
+fn a_world_goes_back_with_a_theory_and_functions_are_alike_whatever_their_masks(rt: HostRuntime) {
+    let mut world = first_world(&rt, rt.alloc());
     for row in PAIRS {
-        expect_pair(&rt, rt.alloc(), &w, row);
+        expect_pair(&rt, rt.alloc(), &world, row);
+    }
+    go_back(&rt, rt.alloc(), &mut world);
+    for (name, is_there, is_enabled) in AFTER {
+        expect_name(&rt, rt.alloc(), &world, *name, *is_there, *is_enabled);
     }
 }

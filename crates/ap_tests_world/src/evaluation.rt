@@ -1,11 +1,12 @@
 //! What the evaluator answers, by tables.
 
-use crate::text::term;
+use crate::expect::expect;
 use ap_eval::{Env, EvalStop, eval, is_known};
 use ap_ground::ground_world;
 use ap_list::{Bytes, NoMemory, Seq};
 use ap_print::{print_term, print_value};
 use ap_term::Term;
+use ap_tests_terms::term;
 use ap_value::{Value, acl2};
 use ap_world::World;
 use std::alloc::{AllocError, Global};
@@ -14,7 +15,11 @@ use std::process::Abort;
 /// Each row: the units that a call runs with, the call, and what is answered: a value, the call at which an integer
 /// leaves 128 bits, or why it stopped. `X` is 5, and `L` a string of 4,095 letters.
 const ROWS: &[(u32, &str, &str)] = &[
-    (100, "(equal (coerce \"ab\" 'list) (coerce \"ab\" 'list))", "T"),
+    (
+        100,
+        "(equal (coerce \"ab\" 'list) (coerce \"ab\" 'list))",
+        "T",
+    ),
     (100, "(equal 3 #\\a)", "NIL"),
     (100, "(consp (cons 1 2))", "T"),
     (100, "(consp 1)", "NIL"),
@@ -33,9 +38,21 @@ const ROWS: &[(u32, &str, &str)] = &[
     (100, "(cdr \"ab\")", "NIL"),
     (100, "(+ 2 -3)", "-1"),
     (100, "(+ 2 #\\a)", "2"),
-    (100, "(+ 1 170141183460469231731687303715884105727)", "(BINARY-+ '1 '170141183460469231731687303715884105727)"),
-    (100, "(+ -170141183460469231731687303715884105728 -1)", "(BINARY-+ '-170141183460469231731687303715884105728 '-1)"),
-    (100, "(+ -170141183460469231731687303715884105728 170141183460469231731687303715884105727)", "-1"),
+    (
+        100,
+        "(+ 1 170141183460469231731687303715884105727)",
+        "(BINARY-+ '1 '170141183460469231731687303715884105727)",
+    ),
+    (
+        100,
+        "(+ -170141183460469231731687303715884105728 -1)",
+        "(BINARY-+ '-170141183460469231731687303715884105728 '-1)",
+    ),
+    (
+        100,
+        "(+ -170141183460469231731687303715884105728 170141183460469231731687303715884105727)",
+        "-1",
+    ),
     (100, "(binary-* -2 3)", "-6"),
     (100, "(binary-* 'a 3)", "0"),
     (100, "(unary-- 5)", "-5"),
@@ -52,8 +69,16 @@ const ROWS: &[(u32, &str, &str)] = &[
     (100, "(coerce (coerce \"ab\" 'list) 'string)", "\"ab\""),
     (100, "(coerce \"ab\" 'string)", "\"\""),
     (100, "(coerce \"ab\" 'list)", "(#\\a #\\b)"),
-    (3, "(if 'nil (+ 1 170141183460469231731687303715884105727) 7)", "7"),
-    (3, "(if 'a 7 (+ 1 170141183460469231731687303715884105727))", "7"),
+    (
+        3,
+        "(if 'nil (+ 1 170141183460469231731687303715884105727) 7)",
+        "7",
+    ),
+    (
+        3,
+        "(if 'a 7 (+ 1 170141183460469231731687303715884105727))",
+        "7",
+    ),
     (2, "(if 7 'b 7)", "Spent"),
     (2, "(car 3)", "NIL"),
     (1, "(car 3)", "Spent"),
@@ -64,7 +89,11 @@ const ROWS: &[(u32, &str, &str)] = &[
     (2, "(symbolp y)", "T"),
     (4098, "(stringp l)", "T"),
     (5000, "(cons l 1)", "Large"),
-    (2, "(cons 1 (+ 1 170141183460469231731687303715884105727))", "Spent"),
+    (
+        2,
+        "(cons 1 (+ 1 170141183460469231731687303715884105727))",
+        "Spent",
+    ),
 ];
 
 /// A string of so many letters.
@@ -118,15 +147,9 @@ fn found(alloc: Global, w: &World, text: &str, units: u32) -> Result<Bytes, NoMe
 fn expect_rows(rt: &impl Abort, alloc: Global, w: &World) -> Result<(), NoMemory> {
     for (units, text, wanted) in ROWS {
         let found = found(alloc, w, *text, *units)?;
-        assert!(rt; found.as_slice() == wanted.as_bytes(), "{text}");
+        expect(rt, found.as_slice(), *wanted, *text);
     }
     Ok(())
-}
-
-#[test]
-fn each_call_is_answered(rt: HostRuntime) -> Result<(), NoMemory> {
-    let world = ground_world(rt.alloc())?;
-    expect_rows(&rt, rt.alloc(), &world)
 }
 
 /// `(UNARY-- (UNARY-- .. '1))`, so many calls deep.
@@ -151,13 +174,17 @@ fn deep_answer(alloc: Global, w: &World, units: u32) -> Result<Bytes, NoMemory> 
 }
 
 fn expect_deep(rt: &impl Abort, alloc: Global, w: &World) -> Result<(), NoMemory> {
-    assert!(rt; deep_answer(alloc, w, 2001)?.as_slice() == b"1".as_slice());
-    assert!(rt; deep_answer(alloc, w, 2000)?.as_slice() == b"Spent".as_slice());
+    for (units, wanted) in [(2001, "1"), (2000, "Spent")] {
+        expect(rt, deep_answer(alloc, w, units)?.as_slice(), wanted, "deep");
+    }
     Ok(())
 }
 
 #[test]
-fn two_thousand_nested_calls_have_a_value(rt: HostRuntime) -> Result<(), NoMemory> {
+fn each_call_is_answered_and_two_thousand_nested_ones_have_a_value(
+    rt: HostRuntime,
+) -> Result<(), NoMemory> {
     let world = ground_world(rt.alloc())?;
+    expect_rows(&rt, rt.alloc(), &world)?;
     expect_deep(&rt, rt.alloc(), &world)
 }

@@ -1,15 +1,17 @@
-//! The ground world, by tables.
+//! The ground world, by a table.
 
+use crate::expect::expect;
 use ap_ground::ground_world;
 use ap_list::{Bytes, NoMemory};
-use ap_print::print_term;
-use ap_value::{Symbol, acl2};
-use ap_world::{Function, RuleClass, Theorem, World};
+use ap_tests_terms::put_term;
+use ap_value::Symbol;
+use ap_world::{Entry, Function, RuleClass, Theorem, World, copy_entry, same_entry};
 use std::alloc::Global;
 use std::process::Abort;
 
-/// The functions, oldest first: the name, the formals, the body as it prints.
-const FUNCTIONS: &str = "NOT (P) (IF P 'NIL 'T)
+/// The entries, oldest first: a function's name, its formals, and its body as it prints; or a rule's name, its theorem as it
+/// prints, and whether it is one of elimination.
+const ENTRIES: &str = "NOT (P) (IF P 'NIL 'T)
 IMPLIES (P Q) (IF P (IF Q 'T 'NIL) 'T)
 IFF (P Q) (IF P (IF Q 'T 'NIL) (IF Q 'NIL 'T))
 ATOM (X) (NOT (CONSP X))
@@ -41,12 +43,10 @@ LENGTH (X) (IF (STRINGP X) (LEN (COERCE X 'LIST)) (LEN X))
 ACL2-COUNT (X) (IF (CONSP X) (BINARY-+ '1 (BINARY-+ (ACL2-COUNT (CAR X)) (ACL2-COUNT (CDR X)))) (IF (INTEGERP X) (INTEGER-ABS X) (IF (STRINGP X) (LENGTH X) '0)))
 BINARY-APPEND (X Y) (IF (ENDP X) Y (CONS (CAR X) (BINARY-APPEND (CDR X) Y)))
 MEMBER-EQUAL (A X) (IF (ENDP X) 'NIL (IF (EQUAL A (CAR X)) X (MEMBER-EQUAL A (CDR X))))
-MAKE-CHARACTER-LIST (X) (IF (ENDP X) 'NIL (CONS (IF (CHARACTERP (CAR X)) (CAR X) (CODE-CHAR '0)) (MAKE-CHARACTER-LIST (CDR X))))";
-
-/// The rules, oldest first: the name, and the theorem as it prints.
-const RULES: &str = "CAR-CONS (EQUAL (CAR (CONS X Y)) X)
+MAKE-CHARACTER-LIST (X) (IF (ENDP X) 'NIL (CONS (IF (CHARACTERP (CAR X)) (CAR X) (CODE-CHAR '0)) (MAKE-CHARACTER-LIST (CDR X))))
+CAR-CONS (EQUAL (CAR (CONS X Y)) X)
 CDR-CONS (EQUAL (CDR (CONS X Y)) Y)
-CAR-CDR-ELIM (IMPLIES (CONSP X) (EQUAL (CONS (CAR X) (CDR X)) X))
+CAR-CDR-ELIM (IMPLIES (CONSP X) (EQUAL (CONS (CAR X) (CDR X)) X)) elim
 COMMUTATIVITY-OF-+ (EQUAL (BINARY-+ X Y) (BINARY-+ Y X))
 ASSOCIATIVITY-OF-+ (EQUAL (BINARY-+ (BINARY-+ X Y) Z) (BINARY-+ X (BINARY-+ Y Z)))
 COMMUTATIVITY-2-OF-+ (EQUAL (BINARY-+ X (BINARY-+ Y Z)) (BINARY-+ Y (BINARY-+ X Z)))
@@ -60,100 +60,61 @@ DISTRIBUTIVITY (EQUAL (BINARY-* X (BINARY-+ Y Z)) (BINARY-+ (BINARY-* X Y) (BINA
 CODE-CHAR-CHAR-CODE (IMPLIES (CHARACTERP X) (EQUAL (CODE-CHAR (CHAR-CODE X)) X))
 COERCE-INVERSE (IMPLIES (STRINGP X) (EQUAL (COERCE (COERCE X 'LIST) 'STRING) X))";
 
-/// The formals between parentheses.
-fn shown_formals(alloc: Global, formals: &[Symbol]) -> Result<Bytes, NoMemory> {
-    let mut text = Bytes::from_slice(alloc, b"(")?;
+/// Writes formals between parentheses.
+fn put_formals(text: &mut Bytes, formals: &[Symbol]) -> Result<(), NoMemory> {
+    let mut between = b"(".as_slice();
     for formal in formals {
-        if text.len() > 1 {
-            text.push(b' ')?;
-        }
+        text.extend(between)?;
         text.extend(formal.name.as_slice())?;
+        between = b" ";
     }
-    text.push(b')')?;
-    Ok(text)
+    text.extend(b") ")
 }
 
-/// A function's formals between parentheses, and its body as it prints.
-fn shown(alloc: Global, function: &Function) -> Result<Bytes, NoMemory> {
-    let mut text = shown_formals(alloc, function.formals.as_slice())?;
+/// Writes a function's formals, and its body.
+fn put_function(alloc: Global, text: &mut Bytes, function: &Function) -> Result<(), NoMemory> {
+    put_formals(text, function.formals.as_slice())?;
+    put_term(alloc, text, &function.body)
+}
+
+/// Writes a theorem, and whether it is a rule of elimination.
+fn put_theorem(alloc: Global, text: &mut Bytes, theorem: &Theorem) -> Result<(), NoMemory> {
+    put_term(alloc, text, &theorem.term)?;
+    if matches!(theorem.classes.get(0), Some(RuleClass::Elim)) {
+        text.extend(b" elim")?;
+    }
+    Ok(())
+}
+
+/// An entry, as its line has it.
+fn shown(alloc: Global, entry: &Entry) -> Result<Bytes, NoMemory> {
+    let mut text = Bytes::from_slice(alloc, entry.name().name.as_slice())?;
     text.push(b' ')?;
-    text.append(print_term(alloc, &function.body)?)?;
+    match entry {
+        Entry::Function(function) => put_function(alloc, &mut text, function)?,
+        Entry::Theorem(theorem) => put_theorem(alloc, &mut text, theorem)?,
+        Entry::Constant(_, _) => {}
+    }
     Ok(text)
 }
 
-/// The function of this name, as its line has it.
-fn function_text(alloc: Global, world: &World, name: &str) -> Result<Bytes, NoMemory> {
-    let name = acl2(alloc, name.as_bytes())?;
-    match world.lookup_fun(&name) {
-        Some(function) => shown(alloc, function),
-        None => Ok(Bytes::new(alloc)),
-    }
+/// Whether a copy of an entry is the same.
+fn is_copied(alloc: Global, entry: &Entry) -> Result<bool, NoMemory> {
+    let copy = copy_entry(alloc, entry)?;
+    Ok(same_entry(entry, &copy))
 }
 
-/// The name of a line, and what it says of it.
-fn named(line: &str) -> (&str, &str) {
-    line.split_once(' ').unwrap_or((line, ""))
-}
-
-/// Compares what was printed with what the line says.
-fn expect(rt: &impl Abort, line: &str, found: &[u8], wanted: &str) {
-    let found = str::from_utf8(found).unwrap_or("no text");
-    assert_eq!(rt; found, wanted, "{line}");
-}
-
-fn expect_functions(rt: &impl Abort, alloc: Global, world: &World) -> Result<(), NoMemory> {
-    assert_eq!(rt; FUNCTIONS.lines().count(), 33);
-    for line in FUNCTIONS.lines() {
-        let (name, wanted) = named(line);
-        let found = function_text(alloc, world, name)?;
-        expect(rt, line, found.as_slice(), wanted);
+fn expect_entries(rt: &impl Abort, alloc: Global, world: &World) -> Result<(), NoMemory> {
+    assert_eq!(rt; (world.entries().len(), ENTRIES.lines().count()), (48, 48));
+    for (entry, line) in world.entries().iter().zip(ENTRIES.lines()) {
+        expect(rt, shown(alloc, entry)?.as_slice(), line, line);
+        assert!(rt; is_copied(alloc, entry)?, "{line}");
     }
     Ok(())
 }
 
 #[test]
-fn the_functions_are_those_of_the_table(rt: HostRuntime) -> Result<(), NoMemory> {
+fn the_entries_are_those_of_the_table_and_are_copied(rt: HostRuntime) -> Result<(), NoMemory> {
     let world = ground_world(rt.alloc())?;
-    expect_functions(&rt, rt.alloc(), &world)
-}
-
-/// A theorem as it prints; with a wrong rule class, nothing.
-fn shown_rule(alloc: Global, rule: &Theorem, is_elim_name: bool) -> Result<Bytes, NoMemory> {
-    if is_elim(rule) == is_elim_name {
-        print_term(alloc, &rule.term)
-    } else {
-        Ok(Bytes::new(alloc))
-    }
-}
-
-/// The theorem of this name, as its line has it.
-fn rule_text(alloc: Global, world: &World, name: &str) -> Result<Bytes, NoMemory> {
-    let is_elim_name = name == "CAR-CDR-ELIM";
-    let name = acl2(alloc, name.as_bytes())?;
-    match world.lookup_thm(&name) {
-        Some(rule) => shown_rule(alloc, rule, is_elim_name),
-        None => Ok(Bytes::new(alloc)),
-    }
-}
-
-/// Whether a theorem is an elimination rule.
-fn is_elim(rule: &Theorem) -> bool {
-    matches!(rule.classes.get(0), Some(RuleClass::Elim))
-}
-
-fn expect_rules(rt: &impl Abort, alloc: Global, world: &World) -> Result<(), NoMemory> {
-    assert_eq!(rt; RULES.lines().count(), 15);
-    for line in RULES.lines() {
-        let (name, wanted) = named(line);
-        let found = rule_text(alloc, world, name)?;
-        expect(rt, line, found.as_slice(), wanted);
-    }
-    assert!(rt; world.entry(47).is_some() && world.entry(48).is_none());
-    Ok(())
-}
-
-#[test]
-fn the_rules_are_those_of_the_table(rt: HostRuntime) -> Result<(), NoMemory> {
-    let world = ground_world(rt.alloc())?;
-    expect_rules(&rt, rt.alloc(), &world)
+    expect_entries(&rt, rt.alloc(), &world)
 }

@@ -9,9 +9,8 @@ ghost use Rattle.ap_world.specs.Sound.{not_function};
 use ap_value::{acl2, is_named};
 use ap_world::laws::{equal_sides_are_valid, starting_world_is_sound};
 use ap_world::{
-    AddError, Case, Entry, EntryRef, Function, Mask, Measure, NoMemory, Rune, Seq, Symbol, Term,
-    Theorem, Theory, Value, World, copy_cases, copy_entry, copy_function, copy_measure, copy_rune,
-    copy_theorem, copy_theory, same_rune,
+    AddError, EntryRef, Function, Mask, NoMemory, Rune, Seq, Symbol, Term, Theorem, Theory, Value,
+    World, copy_rune, copy_theory,
 };
 use std::alloc::{AllocError, Global};
 use std::process::Abort;
@@ -35,13 +34,8 @@ fn expect_names(rt: &impl Abort, alloc: Global, world: &mut World) -> Result<(),
     assert!(rt; is_added(alloc, world, b"*C*")?);
     assert!(rt; !is_added(alloc, world, b"*C*")?);
     assert!(rt; !is_added(alloc, world, b"CAR")?);
+    assert!(rt; has_copy_seven(alloc, world)?);
     Ok(())
-}
-
-#[test]
-fn a_name_is_added_once_and_a_primitives_never(rt: HostRuntime) -> Result<(), NoMemory> {
-    let mut world = World::bare(rt.alloc());
-    expect_names(&rt, rt.alloc(), &mut world)
 }
 
 /// Whether a name is that of the constant 7, and of nothing else.
@@ -68,22 +62,16 @@ fn has_copy_seven(alloc: Global, world: &World) -> Result<bool, NoMemory> {
     has_seven(alloc, &copy)
 }
 
-fn expect_copy(rt: &impl Abort, alloc: Global, world: &mut World) -> Result<(), NoMemory> {
-    assert!(rt; is_added(alloc, world, b"*C*")?);
-    assert!(rt; has_copy_seven(alloc, world)?);
-    Ok(())
-}
-
-#[test]
-fn a_copy_answers_what_was_added(rt: HostRuntime) -> Result<(), NoMemory> {
-    let mut world = World::bare(rt.alloc());
-    expect_copy(&rt, rt.alloc(), &mut world)
+/// A copy of a rune.
+fn copied_rune(alloc: Global, name: &[u8]) -> Result<Rune, NoMemory> {
+    let rune = Rune::Rewrite(acl2(alloc, name)?);
+    copy_rune(alloc, &rune)
 }
 
 /// A theory that disables rewriting by `f`.
 fn without_f(alloc: Global) -> Result<Theory, NoMemory> {
     let mut disabled = Seq::new(alloc);
-    disabled.push(Rune::Rewrite(acl2(alloc, b"F")?))?;
+    disabled.push(copied_rune(alloc, b"F")?)?;
     Theory::disabling(alloc, disabled)
 }
 
@@ -112,12 +100,6 @@ fn expect_theory(rt: &impl Abort, alloc: Global, world: &mut World) -> Result<()
     Ok(())
 }
 
-#[test]
-fn a_theory_disables_its_runes_alone(rt: HostRuntime) -> Result<(), NoMemory> {
-    let mut world = World::bare(rt.alloc());
-    expect_theory(&rt, rt.alloc(), &mut world)
-}
-
 /// `(equal 7 7)`.
 #[tactic(auto, unfolding(ap_world::specs::Names::equal_name))]
 fn same_sides(alloc: Global) -> Result<Term, NoMemory>
@@ -142,190 +124,6 @@ fn are_sevens(terms: &[Term]) -> bool {
         terms,
         [Term::Quote(Value::Int(7)), Term::Quote(Value::Int(7))]
     )
-}
-
-/// A list of one element.
-fn one<T: Drop>(alloc: Global, item: T) -> Result<Seq<T>, NoMemory> {
-    let mut items = Seq::new(alloc);
-    items.push(item)?;
-    Ok(items)
-}
-
-/// A case of one test and one call of one argument.
-fn counter_case(alloc: Global) -> Result<Case, NoMemory> {
-    let tests = one(alloc, same_sides(alloc)?)?;
-    let arguments = one(alloc, Term::Quote(Value::Int(0)))?;
-    let calls = one(alloc, arguments)?;
-    Ok(Case { tests, calls })
-}
-
-/// The measure `n`.
-fn counter_measure(alloc: Global) -> Result<Measure, NoMemory> {
-    Ok(Measure(one(alloc, Term::Var(acl2(alloc, b"N")?))?))
-}
-
-/// The formal `n`.
-fn counter_formals(alloc: Global) -> Result<Seq<Symbol>, NoMemory> {
-    one(alloc, acl2(alloc, b"N")?)
-}
-
-/// That case alone.
-fn counter_cases(alloc: Global) -> Result<Seq<Case>, NoMemory> {
-    one(alloc, counter_case(alloc)?)
-}
-
-/// A function of one case.
-fn counter(alloc: Global) -> Result<Function, NoMemory> {
-    let name = acl2(alloc, b"F")?;
-    let formals = counter_formals(alloc)?;
-    let cases = counter_cases(alloc)?;
-    let measure = counter_measure(alloc)?;
-    let body = same_sides(alloc)?;
-    Ok(Function {
-        name,
-        formals,
-        body,
-        measure: Some(measure),
-        cases,
-        mask: Mask(3),
-    })
-}
-
-fn is_counter_case(cases: &Seq<Case>) -> bool {
-    match cases.as_slice() {
-        [case] => match (case.tests.as_slice(), case.calls.as_slice()) {
-            ([test], [arguments]) => is_same_sides(test) && arguments.len() == 1,
-            _ => false,
-        },
-        _ => false,
-    }
-}
-
-fn is_counter_measure(measure: &Option<Measure>) -> bool {
-    match measure {
-        Some(Measure(components)) => match components.as_slice() {
-            [Term::Var(x)] => is_named(x, b"N"),
-            _ => false,
-        },
-        None => false,
-    }
-}
-
-/// Whether a function is the one of one case.
-fn is_counter(f: &Function) -> bool {
-    is_named(&f.name, b"F")
-        && f.formals.len() == 1
-        && is_same_sides(&f.body)
-        && f.mask.0 == 3
-        && is_counter_measure(&f.measure)
-        && is_counter_case(&f.cases)
-}
-
-/// A copy of it.
-fn copied_counter(alloc: Global) -> Result<Function, NoMemory> {
-    let f = counter(alloc)?;
-    copy_function(alloc, &f)
-}
-
-#[test]
-fn functions_are_copied(rt: HostRuntime) -> Result<(), NoMemory> {
-    let copied = copied_counter(rt.alloc())?;
-    assert!(rt; is_counter(&copied));
-    Ok(())
-}
-
-fn copied_case(alloc: Global) -> Result<Seq<Case>, NoMemory> {
-    let cases = counter_cases(alloc)?;
-    copy_cases(alloc, cases.as_slice())
-}
-
-#[test]
-fn cases_are_copied(rt: HostRuntime) -> Result<(), NoMemory> {
-    let copied = copied_case(rt.alloc())?;
-    assert!(rt; is_counter_case(&copied));
-    Ok(())
-}
-
-fn copied_measure(alloc: Global) -> Result<Option<Measure>, NoMemory> {
-    let measure = Some(counter_measure(alloc)?);
-    copy_measure(alloc, &measure)
-}
-
-#[test]
-fn measures_are_copied(rt: HostRuntime) -> Result<(), NoMemory> {
-    let copied = copied_measure(rt.alloc())?;
-    assert!(rt; is_counter_measure(&copied));
-    Ok(())
-}
-
-/// The theorem `u`, that 7 equals itself.
-fn theorem(alloc: Global) -> Result<Theorem, NoMemory> {
-    let name = acl2(alloc, b"U")?;
-    let term = same_sides(alloc)?;
-    Ok(Theorem {
-        name,
-        term,
-        classes: Seq::new(alloc),
-    })
-}
-
-/// Whether a theorem is `u`.
-fn is_theorem(u: &Theorem) -> bool {
-    is_named(&u.name, b"U") && is_same_sides(&u.term) && u.classes.is_empty()
-}
-
-fn copied_theorem(alloc: Global) -> Result<Theorem, NoMemory> {
-    let u = theorem(alloc)?;
-    copy_theorem(alloc, &u)
-}
-
-#[test]
-fn theorems_are_copied(rt: HostRuntime) -> Result<(), NoMemory> {
-    let copied = copied_theorem(rt.alloc())?;
-    assert!(rt; is_theorem(&copied));
-    Ok(())
-}
-
-/// Whether a copy of a rune is the same.
-fn is_rune_copied(alloc: Global, rune: &Rune) -> Result<bool, NoMemory> {
-    let copied = copy_rune(alloc, rune)?;
-    Ok(same_rune(rune, &copied))
-}
-
-fn is_induction_copied(alloc: Global) -> Result<bool, NoMemory> {
-    let rune = Rune::Induction(acl2(alloc, b"F")?);
-    is_rune_copied(alloc, &rune)
-}
-
-#[test]
-fn runes_are_copied(rt: HostRuntime) -> Result<(), NoMemory> {
-    assert!(rt; is_induction_copied(rt.alloc())?);
-    Ok(())
-}
-
-/// Whether an entry is the theorem `u`.
-fn is_entry(entry: &Entry) -> bool {
-    match entry {
-        Entry::Theorem(u) => is_theorem(u),
-        _ => false,
-    }
-}
-
-/// Whether a copy of an entry is the theorem `u`.
-fn is_entry_copied(alloc: Global, entry: &Entry) -> Result<bool, NoMemory> {
-    let copied = copy_entry(alloc, entry)?;
-    Ok(is_entry(&copied))
-}
-
-fn is_theorem_copied(alloc: Global) -> Result<bool, NoMemory> {
-    let entry = Entry::Theorem(theorem(alloc)?);
-    is_entry_copied(alloc, &entry)
-}
-
-#[test]
-fn an_entry_is_copied(rt: HostRuntime) -> Result<(), NoMemory> {
-    assert!(rt; is_theorem_copied(rt.alloc())?);
-    Ok(())
 }
 
 /// The body of `not`: `(if p nil t)`.
@@ -391,39 +189,6 @@ fn a_function_is_added(rt: HostRuntime) -> Result<(), NoMemory> {
     expect_not(&rt, rt.alloc(), &mut world)
 }
 
-/// The list of `not` alone.
-fn not_functions(alloc: Global) -> Result<Seq<Function>, NoMemory>
-    ensures { IfOk result (λ list. list ≡ not_function ∷ []) }
-{
-    let function = not_function(alloc)?;
-    let mut list = Seq::new(alloc);
-    list.push(function)?;
-    Ok(list)
-}
-
-/// Adds a list of functions to the bare world, and answers whether it was taken.
-fn are_added(alloc: Global, world: &mut World) -> Result<bool, NoMemory>
-    requires { world.old.entries ≡ [] }
-{
-    starting_world_is_sound();
-    let list = not_functions(alloc)?;
-    is_taken(world.add_functions(alloc, list))
-}
-
-fn expect_functions(rt: &impl Abort, alloc: Global, world: &mut World) -> Result<(), NoMemory>
-    requires { world.old.entries ≡ [] }
-{
-    assert!(rt; are_added(alloc, world)?);
-    assert!(rt; has_not(alloc, world)?);
-    Ok(())
-}
-
-#[test]
-fn functions_are_added(rt: HostRuntime) -> Result<(), NoMemory> {
-    let mut world = World::bare(rt.alloc());
-    expect_functions(&rt, rt.alloc(), &mut world)
-}
-
 /// Adds the theorem that 7 equals itself.
 fn add_same_sides(alloc: Global, world: &mut World, name: Symbol) -> Result<(), AddError> {
     equal_sides_are_valid();
@@ -436,6 +201,11 @@ fn add_same_sides(alloc: Global, world: &mut World, name: Symbol) -> Result<(), 
 fn is_theorem_added(alloc: Global, world: &mut World) -> Result<bool, NoMemory> {
     let name = acl2(alloc, b"U")?;
     is_taken(add_same_sides(alloc, world, name))
+}
+
+/// Whether a theorem is `u`.
+fn is_theorem(u: &Theorem) -> bool {
+    is_named(&u.name, b"U") && is_same_sides(&u.term) && u.classes.is_empty()
 }
 
 /// Whether the world has the theorem `u`.
@@ -455,7 +225,11 @@ fn expect_theorem(rt: &impl Abort, alloc: Global, world: &mut World) -> Result<(
 }
 
 #[test]
-fn a_theorem_is_added(rt: HostRuntime) -> Result<(), NoMemory> {
+fn names_and_a_theorem_are_added_once_and_a_theory_disables_its_runes_alone(
+    rt: HostRuntime,
+) -> Result<(), NoMemory> {
     let mut world = World::bare(rt.alloc());
+    expect_names(&rt, rt.alloc(), &mut world)?;
+    expect_theory(&rt, rt.alloc(), &mut world)?;
     expect_theorem(&rt, rt.alloc(), &mut world)
 }

@@ -1,7 +1,0 @@
-//! The tests of measures and of obligations.
-#![tactic(auto)]
-
-#[cfg(test)]
-mod recursion;
-#[cfg(test)]
-mod written;

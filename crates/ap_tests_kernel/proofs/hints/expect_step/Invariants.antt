@@ -1,5 +1,0 @@
-use Rattle.ap_tests_kernel.proofs.hints.expect_step.Given as goal
-
--- the brand of the tasks is the plan
-abbrev pub ghosts-step_told : goal.ghosts-step_told
-ghosts-step_told g a = record { plan = a.plan.now }
