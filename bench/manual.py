@@ -1,8 +1,14 @@
 #!/usr/bin/env python3
-"""manual.py [PROGRAM]: tries docs/MANUAL.md by PROGRAM (or the one that the launcher builds). Of each row of "You write,
-it says, write instead" the first column has to be refused, or admitted, as the second says, and what stands in the
-third as code, without dots, has to certify. A block of text behind a line `<!-- acl2p WORDS -->` has to stand in what the
-program prints for these words in a folder with all sample books, line by line, where a line `..` stands for any lines.
+"""manual.py [PROGRAM]: tries docs/MANUAL.md by PROGRAM (or the one that the launcher builds).
+
+- Of each row of "You write, it says, write instead" the first column has to be refused, or admitted, as the second says,
+  and what stands in the third as code, without dots, has to certify.
+- The example of each row of the tables of refusals has to be refused so.
+- A block of text behind a line `<!-- acl2p WORDS -->` has to stand in what the program prints for these words in a folder
+  with all sample books, line by line, where a line `..` stands for any lines.
+- A block that begins with events has to print what stands behind its first blank line, or in its column behind "prints",
+  by itself, or behind the functions of the last such block. A line `<!-- with OPTIONS -->` before it gives options.
+
 Prints what doesn't hold, and how many were tried; status 1 where one doesn't."""
 import glob
 import os
@@ -33,12 +39,12 @@ def run(folder, words):
     return told.stdout.splitlines()
 
 
-def run_events(folder, text):
+def run_events(folder, text, before=BEFORE, options=()):
     """What is printed of a book with these events, behind `daily` where it includes that."""
     with open(os.path.join(folder, "tried.lisp"), "w", encoding="utf-8") as book:
-        book.write('(in-package "ACL2")\n' + BEFORE + text + "\n")
+        book.write('(in-package "ACL2")\n' + before + text + "\n")
     words = ["daily", "tried"] if '"daily"' in text else ["tried"]
-    lines = run(folder, words)
+    lines = run(folder, [*options, *words])
     return lines[lines.index("Book tried") :]
 
 
@@ -104,24 +110,84 @@ def stands_in(wanted, lines):
     return any(fits(at, wanted) for at in range(len(lines)))
 
 
+def example_as_events(code, number, cell):
+    """A refusal's example as events."""
+    if number.startswith("5") and not code.startswith("(def"):
+        classes = "".join(f" :rule-classes {it}" for it in codes(cell) if it.startswith(":"))
+        return f"(defthm tried {code}{classes})"
+    if code.startswith(":hints"):
+        return f"(defthm tried (equal x y) :rule-classes nil {code})"
+    if number.startswith("6"):
+        return f"(defthm tried (equal x x) :rule-classes nil :hints ({code}))"
+    if code == "(lex)":
+        return "(defun tried (x) (declare (xargs :measure (lex))) (if (consp x) (tried (cdr x)) x))"
+    if number[0] in "48" and not code.startswith("(def"):
+        return f"(defthm tried {code} :rule-classes nil)"
+    return code
+
+
+def refusals(text):
+    """The rows of the tables of refusals: the number with its word as far as it is given, options, events."""
+    for line in text.splitlines():
+        cells = [it.strip() for it in re.split(r"(?<!\\)\|", line)[1:-1]]
+        start = {3: "`", 4: ""}.get(len(cells))
+        found = None if start is None else re.match(start + r"([1-9][0-9]*(?:\.[0-9])?)\b(?: (\w+))?", cells[0])
+        given = codes(cells[-1]) if found else []
+        if not given or ".." in cells[-1] or "with" in cells[-1].split():
+            continue
+        number, word = found[1], found[2] or (codes(cells[1]) or [""])[0] if len(cells) == 4 else found[2] or ""
+        if " to " in cells[0]:
+            number, word = number.split(".")[0] + ".", ""
+        options = [it.split() for it in given if it.startswith("--")]
+        (code,) = [it for it in given if not it.startswith("--")][:1]
+        yield f"{number} {word}".strip(), options[0] if options else [], example_as_events(code, number, cells[-1])
+
+
+def examples(text):
+    """The blocks that begin with events: options, events, what they print."""
+    for options, block in re.findall(r"^(?:<!-- with (.*?) -->\n)?```\n(\(.*?)^```", text, re.MULTILINE | re.DOTALL):
+        column = block.split("\n")[0].find("  prints  ")
+        if column >= 0:
+            lines = [it.replace("  prints  ", "          ") for it in block.splitlines()]
+            cut = column + len("  prints  ")
+            yield options.split(), "\n".join(it[:cut] for it in lines), [it[cut:] for it in lines if it[cut:]]
+        elif "\n\n" in block and not block.split("\n\n")[1].startswith("("):
+            events, printed = block.split("\n\n", 1)
+            yield options.split(), events, printed.rstrip("\n").splitlines()
+
+
+def try_examples(folder, text):
+    """What doesn't hold of each block of events."""
+    before = ""
+    for options, events, printed in examples(text):
+        alone = run_events(folder, events, "", options)
+        behind = run_events(folder, events, before, options)
+        holds = stands_in(printed, alone) or stands_in(printed, behind)
+        yield None if holds else f"{events}: it prints {alone[-4:]} or {behind[-4:]}"
+        functions = re.findall(r"^\(defun .*?(?=^\(|\Z)", events + "\n", re.MULTILINE | re.DOTALL)
+        before = "".join(functions) or before
+
+
 def main():
     with open(os.path.join(TOP, "docs", "MANUAL.md"), encoding="utf-8") as file:
         text = file.read()
-    count, wrong = 0, []
+    tried = []
     with tempfile.TemporaryDirectory() as folder:
         for book in glob.glob(os.path.join(TOP, "books", "**", "*.lisp"), recursive=True):
             os.symlink(book, os.path.join(folder, os.path.basename(book)))
-        for kind, cells in rows(text):
-            count += 1
-            wrong.append(try_row(folder, kind, cells))
+        tried += [try_row(folder, kind, cells) for kind, cells in rows(text)]
+        for says, options, events in refusals(text):
+            lines = run_events(folder, events, "", options)
+            holds = any(f" refused {says}" in line for line in lines)
+            tried.append(None if holds else f"{events}: it prints {lines[-2:]} in place of {says}")
         for words, block in re.findall(r"^<!-- acl2p (.*?) -->\n```\n(.*?)^```", text, re.MULTILINE | re.DOTALL):
-            count += 1
             wanted = block.rstrip("\n").splitlines()
-            wrong.append(None if stands_in(wanted, run(folder, words.split())) else f"acl2p {words} doesn't print: {wanted}")
-    wrong = [it for it in wrong if it]
+            tried.append(None if stands_in(wanted, run(folder, words.split())) else f"acl2p {words} doesn't print: {wanted}")
+        tried += try_examples(folder, text)
+    wrong = [it for it in tried if it]
     for it in wrong:
         print(it)
-    print(f"{count} tried, {len(wrong)} don't hold")
+    print(f"{len(tried)} tried, {len(wrong)} don't hold")
     return 1 if wrong else 0
 
 
