@@ -106,6 +106,7 @@ run refl
 is "what changed is proved, and what stands on it" all_of 0 "first: refl" "acl2p mid"
 is "it says what is proved anew" says "2 of 3 crates are to be proved anew: mid, acl2p"
 is "and how long that took last" says "when they were proved last that took .* of processor time"
+is "and the last build" says "the last build proved 3 in .* by the clock"
 
 echo "// unused" >>"$clone/crates/other/src/lib.rt"
 run refl

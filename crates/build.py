@@ -86,7 +86,7 @@ def read_record():
             record = json.load(it)
     except (OSError, ValueError):
         record = {}
-    return {"kit": record.get("kit"), "program": record.get("program"), "crates": record.get("crates", {})}
+    return {"kit": record.get("kit"), "program": record.get("program"), "last": record.get("last"), "crates": record.get("crates", {})}
 
 
 def keep(name, text):
@@ -173,6 +173,8 @@ def announce(uses, anew, now, record):
         say(f"when {len(known)} of them were proved last that took {duration(sum(known))} of processor time; the others weren't proved here before")
     else:
         say("nothing is known here of how long that takes; from nothing it is an hour or more on four processors")
+    if record["last"]:
+        say(f"the last build proved {record['last']['crates']} in {duration(record['last']['seconds'])} by the clock")
 
 
 def prove(uses, anew, now, record):
@@ -249,7 +251,8 @@ def build(look):
             say("the source changed while it was proved: once more")
             continue
         install()
-        keep("built.json", json.dumps({**record, "kit": now["kit"], "program": now["sums"][PROGRAM]}, indent=1))
+        last = {"crates": len(anew), "seconds": round(time.time() - began, 1)}
+        keep("built.json", json.dumps({**record, "kit": now["kit"], "program": now["sums"][PROGRAM], "last": last}, indent=1))
         keep_look(look)
         say(f"built in {duration(time.time() - began)}")
         return 0
