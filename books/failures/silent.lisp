@@ -1,5 +1,5 @@
 ; A proof of which nothing is seen: insertion sort, without the lemma that it needs. With the limits as they are it goes on
-; for minutes behind the line "DEFUN ORDEREDP admitted". So ask for little: acl2p --goals 40 --steps 1000 silent.
+; for more than five minutes behind the line "DEFUN ORDEREDP admitted". So ask for little: acl2p --goals 40 --steps 1000 silent.
 ; ../insertion-sort.lisp is its repair.
 (in-package "ACL2")
 
