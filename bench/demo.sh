@@ -11,7 +11,7 @@ if [ -n "$1" ]; then
     program=$(readlink -f -- "$1")
 else
     "$here/acl2p" none >/dev/null 2>&1
-    program=$here/crates/acl2p/out/acl2p
+    program=$here/out/acl2p
 fi
 [ -x "$program" ] || { echo "demo.sh: there is no program $program" >&2; exit 1; }
 folder=$(mktemp -d)

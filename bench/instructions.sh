@@ -12,7 +12,7 @@
 #   two-sums, by-places      two ways to add up a range; members by their places, with --goals 60
 # Without words it takes all but the last two, which take minutes.
 here=$(cd "$(dirname "$0")/.." && pwd)
-program=${ACL2P:-$here/crates/acl2p/out/acl2p}
+program=${ACL2P:-$here/out/acl2p}
 [ -x "$program" ] || { echo "instructions.sh: no program at $program; build it by ../acl2p" >&2; exit 1; }
 command -v valgrind >/dev/null || { echo "instructions.sh: it needs valgrind" >&2; exit 1; }
 program=$(readlink -f -- "$program")

@@ -4,7 +4,7 @@
 # The time should grow with the size, and no faster.
 here=$(cd "$(dirname "$0")/.." && pwd)
 "$here/acl2p" none >/dev/null 2>&1
-program=$here/crates/acl2p/out/acl2p
+program=$here/out/acl2p
 folder=$(mktemp -d)
 line='(defthm t-1 (equal (if x (equal y (quote ("a b" #\Space . 12))) t) (car (cons x y))) :rule-classes nil) ; #| a'
 for mebibytes in ${*:-1 2 4 8}; do

@@ -4,7 +4,7 @@
 # the number of functions, and no faster.
 here=$(cd "$(dirname "$0")/.." && pwd)
 "$here/acl2p" none >/dev/null 2>&1
-program=$here/crates/acl2p/out/acl2p
+program=$here/out/acl2p
 folder=$(mktemp -d)
 for count in ${1:-10000 50000 100000}; do
     {

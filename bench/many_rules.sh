@@ -3,7 +3,7 @@
 # which becomes a rewrite rule (default 5,000, 10,000 and 20,000). It should grow with their number, and no faster.
 here=$(cd "$(dirname "$0")/.." && pwd)
 "$here/acl2p" none >/dev/null 2>&1
-program=$here/crates/acl2p/out/acl2p
+program=$here/out/acl2p
 folder=$(mktemp -d)
 trap 'rm -rf "$folder"' EXIT
 for count in ${1:-5000 10000 20000}; do

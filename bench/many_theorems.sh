@@ -3,7 +3,7 @@
 # The time should grow with the number of theorems, and no faster.
 here=$(cd "$(dirname "$0")/.." && pwd)
 "$here/acl2p" none >/dev/null 2>&1
-program=$here/crates/acl2p/out/acl2p
+program=$here/out/acl2p
 folder=$(mktemp -d)
 for count in ${1:-1000 5000 10000}; do
     {

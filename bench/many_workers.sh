@@ -14,7 +14,7 @@
 # beside others, so that those with 1, 2 and 4 workers stand in turn. Run it on a machine that does nothing else, with four
 # processors.
 here=$(cd "$(dirname "$0")/.." && pwd)
-acl2p=${ACL2P:-$here/crates/acl2p/out/acl2p}
+acl2p=${ACL2P:-$here/out/acl2p}
 [ -x "$acl2p" ] || { echo "many_workers: no program at $acl2p; build it by ../acl2p" >&2; exit 1; }
 eval "$(grep '^export GLIBC_TUNABLES' "$here/acl2p")" # what the launcher gives the program
 folder=$(mktemp -d)

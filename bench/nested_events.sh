@@ -4,7 +4,7 @@
 # same line. Both should grow with the number of events, and no faster.
 here=$(cd "$(dirname "$0")/.." && pwd)
 "$here/acl2p" none >/dev/null 2>&1
-program=$here/crates/acl2p/out/acl2p
+program=$here/out/acl2p
 folder=$(mktemp -d)
 trap 'rm -rf "$folder"' EXIT
 

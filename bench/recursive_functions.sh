@@ -4,7 +4,7 @@
 # no faster.
 here=$(cd "$(dirname "$0")/.." && pwd)
 "$here/acl2p" none >/dev/null 2>&1
-program=$here/crates/acl2p/out/acl2p
+program=$here/out/acl2p
 folder=$(mktemp -d)
 for count in ${1:-2000 5000 10000}; do
     {

@@ -6,7 +6,7 @@
 # right.
 here=$(cd "$(dirname "$0")/.." && pwd)
 "$here/acl2p" none >/dev/null 2>&1
-program=$here/crates/acl2p/out/acl2p
+program=$here/out/acl2p
 folder=$(mktemp -d)
 trap 'rm -rf "$folder"' EXIT
 head='(in-package "ACL2")'

@@ -2,7 +2,7 @@
 # same_bytes.sh [RUNS]: each sample book in books/ with 1, 2, 3, 8 and 64 workers, so many times each (default 20):
 # the bytes and the status must be the same. Prints a line for each book.
 here=$(cd "$(dirname "$0")/.." && pwd)
-acl2p=${ACL2P:-$here/crates/acl2p/out/acl2p}
+acl2p=${ACL2P:-$here/out/acl2p}
 [ -x "$acl2p" ] || { echo "same_bytes: no program at $acl2p; build it by ../acl2p" >&2; exit 1; }
 folder=$(mktemp -d)
 trap 'rm -rf "$folder"' EXIT
