@@ -1,4 +1,4 @@
-; Sorting, 3 of 5: lists that are in order, and sorting by insertion.
+; Sorting, 3 of 6: lists that are in order, and sorting by insertion.
 (in-package "ACL2")
 
 (include-book "sorting-perm")

@@ -1,4 +1,4 @@
-; Sorting of pairs by their keys: what has one key stays in its order.
+; Sorting, 5 of 6: sorting of pairs by their keys: what has one key stays in its order.
 (in-package "ACL2")
 
 (include-book "sorting-lists")

@@ -1,4 +1,4 @@
-; Sorting, 1 of 5: the lists that it speaks of. Joining, members, counts, turning round, taking one out.
+; Sorting, 1 of 6: the lists that it speaks of. Joining, members, counts, turning round, taking one out.
 (in-package "ACL2")
 
 (defun app (x y)

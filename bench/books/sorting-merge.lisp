@@ -1,4 +1,4 @@
-; Sorting, 4 of 5: merge sort.
+; Sorting, 4 of 6: merge sort.
 (in-package "ACL2")
 
 (include-book "sorting-insertion")

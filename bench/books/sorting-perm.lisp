@@ -1,4 +1,4 @@
-; Sorting, 2 of 5: permutations, and that they are what has the same counts.
+; Sorting, 2 of 6: permutations, and that they are what has the same counts.
 (in-package "ACL2")
 
 (include-book "sorting-lists")

@@ -1,4 +1,4 @@
-; Sorting, 5 of 5: both ways of sorting give the same list, and what follows from that.
+; Sorting, 6 of 6: both ways of sorting give the same list, and what follows from that.
 (in-package "ACL2")
 
 (include-book "sorting-merge")
