@@ -46,8 +46,7 @@ alone() {
         local lines=()
         while read -r book; do
             lines+=("include $book $(digest_of "$book")")
-        done < <(sed -n 's/^include \([^ ]*\) .*/\1/p' "$folder/$name.cert")
-        [ "$(wc -w <<<"$books")" = $((${#lines[@]} + 1)) ] || wrong "$name: ${#lines[@]} books stand in the certificate, for $books"
+        done < <(sed -n 's/^(include-book "\([^"]*\)")$/\1/p' "$1")
         same_as "$name" "acl2p certificate 1" "book $name" "sha256 $(digest_of "$name")" "${lines[@]}" "events N" end
         certified=$((certified + 1))
     elif [ "$status" != 1 ] || [ -e "$folder/$name.cert" ]; then
