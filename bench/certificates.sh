@@ -1,8 +1,8 @@
 #!/bin/bash
 # certificates.sh [PROGRAM]: certifies the sample books of books/ and bench/books by PROGRAM (or the one that the launcher
-# builds), each alone, and then two books of which one includes the other twice. Asserts that each certified book leaves
-# its certificate and no other book does, that its digest is the one that sha256sum gives for the book, and that an included
-# book stands there once, with its own digest. The exit status is 0 where all hold, and else 1.
+# builds), each with those that it includes, and then two books of which one includes the other twice. Asserts that each
+# certified book leaves its certificate and no other book does, that its digest is the one that sha256sum gives for the
+# book, and that an included book stands there once, with its own digest. The exit status is 0 where all hold, and else 1.
 here=$(cd "$(dirname "$0")/.." && pwd)
 if [ -n "$1" ]; then
     program=$(readlink -f -- "$1")
@@ -33,16 +33,21 @@ same_as() {
         wrong "$name: the certificate isn't as it should be: $(cat "$folder/diff")"
 }
 
-# alone BOOK: certifies a book, and looks at its certificate
+# alone BOOK: certifies a book behind those that it includes, and looks at its certificate
 alone() {
-    local name
+    local name books book
     name=$(basename "$1" .lisp)
+    books=$(cd "$(dirname "$1")" && "$here/tools/order.py" "$name")
     rm -f "$folder"/*
-    cp "$1" "$folder"
-    (cd "$folder" && "$program" "$name" >out 2>err)
+    for book in $books; do cp "$(dirname "$1")/$book.lisp" "$folder"; done
+    (cd "$folder" && "$program" $books >out 2>err)
     local status=$?
     if [ "$status" = 0 ]; then
-        same_as "$name" "acl2p certificate 1" "book $name" "sha256 $(digest_of "$name")" "events N" end
+        local lines=()
+        while read -r book; do
+            lines+=("include $book $(digest_of "$book")")
+        done < <(sed -n 's/^(include-book "\([^"]*\)")$/\1/p' "$1")
+        same_as "$name" "acl2p certificate 1" "book $name" "sha256 $(digest_of "$name")" "${lines[@]}" "events N" end
         certified=$((certified + 1))
     elif [ "$status" != 1 ] || [ -e "$folder/$name.cert" ]; then
         wrong "$name: status $status, and $(cd "$folder" && ls ./*.cert 2>/dev/null)"

@@ -3,7 +3,8 @@
 # bench/instructions.txt keeps and the ratio of the two. Valgrind's callgrind counts them, so the numbers are the same on
 # a busy machine and an idle one; the launcher isn't counted. ACL2P=PROGRAM takes another program than the one that the
 # launcher builds, and KEEP=yes writes the new numbers into bench/instructions.txt. Books:
-#   refl append reverse hints logic theories     sample books of books/, and the seven of bench/books by their names
+#   refl append reverse hints logic theories     sample books of books/, and those of bench/books by their names; one that
+#                                                includes others, as alists, bits, machine, sets and sorting, is run with them
 #   demo-200 demo-1000       so many functions that copy a list, each with its theorem
 #   wide-16 wide-64          an exclusive or of eight (six) variables in two groupings, in 16 (64) cases by a hint
 #   exclusive-10             one of ten variables, which runs out of steps
@@ -77,13 +78,15 @@ cp "$here"/books/*.lisp "$folder"
 cp "$here"/bench/books/*.lisp "$folder"
 words=("$@")
 [ $# -gt 0 ] || words=(refl append reverse hints logic theories arithmetic compiler formulas insertion lists merge trees
-    demo-200 demo-1000 wide-16 wide-64 exclusive-10 equal-400 equal-800 append-300 length-390)
+    alists bits machine sets sorting demo-200 demo-1000 wide-16 wide-64 exclusive-10 equal-400 equal-800 append-300 length-390)
 
 millions() { # millions BOOK: one worker's instructions, in millions
-    local options=()
+    local options=() books book
     [ "$1" = by-places ] && options=(--goals 60)
-    mkdir "$folder/$1.run" && cp "$folder/$1.lisp" "$folder/$1.run" && cd "$folder/$1.run" || return
-    valgrind --tool=callgrind --callgrind-out-file=/dev/null "$program" --workers 1 "${options[@]}" "$1" 2>&1 >/dev/null |
+    books=$(cd "$folder" && "$here/tools/order.py" "$1") && mkdir "$folder/$1.run" || return
+    for book in $books; do cp "$folder/$book.lisp" "$folder/$1.run"; done
+    cd "$folder/$1.run" || return
+    valgrind --tool=callgrind --callgrind-out-file=/dev/null "$program" --workers 1 "${options[@]}" $books 2>&1 >/dev/null |
         awk '/Collected|refs:/ { gsub(",", "", $NF); printf "%.2f", $NF / 1e6; exit }' >"$folder/$1.count"
 }
 for name in "${words[@]}"; do
