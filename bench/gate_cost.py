@@ -45,7 +45,6 @@ class Sampler(threading.Thread):
     def __init__(self, top):
         super().__init__(daemon=True)
         self.top, self.used, self.names, self.ended = top, {}, {}, threading.Event()
-        self.most = 0
 
     def look(self):
         parents, found = {}, {}
@@ -64,7 +63,7 @@ class Sampler(threading.Thread):
         for process in below & found.keys():
             key, used = found[process]
             self.used[key] = used
-            if key not in self.names:
+            if self.names.get(key) is None:
                 try:
                     self.names[key] = told(process) or self.names.get((parents[process], stat(parents[process])[2]))
                 except (OSError, IndexError, ValueError):
