@@ -27,31 +27,31 @@ use Rattle.ap_attempt.specs.declared.verdict.Verdict.{Verdict}
 use Rattle.ap_attempt.specs.Attempts.{RootedWalk}
 use Rattle.ap_strategy.specs.Goals.{Goal}
 use Rattle.ap_rules.specs.Refused.{refusal}
-use Rattle.ap_plain.specs.declared.definition.Terminating.{Terminating}
+use Rattle.ap_stated.specs.declared.definition.Terminating.{Terminating}
 use Rattle.ap_plain.specs.declared.kinds.Kind.{Kind}
 use Rattle.ap_plain.specs.declared.kinds.Kind.TheVariants as kind
 use Rattle.ap_plain.specs.declared.limits.Limits.{Limits}
 use Rattle.ap_plain.specs.declared.proposing.Proposal.{Proposal}
 use Rattle.ap_plain.specs.declared.proposing.Proposal.TheVariants as proposal
-use Rattle.ap_plain.specs.declared.refusing.Refusal.{Refusal}
+use Rattle.ap_stated.specs.declared.refusing.Refusal.{Refusal}
 use Rattle.ap_world.specs.Alike.{SameButMask, Covers}
 use Rattle.ap_plain.specs.Attempts.{first_rule, tried, plan_for}
 use Rattle.ap_events.specs.Backing.{Fits}
 use Rattle.ap_events.specs.Books.{Earlier, book_of, include_title, include_by, include_of, included_by, include_event, Asks, book, events, event, asks_of, asked_first, headed_first, first_event, silent_by, silent, put_again, theorem_again, definition_again, kind_again, known_again, asked_again, headed_again, again_event}
 use Rattle.ap_plain.specs.Changes.{changes_of, changed_event, theory_event}
 use Rattle.ap_plain.specs.Constants.{constant_title, valued_constant, stated_constant, written_constant, constant_event}
-use Rattle.ap_plain.specs.Definitions.{by_measure, without_measure, measured, terminating, formed_definition, stated_definition}
+use Rattle.ap_stated.specs.Definitions.{by_measure, without_measure, measured, terminating, formed_definition, stated_definition}
 use Rattle.ap_plain.specs.Ends.{Done, admitted, refused_alone}
 use Rattle.ap_plain.specs.Events.{kind_of, theorem_event, definition_event, event_by, headed_event, event_with, event_of}
-use Rattle.ap_plain.specs.Hinting.{given_hints}
+use Rattle.ap_stated.specs.Hinting.{given_hints}
 use Rattle.ap_world.specs.Including.{has_clash, included}
 use Rattle.ap_translate.specs.Laws.{KnowsMore}
 use Rattle.ap_plain.specs.Proposals.{proposed_theorem, proposed_definition, opening_of, owed_of, name_of, entry_in, with_theory, put, proved_event, hinted_event, proposed_event}
-use Rattle.ap_plain.specs.Refusals.{Answer, ◌>>=◌, unless, as_translated}
-use Rattle.ap_plain.specs.Shapes.{Stated, Defined, head_of, statement_of, definition_of, constant_of}
-use Rattle.ap_plain.specs.Texts.{title, said_line}
-use Rattle.ap_plain.specs.Theorems.{theorem_of, ruled_by, ruled, stated_theorem}
-use Rattle.ap_plain.specs.Translating.{formal_names, component_forms, guard_forms, translated_all, translated_measure, stub, prepared_definition, translated_parts, translated_definition}
+use Rattle.ap_stated.specs.Refusals.{Answer, ◌>>=◌, unless, as_translated}
+use Rattle.ap_stated.specs.Shapes.{Stated, Defined, head_of, statement_of, definition_of, constant_of}
+use Rattle.ap_stated.specs.Texts.{title, said_line}
+use Rattle.ap_stated.specs.Theorems.{theorem_of, ruled_by, ruled, stated_theorem}
+use Rattle.ap_stated.specs.Translating.{formal_names, component_forms, guard_forms, translated_all, translated_measure, stub, prepared_definition, translated_parts, translated_definition}
 use Rattle.ap_events.proofs.Books.{found_book, put_entries}
 use Rattle.ap_events.proofs.Nestings.{LeavesCover}
 use Rattle.ap_world.proofs.Covering.{same_self, covers_self, covers_grown, covers_added, covers_included, covers_world}

@@ -8,7 +8,7 @@ use Rattle.ap_world.specs.World.{Shown, function_of}
 use Rattle.ap_plain.specs.declared.changes.Before.{Before}
 use Rattle.ap_plain.specs.declared.end.Outcome.{Outcome}
 use Rattle.ap_plain.specs.Ends.{Done, Did}
-use Rattle.ap_plain.proofs.Places.{at_place}
+use Rattle.ap_stated.proofs.Places.{at_place}
 use Rattle.ap_events.specs.Backing.{Backed}
 use Rattle.ap_events.specs.Joining.{one_more, no_outcome, back_in, Begins, Ran}
 use Rattle.ap_events.specs.Nested.{Leaf, all}

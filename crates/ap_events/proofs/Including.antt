@@ -6,9 +6,9 @@ use Rattle.ap_world.specs.declared.world.AddError.{AddError}
 use Rattle.ap_world.specs.Including.{missing, has_clash, included}
 use Rattle.ap_world.specs.World.{Shown}
 use Rattle.ap_plain.specs.declared.end.Outcome.{Outcome}
-use Rattle.ap_plain.specs.declared.refusing.Refusal.{Refusal}
+use Rattle.ap_stated.specs.declared.refusing.Refusal.{Refusal}
 use Rattle.ap_plain.specs.Ends.{Done, admitted, refused_alone, Did}
-use Rattle.ap_plain.specs.Texts.{said_line}
+use Rattle.ap_stated.specs.Texts.{said_line}
 use Rattle.ap_plain.proofs.Telling.{notes_none}
 use Rattle.ap_events.specs.Books.{include_title, include_by, include_of}
 use Rattle.ap_events.specs.Joining.{no_outcome, Begins}

@@ -11,7 +11,7 @@ use Rattle.ap_world.proofs.Adding.{has_functions-more}
 use Rattle.ap_plain.specs.declared.changes.Before.{Before}
 use Rattle.ap_plain.specs.declared.end.Outcome.{Outcome}
 use Rattle.std.specs.Prelude.{codes}
-use Rattle.ap_plain.specs.Texts.{line}
+use Rattle.ap_stated.specs.Texts.{line}
 use Rattle.ap_plain.specs.Drops.{DividedWalks}
 use Rattle.ap_plain.specs.Ends.{passed, walked, Told, goals_in, walks_in, Done, Did}
 use Rattle.ap_plain.proofs.Telling.{goals_after, notes_none, notes_more}

@@ -16,7 +16,7 @@ use Rattle.ap_plain.specs.declared.kinds.Kind.{Kind}
 use Rattle.ap_plain.specs.declared.kinds.Kind.TheVariants as kind
 use Rattle.ap_plain.specs.declared.limits.Limits.{Limits}
 use Rattle.ap_plain.specs.declared.proposing.Proposal.{Proposal}
-use Rattle.ap_plain.specs.declared.refusing.Refusal.{Refusal}
+use Rattle.ap_stated.specs.declared.refusing.Refusal.{Refusal}
 use Rattle.ap_plain.specs.Changes.{changes_of, theory_event}
 use Rattle.ap_plain.specs.Constants.{constant_event}
 use Rattle.ap_plain.specs.Ends.{Done, admitted, refused_alone, worlds_in}
@@ -24,9 +24,9 @@ use Rattle.ap_plain.specs.Events.{kind_of, event_by, headed_event, event_with, e
 use Rattle.ap_plain.specs.Laws.{GoodWorld}
 use Rattle.ap_plain.specs.Limits.{are_within}
 use Rattle.ap_plain.specs.Proposals.{proposed_theorem, proposed_definition, entry_in, put, IsStated}
-use Rattle.ap_plain.specs.Refusals.{Answer}
-use Rattle.ap_plain.specs.Shapes.{Stated, Defined, head_of, statement_of, definition_of, constant_of}
-use Rattle.ap_plain.specs.Texts.{title, said_line}
+use Rattle.ap_stated.specs.Refusals.{Answer}
+use Rattle.ap_stated.specs.Shapes.{Stated, Defined, head_of, statement_of, definition_of, constant_of}
+use Rattle.ap_stated.specs.Texts.{title, said_line}
 use Rattle.ap_plain.proofs.Growing.{GrowsTo, event_grows}
 use Rattle.ap_plain.proofs.Sounding.{Gives, theorem_proposed, definition_proposed, put_good, events_keep_good}
 use Rattle.ap_plain.proofs.Telling.{of_told, next_told}

@@ -17,15 +17,15 @@ use Rattle.ap_plain.specs.declared.kinds.Kind.{Kind}
 use Rattle.ap_plain.specs.declared.kinds.Kind.TheVariants as kind
 use Rattle.ap_plain.specs.declared.limits.Limits.{Limits}
 use Rattle.ap_plain.specs.declared.proposing.Proposal.{Proposal}
-use Rattle.ap_plain.specs.declared.refusing.Refusal.{Refusal}
+use Rattle.ap_stated.specs.declared.refusing.Refusal.{Refusal}
 use Rattle.ap_plain.specs.Changes.{changes_of, changed_event, theory_event}
 use Rattle.ap_plain.specs.Constants.{valued_constant, stated_constant, written_constant, constant_event}
 use Rattle.ap_plain.specs.Ends.{Done, refused_alone, worlds_in}
 use Rattle.ap_plain.specs.Events.{kind_of}
 use Rattle.ap_plain.specs.Proposals.{proposed_theorem, proposed_definition, put}
-use Rattle.ap_plain.specs.Refusals.{Answer, unless}
-use Rattle.ap_plain.specs.Shapes.{Stated, Defined, head_of, statement_of, definition_of, constant_of}
-use Rattle.ap_plain.specs.Texts.{title}
+use Rattle.ap_stated.specs.Refusals.{Answer, unless}
+use Rattle.ap_stated.specs.Shapes.{Stated, Defined, head_of, statement_of, definition_of, constant_of}
+use Rattle.ap_stated.specs.Texts.{title}
 use Rattle.ap_events.specs.Books.{Earlier, book_of, include_by, include_of, included_by, include_event, Asks, book, events, event, asks_of, first_event, silent_by, silent, put_again, theorem_again, definition_again, kind_again, known_again, asked_again, headed_again, again_event}
 use Rattle.ap_events.specs.Missing.{MissesName}
 use Rattle.ap_events.proofs.Books.{found_book}

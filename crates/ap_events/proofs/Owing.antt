@@ -21,13 +21,13 @@ use Rattle.ap_world.proofs.Knowing.{true_each}
 use Rattle.ap_kernel.specs.Reductions.{KnownClause}
 use Rattle.ap_admit.specs.Condition.{owed, clause_of}
 use Rattle.ap_strategy.specs.Laws.{kernel_ground}
-use Rattle.ap_plain.specs.declared.owing.Owed.{Owed}
+use Rattle.ap_stated.specs.declared.owed.Owed.{Owed}
 use Rattle.ap_plain.specs.declared.proposing.Proposal.{Proposal}
 use Rattle.ap_plain.specs.declared.proposing.Proposal.TheVariants as proposal
-use Rattle.ap_plain.specs.Definitions.{numbered, owed_by, function_in}
+use Rattle.ap_stated.specs.Definitions.{numbered, owed_by, function_in}
 use Rattle.ap_plain.specs.Proposals.{owed_of, entry_in, put, IsStated}
 use Rattle.ap_plain.specs.Ends.{admitted, worlds_in}
-use Rattle.ap_plain.proofs.Defining.{owed_known}
+use Rattle.ap_stated.proofs.Defining.{owed_known}
 use Rattle.ap_events.specs.Backing.{CoversAdded}
 use Rattle.ap_events.proofs.Books.{put_entries}
 use Rattle.ap_events.proofs.Implying.{clause_valid}

@@ -7,9 +7,9 @@ use Rattle.ap_plain.specs.declared.end.Outcome.{Outcome}
 use Rattle.ap_plain.specs.declared.proposing.Proposal.{Proposal}
 use Rattle.ap_plain.specs.Ends.{Did}
 use Rattle.ap_plain.specs.Proposals.{proposed_theorem, proposed_definition, IsStated}
-use Rattle.ap_plain.specs.Refusals.{Answer}
-use Rattle.ap_plain.specs.Shapes.{Stated, Defined}
-use Rattle.ap_plain.specs.Texts.{title}
+use Rattle.ap_stated.specs.Refusals.{Answer}
+use Rattle.ap_stated.specs.Shapes.{Stated, Defined}
+use Rattle.ap_stated.specs.Texts.{title}
 use Rattle.ap_events.specs.Books.{put_again, theorem_again, definition_again}
 use Rattle.ap_events.proofs.Doing.{IsBacked}
 

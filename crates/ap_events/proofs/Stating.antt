@@ -15,16 +15,16 @@ use Rattle.ap_translate.specs.declared.fault.TransKind.TheVariants as kinds
 use Rattle.ap_translate.specs.Answers as translation
 use Rattle.ap_translate.specs.Table.{translated}
 use Rattle.ap_admit.specs.Admission.{with_function}
-use Rattle.ap_plain.specs.declared.definition.Terminating.{Terminating}
+use Rattle.ap_stated.specs.declared.definition.Terminating.{Terminating}
 use Rattle.ap_plain.specs.declared.proposing.Proposal.{Proposal}
 use Rattle.ap_plain.specs.declared.proposing.Proposal.TheVariants as proposal
-use Rattle.ap_plain.specs.declared.refusing.Refusal.{Refusal}
-use Rattle.ap_plain.specs.Definitions.{terminating, formed_definition, stated_definition}
+use Rattle.ap_stated.specs.declared.refusing.Refusal.{Refusal}
+use Rattle.ap_stated.specs.Definitions.{terminating, formed_definition, stated_definition}
 use Rattle.ap_plain.specs.Proposals.{proposed_theorem, proposed_definition}
-use Rattle.ap_plain.specs.Refusals.{Answer, ◌>>=◌, unless, as_translated}
-use Rattle.ap_plain.specs.Shapes.{Stated, Defined}
-use Rattle.ap_plain.specs.Theorems.{theorem_of, ruled, stated_theorem}
-use Rattle.ap_plain.specs.Translating.{formal_names, component_forms, guard_forms, translated_all, translated_measure, stub, prepared_definition, translated_parts, translated_definition}
+use Rattle.ap_stated.specs.Refusals.{Answer, ◌>>=◌, unless, as_translated}
+use Rattle.ap_stated.specs.Shapes.{Stated, Defined}
+use Rattle.ap_stated.specs.Theorems.{theorem_of, ruled, stated_theorem}
+use Rattle.ap_stated.specs.Translating.{formal_names, component_forms, guard_forms, translated_all, translated_measure, stub, prepared_definition, translated_parts, translated_definition}
 use Rattle.ap_events.proofs.Lacking.{Lacks, lacks_before, lacks_term, lacks_terms}
 use Rattle.ap_events.proofs.Lessening.{Near, Unknown, near_same, near_after, near_since}
 

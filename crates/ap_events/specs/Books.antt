@@ -12,16 +12,16 @@ use Rattle.ap_plain.specs.declared.kinds.Kind.{Kind}
 use Rattle.ap_plain.specs.declared.kinds.Kind.TheVariants as kind
 use Rattle.ap_plain.specs.declared.limits.Limits.{Limits}
 use Rattle.ap_plain.specs.declared.proposing.Proposal.{Proposal}
-use Rattle.ap_plain.specs.declared.refusing.Refusal.{Refusal}
+use Rattle.ap_stated.specs.declared.refusing.Refusal.{Refusal}
 use Rattle.ap_plain.specs.Changes.{changes_of, theory_event}
 use Rattle.ap_plain.specs.Constants.{constant_event}
 use Rattle.ap_plain.specs.Ends.{Done, admitted, refused_alone}
 use Rattle.ap_plain.specs.Events.{kind_of, event_of}
 use Rattle.ap_events.specs.Nested.{firsts, agains}
 use Rattle.ap_plain.specs.Proposals.{proposed_theorem, proposed_definition, put}
-use Rattle.ap_plain.specs.Refusals.{Answer}
-use Rattle.ap_plain.specs.Shapes.{Stated, Defined, head_of, statement_of, definition_of, constant_of}
-use Rattle.ap_plain.specs.Texts.{title, said_line}
+use Rattle.ap_stated.specs.Refusals.{Answer}
+use Rattle.ap_stated.specs.Shapes.{Stated, Defined, head_of, statement_of, definition_of, constant_of}
+use Rattle.ap_stated.specs.Texts.{title, said_line}
 
 -- the kept worlds of earlier books, by the books' names
 abbrev pub Earlier : Type 0

@@ -7,7 +7,7 @@ use Rattle.ap_plain.specs.declared.changes.Before.{Before}
 use Rattle.ap_plain.specs.declared.end.Outcome.{Outcome}
 use Rattle.ap_plain.specs.Drops.{DividedWalks}
 use Rattle.ap_plain.specs.Ends.{Done, goals_in, walks_in}
-use Rattle.ap_plain.specs.Texts.{line}
+use Rattle.ap_stated.specs.Texts.{line}
 
 -- no event is done; one more is; and nothing is printed where an outcome is an admission
 abbrev pub no_outcome : Outcome

@@ -8,9 +8,9 @@ use Rattle.ap_world.specs.Alike.{Covers}
 use Rattle.ap_world.specs.World.{Shown, entry_of, are_distinct}
 use Rattle.ap_translate.specs.declared.fault.TransKind.TheVariants as kinds
 use Rattle.ap_plain.specs.declared.limits.Limits.{Limits}
-use Rattle.ap_plain.specs.declared.refusing.Refusal.{Refusal}
+use Rattle.ap_stated.specs.declared.refusing.Refusal.{Refusal}
 use Rattle.ap_plain.specs.Ends.{Done, worlds_in}
-use Rattle.ap_plain.specs.Texts.{refused_line}
+use Rattle.ap_stated.specs.Texts.{refused_line}
 use Rattle.ap_events.specs.Books.{Earlier, worked, worked_again}
 
 -- The refused line of one event is printed alone, for a name that isn't known; and a name of these entries isn't in the

@@ -5,10 +5,10 @@ use Rattle.ap_reader.specs.Tops.{items_in, is_symbol}
 use Rattle.ap_world.specs.World.{Shown}
 use Rattle.ap_value.specs.declared.symbol.Symbol.{Symbol}
 use Rattle.ap_term.specs.Printed.{symbol_text}
-use Rattle.ap_plain.specs.declared.refusing.Refusal.{Refusal}
+use Rattle.ap_stated.specs.declared.refusing.Refusal.{Refusal}
 use Rattle.ap_plain.specs.Ends.{passed, Done, refused_alone}
-use Rattle.ap_plain.specs.Shapes.{head_of}
-use Rattle.ap_plain.specs.Texts.{line}
+use Rattle.ap_stated.specs.Shapes.{head_of}
+use Rattle.ap_stated.specs.Texts.{line}
 
 -- what a form holds: (local E), (progn E ..), (encapsulate () E ..); another form holds no events
 pub data Nesting : Type 0 where

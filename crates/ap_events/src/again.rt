@@ -10,7 +10,7 @@ ghost use Rattle.ap_plain.specs.Constants.{constant_event};
 ghost use Rattle.ap_plain.specs.Ends.{Did, admitted};
 ghost use Rattle.ap_plain.specs.Events.{kind_of};
 ghost use Rattle.ap_plain.specs.Proposals.{IsStated, put};
-ghost use Rattle.ap_plain.specs.Shapes.{as_defined, as_stated, constant_of, definition_of, statement_of};
+ghost use Rattle.ap_stated.specs.Shapes.{as_defined, as_stated, constant_of, definition_of, statement_of};
 ghost use Rattle.ap_events.specs.Backing.{Backed};
 ghost use Rattle.ap_events.specs.Books.{again_event, asked_again, asks_of, book_of, definition_again, include_event, is_holder, kind_again, known_again, put_again, silent, theorem_again};
 

@@ -4,7 +4,7 @@ ghost use Rattle.ap_term.specs.Printed.{symbol_text};
 ghost use Rattle.ap_world.specs.Sound.{Sound};
 ghost use Rattle.ap_world.specs.World.{Shown};
 ghost use Rattle.ap_plain.specs.Ends.{Done, Did, refused_alone};
-ghost use Rattle.ap_plain.specs.Texts.{line};
+ghost use Rattle.ap_stated.specs.Texts.{line};
 ghost use Rattle.ap_events.specs.Books.{silent};
 ghost use Rattle.ap_events.specs.Joining.{no_outcome, one_more, silenced, ended_by, back_in};
 ghost use Rattle.ap_events.specs.Nested.{too_deep};

@@ -4,7 +4,7 @@ ghost use Rattle.ap_list.specs.Lists.{Each, lookup_by};
 ghost use Rattle.ap_value.specs.Values.{bytes_eq};
 ghost use Rattle.ap_world.specs.Sound.{HasFunctions};
 ghost use Rattle.ap_world.specs.World.{Shown, are_distinct, function_of};
-ghost use Rattle.ap_plain.specs.declared.refusing.Refusal.{Refusal};
+ghost use Rattle.ap_stated.specs.declared.refusing.Refusal.{Refusal};
 ghost use Rattle.ap_plain.specs.Ends.{Did, refused_alone};
 ghost use Rattle.ap_events.specs.Books.{book_of, include_title, include_of, included_by, include_event};
 

@@ -16,13 +16,13 @@ use Rattle.ap_strategy.specs.Goals.{Goal, IsGoal, defs_of, first_settings}
 use Rattle.ap_strategy.specs.Steps.{step_of, depth_of}
 use Rattle.ap_walk.specs.declared.act.Reason.{Reason}
 use Rattle.ap_walk.specs.declared.rule.Rule.{Rule}
-use Rattle.ap_plain.specs.declared.owing.Owed.{Owed}
+use Rattle.ap_stated.specs.declared.owed.Owed.{Owed}
 use Rattle.ap_plain.specs.declared.attempting.Trial.{Trial}
 use Rattle.ap_plain.specs.Attempts.{clause_goal, Tried, tried_from, before, where_qed, then_tried, tried, Tries}
 use Rattle.ap_plain.specs.Counts.{goals_of}
 use Rattle.ap_plain.specs.Drops.{DividedWalks}
 use Rattle.ap_plain.proofs.Counting.{goals_both}
-use Rattle.ap_plain.proofs.Places.{at_place}
+use Rattle.ap_stated.proofs.Places.{at_place}
 
 -- the goal that the attempt on a clause starts from keeps what tasks keep
 pub clause_is_goal : (plan : Plan) (c : Clause) (s : Settings) → HasFunctions (defs_of plan) → KnownClause (defs_of plan) c → KnownHints plan.world.entries plan.hints → s ≡ first_settings plan

@@ -25,10 +25,10 @@ use Rattle.ap_plain.specs.Changes.{changes_of, changed_event, theory_event}
 use Rattle.ap_plain.specs.Constants.{stated_constant, valued_constant, written_constant, constant_event}
 use Rattle.ap_plain.specs.Ends.{Done, Did}
 use Rattle.ap_plain.specs.Events.{kind_of, theorem_event, definition_event, event_by, headed_event, event_with, event_of}
-use Rattle.ap_plain.specs.Hinting.{given_hints}
+use Rattle.ap_stated.specs.Hinting.{given_hints}
 use Rattle.ap_plain.specs.Proposals.{entry_in, put, owed_of, opening_of, proposed_theorem, proposed_definition, proved_event, hinted_event, proposed_event}
-use Rattle.ap_plain.specs.Refusals.{Answer}
-use Rattle.ap_plain.specs.Shapes.{Stated, Defined, head_of, statement_of, definition_of, constant_of}
+use Rattle.ap_stated.specs.Refusals.{Answer}
+use Rattle.ap_stated.specs.Shapes.{Stated, Defined, head_of, statement_of, definition_of, constant_of}
 
 -- the next world, if there is one, has the entries of this one first
 abbrev pub GrowsTo : Shown → Option Shown → Type 0

@@ -8,17 +8,17 @@ use Rattle.ap_kernel.specs.Reductions.{KnownClause}
 use Rattle.ap_walk.specs.declared.act.Reason.{Reason}
 use Rattle.ap_plain.specs.declared.attempting.Trial.{Trial}
 use Rattle.ap_plain.specs.declared.end.Outcome.{Outcome}
-use Rattle.ap_plain.specs.declared.owing.Owed.{Owed}
+use Rattle.ap_stated.specs.declared.owed.Owed.{Owed}
 use Rattle.ap_plain.specs.declared.proposing.Proposal.{Proposal}
 use Rattle.ap_plain.specs.declared.proposing.Proposal.TheVariants as proposal
-use Rattle.ap_plain.specs.declared.refusing.Refusal.{Refusal}
+use Rattle.ap_stated.specs.declared.refusing.Refusal.{Refusal}
 use Rattle.ap_plain.specs.Attempts.{Tried, before, Tries}
 use Rattle.ap_plain.specs.Ends.{Did}
 use Rattle.ap_plain.specs.Proposals.{said_of, owed_of, put, IsStated, proved_event}
-use Rattle.ap_plain.specs.Texts.{said_line, refused_line, event_text}
-use Rattle.ap_plain.proofs.Defining.{owed_known}
+use Rattle.ap_stated.specs.Texts.{said_line, refused_line, event_text}
+use Rattle.ap_stated.proofs.Defining.{owed_known}
 use Rattle.ap_plain.proofs.Ending.{did_refused, did_admitted}
-use Rattle.ap_plain.proofs.Standing.{theorem_known}
+use Rattle.ap_stated.proofs.Standing.{theorem_known}
 
 -- what is owed speaks of the world
 pub all_known : (w : Shown) (p : Proposal) → Sound w.entries → HasFunctions (function_of w.entries) → IsStated w p → Each (λ (o : Owed). KnownClause (function_of w.entries) o.clause) (owed_of p)

@@ -49,32 +49,32 @@ use Rattle.ap_strategy.specs.declared.plan.Plan.{Plan}
 use Rattle.ap_strategy.specs.Goals.{Goal, defs_of, inducted}
 use Rattle.ap_strategy.specs.Laws.{kernel_ground, tells, deeper, whole, by_induction}
 use Rattle.ap_strategy.specs.Steps.{step_of, depth_of, IsGood}
-use Rattle.ap_plain.specs.declared.definition.Terminating.{Terminating}
+use Rattle.ap_stated.specs.declared.definition.Terminating.{Terminating}
 use Rattle.ap_walk.specs.declared.rule.Rule.{Rule}
 use Rattle.ap_plain.specs.declared.kinds.Kind.{Kind}
 use Rattle.ap_plain.specs.declared.kinds.Kind.TheVariants as kind
 use Rattle.ap_plain.specs.declared.limits.Limits.{Limits}
-use Rattle.ap_plain.specs.declared.owing.Owed.{Owed}
+use Rattle.ap_stated.specs.declared.owed.Owed.{Owed}
 use Rattle.ap_plain.specs.declared.proposing.Proposal.{Proposal}
 use Rattle.ap_plain.specs.declared.proposing.Proposal.TheVariants as proposal
-use Rattle.ap_plain.specs.declared.refusing.Refusal.{Refusal}
+use Rattle.ap_stated.specs.declared.refusing.Refusal.{Refusal}
 use Rattle.ap_plain.specs.Attempts.{Tried, clause_goal, first_rule, plan_for, tried_from, where_qed, tried}
 use Rattle.ap_plain.specs.Changes.{changes_of, changed_event, theory_event}
 use Rattle.ap_plain.specs.Constants.{valued_constant, stated_constant, written_constant, constant_event}
-use Rattle.ap_plain.specs.Definitions.{Ends, IsDefinition, without_measure, terminating, measured, stated_definition}
+use Rattle.ap_stated.specs.Definitions.{Ends, IsDefinition, without_measure, terminating, measured, stated_definition}
 use Rattle.ap_plain.specs.Ends.{Done, passed, walked, worlds_in}
 use Rattle.ap_plain.specs.Events.{kind_of, theorem_event, definition_event, event_by, headed_event, event_with, event_of}
-use Rattle.ap_plain.specs.Hinting.{given_hints}
+use Rattle.ap_stated.specs.Hinting.{given_hints}
 use Rattle.ap_plain.specs.Laws.{GoodWorld, EventsKeepGood}
-use Rattle.ap_plain.specs.Prepared.{IsPrepared}
+use Rattle.ap_stated.specs.Prepared.{IsPrepared}
 use Rattle.ap_plain.specs.Proposals.{proposed_theorem, proposed_definition, opening_of, owed_of, name_of, entry_in, with_theory, without_name, left, put, IsStated, proved_event, hinted_event, proposed_event}
-use Rattle.ap_plain.specs.Refusals.{Answer, ◌>>=◌, unless, as_translated, as_hinted}
-use Rattle.ap_plain.specs.Shapes.{Stated, Defined, head_of, statement_of, definition_of, constant_of}
-use Rattle.ap_plain.specs.Theorems.{theorem_of, ruled_by, ruled, stated_theorem, IsTheorem}
-use Rattle.ap_plain.specs.Translating.{formal_names, formal_names_by, formal_in, formal_by, guard_forms, component_forms, translated_all, translated_measure, stub, prepared_definition, translated_parts, translated_definition}
-use Rattle.ap_plain.proofs.Defining.{macro_functions, owed_known, sound_definition, sound_stub}
-use Rattle.ap_plain.proofs.Formals.{distinct_last}
-use Rattle.ap_plain.proofs.Preparing.{is_prepared}
+use Rattle.ap_stated.specs.Refusals.{Answer, ◌>>=◌, unless, as_translated, as_hinted}
+use Rattle.ap_stated.specs.Shapes.{Stated, Defined, head_of, statement_of, definition_of, constant_of}
+use Rattle.ap_stated.specs.Theorems.{theorem_of, ruled_by, ruled, stated_theorem, IsTheorem}
+use Rattle.ap_stated.specs.Translating.{formal_names, formal_names_by, formal_in, formal_by, guard_forms, component_forms, translated_all, translated_measure, stub, prepared_definition, translated_parts, translated_definition}
+use Rattle.ap_stated.proofs.Defining.{macro_functions, owed_known, sound_definition, sound_stub}
+use Rattle.ap_stated.proofs.Formals.{distinct_last}
+use Rattle.ap_stated.proofs.Preparing.{is_prepared}
 
 -- What is told.
 

@@ -23,7 +23,7 @@ use Rattle.ap_plain.specs.declared.kinds.Kind.{Kind}
 use Rattle.ap_plain.specs.declared.kinds.Kind.TheVariants as kind
 use Rattle.ap_plain.specs.declared.limits.Limits.{Limits}
 use Rattle.ap_plain.specs.declared.proposing.Proposal.{Proposal}
-use Rattle.ap_plain.specs.declared.refusing.Refusal.{Refusal}
+use Rattle.ap_stated.specs.declared.refusing.Refusal.{Refusal}
 use Rattle.ap_plain.specs.Attempts.{first_rule, plan_for, tried}
 use Rattle.ap_plain.specs.Changes.{changes_of, changed_event, theory_event}
 use Rattle.ap_plain.specs.Constants.{constant_title, valued_constant, stated_constant, written_constant, constant_event}
@@ -31,11 +31,11 @@ use Rattle.ap_plain.specs.Counts.{goals_of}
 use Rattle.ap_plain.specs.Drops.{DividedWalks}
 use Rattle.ap_plain.specs.Ends.{Told, passed, walked, worlds_in, walks_in, goals_in, Done, refused, admitted}
 use Rattle.ap_plain.specs.Events.{kind_of, theorem_event, definition_event, event_by, headed_event, event_with, event_of}
-use Rattle.ap_plain.specs.Hinting.{given_hints}
+use Rattle.ap_stated.specs.Hinting.{given_hints}
 use Rattle.ap_plain.specs.Proposals.{proposed_theorem, proposed_definition, opening_of, owed_of, said_of, with_theory, put, proved_event, hinted_event, proposed_event}
-use Rattle.ap_plain.specs.Refusals.{Answer}
-use Rattle.ap_plain.specs.Shapes.{Stated, Defined, head_of, statement_of, definition_of, constant_of}
-use Rattle.ap_plain.specs.Texts.{title, said_line, event_text}
+use Rattle.ap_stated.specs.Refusals.{Answer}
+use Rattle.ap_stated.specs.Shapes.{Stated, Defined, head_of, statement_of, definition_of, constant_of}
+use Rattle.ap_stated.specs.Texts.{title, said_line, event_text}
 use Rattle.ap_plain.proofs.Counting.{goals_both}
 
 -- Lists of what is told.

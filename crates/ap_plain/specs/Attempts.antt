@@ -13,7 +13,7 @@ use Rattle.ap_strategy.specs.declared.plan.Plan.{Plan}
 use Rattle.ap_strategy.specs.Goals.{Goal, first_settings, inducted}
 use Rattle.ap_strategy.specs.Steps.{step_of, depth_of}
 use Rattle.ap_plain.specs.declared.limits.Limits.{Limits}
-use Rattle.ap_plain.specs.declared.owing.Owed.{Owed}
+use Rattle.ap_stated.specs.declared.owed.Owed.{Owed}
 use Rattle.ap_plain.specs.declared.attempting.Trial.{Trial}
 use Rattle.ap_plain.specs.Counts.{goals_of}
 use Rattle.ap_plain.specs.Drops.{DividedWalks}

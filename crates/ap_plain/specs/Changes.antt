@@ -6,10 +6,10 @@ use Rattle.ap_reader.specs.Tops.{items_in}
 use Rattle.ap_world.specs.Theories.{ShownTheory}
 use Rattle.ap_world.specs.World.{Shown}
 use Rattle.ap_hints.specs.Changes.{Changed, changes_by, changed_theory}
-use Rattle.ap_plain.specs.declared.refusing.Refusal.{Refusal}
+use Rattle.ap_stated.specs.declared.refusing.Refusal.{Refusal}
 use Rattle.ap_plain.specs.Ends.{Done, admitted, refused_alone}
 use Rattle.ap_plain.specs.Proposals.{with_theory}
-use Rattle.ap_plain.specs.Texts.{said_line}
+use Rattle.ap_stated.specs.Texts.{said_line}
 
 -- The shape: (in-theory E), where E is (enable R ..), (disable R ..) or (e/d (R ..) (R ..)).
 

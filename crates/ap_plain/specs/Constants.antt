@@ -7,10 +7,10 @@ use Rattle.ap_world.specs.World.{Shown, added, has_name}
 use Rattle.ap_reader.specs.declared.form.Form.{Form}
 use Rattle.ap_translate.specs.Answers as translation
 use Rattle.ap_translate.specs.Written.{written}
-use Rattle.ap_plain.specs.declared.refusing.Refusal.{Refusal}
+use Rattle.ap_stated.specs.declared.refusing.Refusal.{Refusal}
 use Rattle.ap_plain.specs.Ends.{Done, admitted, refused_alone}
-use Rattle.ap_plain.specs.Refusals.{Answer, unless}
-use Rattle.ap_plain.specs.Texts.{title, said_line}
+use Rattle.ap_stated.specs.Refusals.{Answer, unless}
+use Rattle.ap_stated.specs.Texts.{title, said_line}
 
 abbrev pub constant_title : Symbol → List ℕ
 constant_title n = title (codes "DEFCONST") n

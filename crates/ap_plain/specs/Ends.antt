@@ -4,10 +4,10 @@ use Rattle.ap_world.specs.World.{Shown}
 use Rattle.ap_attempt.specs.Attempts.{RootedWalk}
 use Rattle.ap_strategy.specs.Goals.{Goal}
 use Rattle.ap_plain.specs.declared.end.Outcome.{Outcome}
-use Rattle.ap_plain.specs.declared.refusing.Refusal.{Refusal}
+use Rattle.ap_stated.specs.declared.refusing.Refusal.{Refusal}
 use Rattle.ap_plain.specs.Counts.{goals_of}
 use Rattle.ap_plain.specs.Drops.{DividedWalks}
-use Rattle.ap_plain.specs.Texts.{refused_line}
+use Rattle.ap_stated.specs.Texts.{refused_line}
 
 -- what an event tells on the way: a world that it passes through, or a walk of an attempt
 pub data Told : Type 0 where

@@ -8,13 +8,13 @@ use Rattle.ap_reader.specs.declared.form.Form.{Form}
 use Rattle.ap_plain.specs.declared.kinds.Kind.{Kind}
 use Rattle.ap_plain.specs.declared.kinds.Kind.TheVariants as kind
 use Rattle.ap_plain.specs.declared.limits.Limits.{Limits}
-use Rattle.ap_plain.specs.declared.refusing.Refusal.{Refusal}
+use Rattle.ap_stated.specs.declared.refusing.Refusal.{Refusal}
 use Rattle.ap_plain.specs.Changes.{changes_of, theory_event}
 use Rattle.ap_plain.specs.Constants.{constant_event}
 use Rattle.ap_plain.specs.Ends.{Done, refused_alone}
 use Rattle.ap_plain.specs.Proposals.{proposed_theorem, proposed_definition, proposed_event}
-use Rattle.ap_plain.specs.Shapes.{Stated, Defined, head_of, statement_of, definition_of, constant_of}
-use Rattle.ap_plain.specs.Texts.{title}
+use Rattle.ap_stated.specs.Shapes.{Stated, Defined, head_of, statement_of, definition_of, constant_of}
+use Rattle.ap_stated.specs.Texts.{title}
 
 -- the kind of an event by the symbol at its head; None: it isn't built
 unfoldable pub kind_of : Symbol → Option Kind

@@ -11,7 +11,7 @@ use Rattle.ap_walk.specs.Visits.{Visit}
 use Rattle.ap_walk.specs.Tallies.{is_push}
 use Rattle.ap_induct.specs.Choosing.{chosen}
 use Rattle.ap_strategy.specs.Goals.{Goal, defs_of}
-use Rattle.ap_plain.specs.Texts.{line}
+use Rattle.ap_stated.specs.Texts.{line}
 
 -- why a walk stopped, by the number that the mark has
 unfoldable pub stop_text : ℕ → List ℕ

@@ -12,18 +12,18 @@ use Rattle.ap_hints.specs.declared.hint.Hints.{Hints}
 use Rattle.ap_hints.specs.Runes.{runes_named, changed_runes}
 use Rattle.ap_strategy.specs.Goals.{Goal}
 use Rattle.ap_plain.specs.declared.limits.Limits.{Limits}
-use Rattle.ap_plain.specs.declared.owing.Owed.{Owed}
+use Rattle.ap_stated.specs.declared.owed.Owed.{Owed}
 use Rattle.ap_plain.specs.declared.proposing.Proposal.{Proposal}
 use Rattle.ap_plain.specs.declared.proposing.Proposal.TheVariants as proposal
-use Rattle.ap_plain.specs.declared.refusing.Refusal.{Refusal}
+use Rattle.ap_stated.specs.declared.refusing.Refusal.{Refusal}
 use Rattle.ap_plain.specs.Attempts.{Tried, first_rule, tried, plan_for}
-use Rattle.ap_plain.specs.Definitions.{IsDefinition, stated_definition, owed_by, measure_text, function_in}
+use Rattle.ap_stated.specs.Definitions.{IsDefinition, stated_definition, owed_by, measure_text, function_in}
 use Rattle.ap_plain.specs.Ends.{Done, refused, admitted}
-use Rattle.ap_plain.specs.Hinting.{given_hints}
-use Rattle.ap_plain.specs.Refusals.{Answer, ◌>>=◌}
-use Rattle.ap_plain.specs.Shapes.{Stated, Defined}
-use Rattle.ap_plain.specs.Texts.{title, said_line, refused_line, event_text}
-use Rattle.ap_plain.specs.Theorems.{IsTheorem, stated_theorem, owed_theorem}
+use Rattle.ap_stated.specs.Hinting.{given_hints}
+use Rattle.ap_stated.specs.Refusals.{Answer, ◌>>=◌}
+use Rattle.ap_stated.specs.Shapes.{Stated, Defined}
+use Rattle.ap_stated.specs.Texts.{title, said_line, refused_line, event_text}
+use Rattle.ap_stated.specs.Theorems.{IsTheorem, stated_theorem, owed_theorem}
 
 -- what is stated: a theorem, or a definition that ends
 abbrev pub proposed_theorem : Shown → Stated → Answer Proposal

@@ -7,12 +7,11 @@ ghost use Rattle.ap_plain.specs.Ends.{Did};
 ghost use Rattle.ap_plain.specs.Proposals.{without_name};
 
 use crate::end::{Outcome, refused_alone, without_drops};
-use crate::refusing::Refusal;
-use crate::texts;
 use ap_hints::{Changes, changed_runes, changed_theory, changes_by, runes_named};
 use ap_list::NoMemory;
 use ap_reader::{Form, items};
 use ap_rules::Ruled;
+use ap_stated::{Refusal, texts};
 use ap_translate::TransKind;
 use ap_value::Symbol;
 use ap_world::{Theory, World, copy_theory};

@@ -5,16 +5,13 @@ ghost use Rattle.ap_world.specs.World.{added, has_name};
 ghost use Rattle.ap_translate.specs.Written.{written};
 ghost use Rattle.ap_plain.specs.Constants.{constant_title, valued_constant, stated_constant, written_constant, constant_event};
 ghost use Rattle.ap_plain.specs.Ends.{Did};
-ghost use Rattle.ap_plain.specs.Shapes.{constant_of};
+ghost use Rattle.ap_stated.specs.Shapes.{constant_of};
 
 use crate::end::{Outcome, refused_alone, without_drops};
-use crate::refusing::Refusal;
-use crate::shapes::{Constant, constant_in};
-use crate::taken::is_taken;
-use crate::texts;
 use ap_list::NoMemory;
 use ap_reader::Form;
 use ap_rules::Ruled;
+use ap_stated::{Constant, Refusal, constant_in, is_taken, texts};
 use ap_translate::{TransError, constant_value};
 use ap_value::{Symbol, Value, copy_symbol};
 use ap_world::AddError;

@@ -2,10 +2,9 @@ ghost use Rattle.std.specs.Prelude.{◌≡◌, [], IfOk};
 ghost use Rattle.ap_world.specs.World.{Shown};
 ghost use Rattle.ap_plain.specs.Ends.{Did, refused_alone};
 
-use crate::refusing::Refusal;
-use crate::texts;
 use ap_attempt::DropNote;
 use ap_list::{Bytes, NoMemory, Seq};
+use ap_stated::{Refusal, texts};
 use std::alloc::Global;
 
 /// What an event came to: what it printed, whether it is admitted, how many goals its attempts visited, and which goals

@@ -5,28 +5,26 @@ ghost use Rattle.ap_world.specs.World.{Shown, function_of};
 ghost use Rattle.ap_term.specs.Printed.{symbol_text};
 ghost use Rattle.ap_plain.specs.Drops.{DividedWalks};
 ghost use Rattle.ap_plain.specs.Ends.{goals_in, walks_in, refused_alone, Did};
-ghost use Rattle.ap_plain.specs.declared.refusing.Refusal.{Refusal};
+ghost use Rattle.ap_stated.specs.declared.refusing.Refusal.{Refusal};
 ghost use Rattle.ap_plain.specs.Events.{kind_of, stated_event, theorem_event, defined_event, definition_event, event_by, headed_event, event_with, event_of};
 ghost use Rattle.ap_plain.specs.Proposals.{proposed_theorem, proposed_definition, IsStated};
-ghost use Rattle.ap_plain.specs.Shapes.{as_stated, statement_of, as_defined, definition_of};
+ghost use Rattle.ap_stated.specs.Shapes.{as_stated, statement_of, as_defined, definition_of};
 
 use crate::attempting::Crew;
 use crate::changes::theory_event;
 use crate::constant::constant_event;
-use crate::definition::stated_definition;
 use crate::end::{Outcome, refused_alone};
-use crate::forms::head;
 use crate::kinds::{Kind, kind_of};
 use crate::limits::Limits;
 use crate::proposing::{Asked, Proposal, proposed_event};
-use crate::refusing::Refusal;
-use crate::shapes::{Definition, Statement, definition_in, theorem_in};
-use crate::texts;
-use crate::theorem::stated_theorem;
 use ap_attempt::Gate;
 use ap_list::NoMemory;
 use ap_reader::Form;
 use ap_rules::Ruled;
+use ap_stated::{
+    Definition, Refusal, Statement, definition_in, head, stated_definition, stated_theorem, texts,
+    theorem_in,
+};
 use ap_value::Symbol;
 use std::alloc::Global;
 use std::sync::Wait;

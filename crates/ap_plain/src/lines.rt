@@ -1,6 +1,6 @@
 //! The lines of an attempt, and its checkpoints.
 ghost use Rattle.std.specs.Prelude.{◌≡◌, ◌++◌, ◌+◌, ◌≤◌, ◌<◌, ◌^◌, length, codes, OnOk, IfOk};
-ghost use Rattle.ap_plain.specs.Texts.{line};
+ghost use Rattle.ap_stated.specs.Texts.{line};
 ghost use Rattle.ap_names.specs.Printed.{name_text};
 ghost use Rattle.ap_attempt.specs.Laws.{mark_count};
 ghost use Rattle.ap_plain.specs.Lines.{stop_text, counted_text, push_text, call_text, induct_text, process_text, limited_text, mark_text, marks_text, end_text, walk_text, walks_text, is_checkpoint, checkpoint_text, checkpoints_of, checkpoints_in, headed, checkpoints_text};

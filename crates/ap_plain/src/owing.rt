@@ -16,6 +16,7 @@ use ap_attempt::{Gate, Verdict};
 use ap_hints::Hints;
 use ap_list::{Bytes, NoMemory, Seq};
 use ap_rules::Ruled;
+use ap_stated::Owed;
 use ap_strategy::Plan;
 use ap_term::Clause;
 use ap_walk::Rule;
@@ -24,13 +25,6 @@ use std::alloc::{AllocError, Global};
 use std::mem;
 use std::sync::Wait;
 use std::thread::Threads;
-
-/// A clause that an event owes, and what is printed before its attempt's lines.
-#[derive(Drop)]
-pub struct Owed {
-    pub heading: Bytes,
-    pub clause: Clause,
-}
 
 /// No attempt so far.
 fn no_trial(alloc: Global) -> Trial

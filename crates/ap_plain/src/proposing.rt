@@ -5,29 +5,28 @@ ghost use Rattle.ap_world.specs.Meaning.{Valid};
 ghost use Rattle.ap_world.specs.Sound.{HasFunctions};
 ghost use Rattle.ap_world.specs.World.{Shown, added, function_of};
 ghost use Rattle.ap_hints.specs.Known.{KnownHints};
-ghost use Rattle.ap_plain.specs.declared.refusing.Refusal.{Refusal};
+ghost use Rattle.ap_stated.specs.declared.refusing.Refusal.{Refusal};
 ghost use Rattle.ap_plain.specs.Attempts.{Tried, first_rule, plan_for, before, tried, Tries};
 ghost use Rattle.ap_plain.specs.Ends.{Did, refused};
-ghost use Rattle.ap_plain.specs.Hinting.{given_hints};
+ghost use Rattle.ap_stated.specs.Hinting.{given_hints};
 ghost use Rattle.ap_plain.specs.Proposals.{opening_of, owed_of, said_of, name_of, entry_in, put, IsStated, proved_event, tried_event, hinted_event, proposed_event};
-ghost use Rattle.ap_plain.specs.Texts.{said_line, refused_line, event_text};
+ghost use Rattle.ap_stated.specs.Texts.{said_line, refused_line, event_text};
 ghost use Rattle.ap_attempt.specs.declared.verdict.Verdict.{Verdict};
 
 use crate::attempting::{Crew, Trial, first_rule};
 use crate::changes::{disable, remember};
-use crate::definition::{Terminating, add_definition, measure_text, owed_definition};
 use crate::end::{Outcome, without_drops};
-use crate::hinting::given_hints;
 use crate::limits::Limits;
-use crate::owing::{Owed, try_owed};
-use crate::refusing::Refusal;
-use crate::texts;
-use crate::theorem::{add_theorem, owed_theorem};
+use crate::owing::try_owed;
 use ap_attempt::{Gate, Verdict};
 use ap_hints::Hints;
 use ap_list::{Bytes, NoMemory, Seq};
 use ap_reader::Form;
 use ap_rules::Ruled;
+use ap_stated::{
+    Owed, Refusal, Terminating, add_definition, add_theorem, given_hints, measure_text,
+    owed_definition, owed_theorem, texts,
+};
 use ap_value::{Symbol, copy_symbol};
 use ap_walk::{Reason, Rule};
 use ap_world::Theorem;

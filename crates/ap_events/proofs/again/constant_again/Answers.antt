@@ -1,7 +1,7 @@
 use Rattle.std.proofs.Common.{ap, ◌∙◌}
 use Rattle.ap_plain.specs.declared.end.Outcome.{Outcome}
 use Rattle.ap_plain.specs.Constants.{constant_event}
-use Rattle.ap_plain.specs.Shapes.{constant_of}
+use Rattle.ap_stated.specs.Shapes.{constant_of}
 use Rattle.ap_events.proofs.Joined.{if_silent, silenced_drops}
 use Rattle.ap_events.proofs.again.constant_again.Goals as goal
 

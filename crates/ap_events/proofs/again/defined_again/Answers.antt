@@ -1,5 +1,5 @@
 use Rattle.std.proofs.Common.{◌≡◌, sym, ◌∙◌}
-use Rattle.ap_plain.specs.Shapes.{as_defined}
+use Rattle.ap_stated.specs.Shapes.{as_defined}
 use Rattle.ap_events.proofs.Restating.{definition_backed, definition_did, functions_there, stated_there}
 use Rattle.ap_events.proofs.again.defined_again.Goals as goal
 

@@ -1,5 +1,5 @@
 use Rattle.std.proofs.Common.{◌≡◌, sym, ◌∙◌}
-use Rattle.ap_plain.specs.Shapes.{as_stated}
+use Rattle.ap_stated.specs.Shapes.{as_stated}
 use Rattle.ap_events.proofs.Depths.{did_is}
 use Rattle.ap_events.proofs.Doing.{backed_at}
 use Rattle.ap_events.proofs.Restating.{theorem_is}

@@ -2,7 +2,7 @@ use Rattle.std.proofs.Common.{◌≡◌, Err, ap, sym, ◌∙◌, subst}
 use Rattle.std.proofs.Common.{IfOk}
 use Rattle.std.specs.Prelude.{codes}
 use Rattle.ap_plain.specs.Ends.{Did}
-use Rattle.ap_plain.specs.Texts.{said_line}
+use Rattle.ap_stated.specs.Texts.{said_line}
 use Rattle.ap_events.specs.Books.{include_of}
 use Rattle.ap_events.proofs.Including.{included_did, refused_did, not_clash}
 use Rattle.ap_events.proofs.kept.include_of.Goals as goal

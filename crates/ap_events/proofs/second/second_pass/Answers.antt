@@ -2,7 +2,7 @@ use Rattle.std.proofs.Common.{◌≡◌, ◌++◌, List, ap, sym, ◌∙◌, sub
 use Rattle.std.specs.Prelude.{codes}
 use Rattle.ap_world.specs.Sound.{HasFunctions}
 use Rattle.ap_world.specs.World.{Shown, function_of}
-use Rattle.ap_plain.specs.Texts.{line}
+use Rattle.ap_stated.specs.Texts.{line}
 use Rattle.ap_events.specs.Books.{again_event}
 use Rattle.ap_events.specs.Joining.{back_in}
 use Rattle.ap_events.specs.Nested.{agains, all}

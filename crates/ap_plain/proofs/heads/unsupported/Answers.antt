@@ -1,6 +1,6 @@
 use Rattle.std.proofs.Common.{IfOk, subst, ◌∙◌}
 use Rattle.ap_world.specs.World.{Shown}
-use Rattle.ap_plain.specs.declared.refusing.Refusal.{Refusal}
+use Rattle.ap_stated.specs.declared.refusing.Refusal.{Refusal}
 use Rattle.ap_plain.specs.Ends.{refused_alone, Did}
 use Rattle.ap_plain.proofs.heads.unsupported.Goals as goal
 

@@ -5,7 +5,7 @@ use Rattle.ap_attempt.specs.declared.verdict.Verdict.{Verdict}
 use Rattle.ap_kernel.specs.Reductions.{KnownClause}
 use Rattle.ap_strategy.specs.Goals.{defs_of}
 use Rattle.ap_plain.specs.declared.attempting.Trial.{Trial}
-use Rattle.ap_plain.specs.declared.owing.Owed.{Owed}
+use Rattle.ap_stated.specs.declared.owed.Owed.{Owed}
 use Rattle.ap_plain.specs.Attempts.{tried, Tries}
 use Rattle.ap_plain.proofs.Attempted.{SoFar, failed_here, proved_next, first_left, first_done, is_qed}
 use Rattle.ap_plain.proofs.owing.try_each.Goals as goal

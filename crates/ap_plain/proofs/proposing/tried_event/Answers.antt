@@ -4,7 +4,7 @@ use Rattle.ap_world.specs.Meaning.{Valid}
 use Rattle.ap_world.specs.World.{Shown, function_of}
 use Rattle.ap_attempt.specs.declared.verdict.Verdict.{Verdict}
 use Rattle.ap_walk.specs.declared.rule.Rule.{Rule}
-use Rattle.ap_plain.specs.declared.owing.Owed.{Owed}
+use Rattle.ap_stated.specs.declared.owed.Owed.{Owed}
 use Rattle.ap_plain.specs.Attempts.{before, first_rule, tried, plan_for, Tries}
 use Rattle.ap_plain.specs.Proposals.{opening_of, owed_of}
 use Rattle.ap_plain.proofs.Proposed.{at_tried}

@@ -5,7 +5,7 @@ use Rattle.ap_world.specs.Sound.{Sound}
 use Rattle.ap_world.specs.World.{Shown, function_of}
 use Rattle.ap_attempt.specs.declared.verdict.Verdict.{Verdict}
 use Rattle.ap_kernel.specs.Reductions.{KnownClause}
-use Rattle.ap_plain.specs.declared.owing.Owed.{Owed}
+use Rattle.ap_stated.specs.declared.owed.Owed.{Owed}
 use Rattle.ap_plain.specs.Proposals.{opening_of, owed_of}
 use Rattle.ap_plain.proofs.Proposed.{all_known, opened_valid}
 use Rattle.ap_plain.proofs.proposing.try_proposal.Goals as goal

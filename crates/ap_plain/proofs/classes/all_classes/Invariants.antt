@@ -1,7 +1,0 @@
-use Rattle.std.proofs.Common.{◌≡◌, map, take}
-use Rattle.ap_plain.specs.Classes.{class_of}
-use Rattle.ap_plain.proofs.classes.all_classes.Given as goal
-
--- the classes so far
-abbrev pub invariant-loop-form : goal.invariant-loop-form
-invariant-loop-form l = l.out ≡ map class_of (take l.form-index l.forms)

@@ -1,0 +1,18 @@
+use Rattle.std.proofs.Common.{subst, sym}
+use Rattle.ap_world.specs.World.{Shown, function_of}
+use Rattle.ap_translate.specs.Answers.{Gives}
+use Rattle.ap_translate.specs.Laws.{HasMacroFunctions}
+use Rattle.ap_stated.specs.Translating.{translated_all}
+use Rattle.ap_stated.proofs.Defining.{macro_functions}
+use Rattle.ap_stated.proofs.translating.guard.Goals as goal
+
+pub terms-requires : goal.terms-requires
+terms-requires c = record {
+  macros =
+      subst (λ (u : Shown). HasMacroFunctions (function_of u.entries)) (sym c.world.ensures) (macro_functions (function_of c.args.w.now.entries) c.requires.functions);
+}
+
+pub returns : goal.returns
+returns c =
+    subst (λ fs. Gives c.terms.result (translated_all c.args.w.now.entries c.args.formals.now fs)) c.guard_forms.ensures
+    (subst (λ (u : Shown). Gives c.terms.result (translated_all u.entries c.args.formals.now c.guard_forms.result.now)) c.world.ensures c.terms.ensures.made)

@@ -1,0 +1,9 @@
+pub mod Classes
+pub mod Definitions
+pub mod Hinting
+pub mod Prepared
+pub mod Refusals
+pub mod Shapes
+pub mod Texts
+pub mod Theorems
+pub mod Translating
