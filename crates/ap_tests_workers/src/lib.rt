@@ -1,4 +1,4 @@
-//! The tests of workers that share a goal table.
+//! The tests of the goal table, and of workers that share one.
 #![tactic(auto)]
 
 #[cfg(test)]
@@ -8,7 +8,15 @@ mod gates;
 mod jobs;
 #[cfg(test)]
 mod refusals;
+#[cfg(test)]
+mod shared;
+#[cfg(test)]
+mod tables;
 mod tree;
+#[cfg(test)]
+mod trees;
+#[cfg(test)]
+mod waiting;
 #[cfg(test)]
 mod walks;
 mod watching;

@@ -93,51 +93,28 @@ fn expect_serial<R: Threads + Wait + Abort + Sync>(
     Ok(())
 }
 
-#[test]
-fn a_walk_goes_through(rt: HostRuntime) -> Result<(), NoMemory> {
-    expect_serial(
-        &rt,
-        rt.alloc(),
-        DEEP,
-        initial(true, 1000),
-        (49, End::Through),
-    )
-}
+/// Each row: a root's level and number, and its rule's switch and limit; and how many marks its walk has, and its end.
+const ROWS: &[(u32, u32, bool, u32, (usize, End))] = &[
+    (4, 11, true, 1000, (49, End::Through)),
+    (4, 11, false, 1000, (32, End::Revert)),
+    // Early.
+    (4, 111, false, 1000, (30, End::Stopped(Reason::NoScheme))),
+    // Late.
+    (4, 15, true, 1000, (47, End::Stopped(Reason::NoScheme))),
+    (4, 11, true, 25, (25, End::Limit)),
+];
 
 #[test]
-fn a_walk_reverts(rt: HostRuntime) -> Result<(), NoMemory> {
-    expect_serial(
-        &rt,
-        rt.alloc(),
-        DEEP,
-        initial(false, 1000),
-        (32, End::Revert),
-    )
-}
-
-#[test]
-fn a_walk_stops_early(rt: HostRuntime) -> Result<(), NoMemory> {
-    let root = Task {
-        level: 4,
-        number: 111,
-    };
-    let stopped = End::Stopped(Reason::NoScheme);
-    expect_serial(&rt, rt.alloc(), root, initial(false, 1000), (30, stopped))
-}
-
-#[test]
-fn a_walk_stops_late(rt: HostRuntime) -> Result<(), NoMemory> {
-    let root = Task {
-        level: 4,
-        number: 15,
-    };
-    let stopped = End::Stopped(Reason::NoScheme);
-    expect_serial(&rt, rt.alloc(), root, initial(true, 1000), (47, stopped))
-}
-
-#[test]
-fn a_walk_comes_to_its_limit(rt: HostRuntime) -> Result<(), NoMemory> {
-    expect_serial(&rt, rt.alloc(), DEEP, initial(true, 25), (25, End::Limit))
+fn walks_are_the_serial_ones(rt: HostRuntime) -> Result<(), NoMemory> {
+    for (level, number, otf, limit, wanted) in ROWS {
+        let root = Task {
+            level: *level,
+            number: *number,
+        };
+        let rule = initial(*otf, (*limit).clamp(1, 1000));
+        expect_serial(&rt, rt.alloc(), root, rule, *wanted)?;
+    }
+    Ok(())
 }
 
 /// Works a root by so many workers, where nothing is dropped: as many steps are taken as tasks are visited.
@@ -156,17 +133,14 @@ fn expect_one_step_each<R: Threads + Wait + Sync + Abort>(
     Ok(())
 }
 
+/// A node below three families isn't expanded. Were it tried, the table would refuse it, and its step be taken again.
 #[test]
-fn a_claimed_task_is_stepped_once(rt: HostRuntime) -> Result<(), NoMemory> {
+fn a_claimed_task_and_one_below_three_families_are_stepped_once(
+    rt: HostRuntime,
+) -> Result<(), NoMemory> {
     for _ in 0..TIMES {
         expect_one_step_each(&rt, rt.alloc(), THREE, 2, 4)?;
     }
-    Ok(())
-}
-
-/// A node below three families isn't expanded. Were it tried, the table would refuse it, and its step be taken again.
-#[test]
-fn a_task_below_three_families_is_stepped_once(rt: HostRuntime) -> Result<(), NoMemory> {
     for workers in [1, 2, 2, 3, 3, 8, 8] {
         expect_one_step_each(&rt, rt.alloc(), DEEP, workers, 49)?;
     }

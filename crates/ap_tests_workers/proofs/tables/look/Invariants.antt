@@ -1,6 +1,6 @@
 use Rattle.std.proofs.Common.{◌≡◌, ◌≤◌}
 use Rattle.ap_word.specs.Seats.{seat_view}
-use Rattle.ap_tests_table.proofs.tables.look.Given as goal
+use Rattle.ap_tests_workers.proofs.tables.look.Given as goal
 
 abbrev pub invariant-loop-i : goal.invariant-loop-i
 invariant-loop-i l = record {

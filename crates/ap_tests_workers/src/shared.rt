@@ -99,22 +99,8 @@ pub(crate) fn drop_refused(
     job
 }
 
-/// Expands the root, and puts the first of its children, then the last, then the one between, which isn't dropped.
-fn put_three(
-    rt: &(impl Abort + Wait),
-    alloc: Global,
-    table: &GoalTable<Trees>,
-) -> Result<(), NoMemory> {
-    expand_root(rt, alloc, table, claim(rt, table, 0))?;
-    let (a, b, c) = claim_three(rt, table);
-    put_kept(rt, alloc, table, a)?;
-    put_kept(rt, alloc, table, c)?;
-    let b = drop_refused(rt, table, b);
-    put_kept(rt, alloc, table, b)
-}
-
 /// What a table ends with, whose root is done.
-fn finished(
+pub(crate) fn finished(
     rt: &impl Abort,
     alloc: Global,
     state: TableState<Trees>,
@@ -123,17 +109,4 @@ fn finished(
         panic!(rt; "the root isn't done");
     }
     state.finish(alloc, &Trees)
-}
-
-#[test]
-fn the_state_is_what_the_calls_left(rt: HostRuntime) -> Result<(), NoMemory> {
-    let alloc = rt.alloc();
-    let table = begin(alloc, &Trees, Tree::Three, RULE)?;
-    put_three(&rt, alloc, &table)?;
-    let state = table.into_state();
-    assert_eq!(rt; state.history().len(), 10);
-    let (walked, notes) = finished(&rt, alloc, state)?;
-    assert_eq!(rt; (walked.marks.len(), walked.end), (4, End::Revert));
-    assert_eq!(rt; notes.len(), 0);
-    Ok(())
 }

@@ -1,9 +1,9 @@
 //! Workers that wait for each other at the goal table: the history's length, and what ends a wait.
 
-use crate::shared::{RULE, claim, claim_three, drop_refused, expand_root, put, put_kept};
+use crate::shared::{RULE, claim, claim_three, drop_refused, expand_root, finished, put, put_kept};
 use crate::trees::{Tree, Trees};
 use ap_table::*;
-use ap_walk::NoMemory;
+use ap_walk::{End, NoMemory};
 use std::alloc::Global;
 use std::process::Abort;
 use std::sync::Wait;
@@ -50,15 +50,30 @@ fn put_told(
     assert_eq!(rt; table.length(rt), 6);
     put_kept(rt, alloc, table, c)?;
     assert_eq!(rt; table.wait_more(rt, 6), 8);
+    let b = drop_refused(rt, table, b);
     put_kept(rt, alloc, table, b)
 }
 
+/// Compares what a table ends with.
+fn expect_end(rt: &impl Abort, alloc: Global, state: TableState<Trees>) -> Result<(), NoMemory> {
+    assert_eq!(rt; state.history().len(), 10);
+    let (walked, notes) = finished(rt, alloc, state)?;
+    assert_eq!(rt;
+        (walked.marks.len(), walked.end, notes.len()),
+        (4, End::Revert, 0)
+    );
+    Ok(())
+}
+
 #[test]
-fn the_length_tells_each_step(rt: HostRuntime) -> Result<(), NoMemory> {
+fn the_length_tells_each_step_and_the_state_is_what_they_left(
+    rt: HostRuntime,
+) -> Result<(), NoMemory> {
     let alloc = rt.alloc();
     let table = begin(alloc, &Trees, Tree::Three, RULE)?;
     expand_told(&rt, alloc, &table)?;
-    put_told(&rt, alloc, &table)
+    put_told(&rt, alloc, &table)?;
+    expect_end(&rt, alloc, table.into_state())
 }
 
 #[test]

@@ -30,7 +30,7 @@ impl Step for Trees {
     ghost use Rattle.std.proofs.Common.{rules, arith};
     ghost use Rattle.ap_walk.specs.declared.act.Process.{Process};
     ghost use Rattle.ap_walk.specs.declared.act.Out.{Out};
-    ghost use Rattle.ap_tests_table.specs.declared.trees.Tree.TheVariants.{Empty, Left, Right, Pair, Over, Three, Deep};
+    ghost use Rattle.ap_tests_workers.specs.declared.trees.Tree.TheVariants.{Empty, Left, Right, Pair, Over, Three, Deep};
 
     type Task = Tree;
 
