@@ -2,9 +2,11 @@
 use Rattle.std.specs.Prelude.{ℕ, List}
 use Rattle.ap_outside.specs.Files.{Files}
 
--- a sink: what was put, the numbers of the calls that fail, how many calls there were, and the faults
+-- a sink: what was put, the most bytes that it takes at a call, the numbers of the calls that fail, how many calls there
+-- were, and the faults
 pub record SinkSeen : Type 0 where
   pub content : List ℕ
+  pub most : ℕ
   pub failing : List ℕ
   pub calls : ℕ
   pub faults : ℕ

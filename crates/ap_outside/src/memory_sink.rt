@@ -1,4 +1,5 @@
 ghost use Rattle.std.specs.Prelude.{◌≡◌, ◌+◌, ◌-◌, ◌^◌, ◌<◌, ◌≤◌, ◌↔◌, [], ◌++◌, IfOk, IfErr, OnOk, OnErr, IsErrOf, Contains, length, take, min};
+ghost use Rattle.std.specs.Int.NonZero.{non_zero_usize_get};
 ghost use Rattle.ap_outside.specs.Faults.{Rose};
 ghost use Rattle.ap_outside.specs.Gains.{Gained};
 
@@ -8,6 +9,7 @@ use crate::sink::Sink;
 use ap_list::{Bytes, Seq};
 use std::alloc::Global;
 use std::marker::Model;
+use std::num::NonZeroUsize;
 
 /// A sink in memory that fails for want of memory alone. It takes each piece whole.
 #[derive(Debug, Drop)]
@@ -53,29 +55,40 @@ impl Sink for FailFreeSink {
     }
 }
 
-/// A sink in memory of which some calls fail. It takes each piece whole.
+/// A sink in memory of which some calls fail. It takes each piece whole, or of a longer one so many bytes at a call.
 #[derive(Debug, Drop)]
 pub struct MemorySink {
     content: Bytes,
+    most: NonZeroUsize,
     schedule: Schedule,
     faults: u64,
 }
 
 impl Model for MemorySink {
+    ghost use Rattle.std.specs.Int.NonZero.{non_zero_usize_get};
     ghost use Rattle.ap_outside.specs.Memory.{SinkSeen};
 
     ghost Value = { SinkSeen };
 
-    ghost view = { λ sink. record { content = sink.content; failing = sink.schedule.failing; calls = sink.schedule.calls; faults = sink.faults } };
+    ghost view = { λ sink. record { content = sink.content; most = non_zero_usize_get sink.most; failing = sink.schedule.failing; calls = sink.schedule.calls; faults = sink.faults } };
 }
 
 impl MemorySink {
-    /// A sink that holds nothing. `failing` has the numbers of the calls that fail, counted from 1.
+    /// A sink that holds nothing and takes each piece whole. `failing` has the numbers of the calls that fail, counted from 1.
     pub fn new(alloc: Global, failing: Seq<u32>) -> MemorySink
-        ensures { result ≡ record { content = []; failing = failing; calls = 0; faults = 0 } }
+        ensures { result ≡ record { content = []; most = 2 ^ 64 - 1; failing = failing; calls = 0; faults = 0 } }
+    {
+        MemorySink::short(alloc, NonZeroUsize::MAX, failing)
+    }
+
+    /// A sink that holds nothing and takes at most so many bytes at a call, and of a shorter piece all. `failing` has the
+    /// numbers of the calls that fail, counted from 1.
+    pub fn short(alloc: Global, most: NonZeroUsize, failing: Seq<u32>) -> MemorySink
+        ensures { result ≡ record { content = []; most = non_zero_usize_get most; failing = failing; calls = 0; faults = 0 } }
     {
         MemorySink {
             content: Bytes::new(alloc),
+            most,
             schedule: Schedule { failing, calls: 0 },
             faults: 0,
         }
@@ -111,14 +124,24 @@ impl Sink for MemorySink {
         ensures counted { self.new.calls ≡ min (self.old.calls + 1) (2 ^ 64 - 1) }
         ensures failing { self.new.failing ≡ self.old.failing }
         ensures fails { IsErrOf result WriteFault.Failed ↔ Contains self.new.failing self.new.calls }
-        ensures whole { IfOk result (λ n. n ≡ length piece.now) }
+        ensures most { self.new.most ≡ self.old.most }
+
+        // as much as it takes at a call, and of a shorter piece all
+        ensures taken { IfOk result (λ n. n ≡ min (length piece.now) self.old.most) }
     {
         if self.schedule.next_fails() {
             self.faults = self.faults.saturating_add(1);
             return Err(WriteFault::Failed);
         }
-        take_whole(&mut self.content, piece)
+        take_whole(&mut self.content, first_of(piece, self.most))
     }
+}
+
+/// The first bytes of a piece, at most so many.
+fn first_of(piece: &[u8], most: NonZeroUsize) -> &[u8]
+    ensures { result.now ≡ take (non_zero_usize_get most) piece.now }
+{
+    &piece[..piece.len().min(most.get())]
 }
 
 /// Appends a piece whole, and answers its length. Where memory is refused the content stays.
