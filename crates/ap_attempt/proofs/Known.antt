@@ -1,5 +1,5 @@
 -- The walk of a task whose step is known, and what is so of a walk that is the full one.
-use Rattle.std.proofs.Common.{◌≡◌, ◌≤◌, ◌<◌, ℕ, List, [], ◌∷◌, ◌++◌, length, Result, Ok, Err, IfOk, ap, subst, sym, ◌∙◌}
+use Rattle.std.proofs.Common.{◌≡◌, ◌≤◌, ◌<◌, ℕ, List, [], ◌∷◌, ◌++◌, length, append-nil, Result, Ok, Err, IfOk, ap, subst, sym, ◌∙◌}
 use Rattle.ap_list.specs.Lists.{Each}
 use Rattle.ap_walk.specs.declared.act.Stepped.{Stepped}
 use Rattle.ap_walk.specs.declared.rule.Rule.{Rule}
@@ -34,3 +34,18 @@ module _ {T : Type 0} (step : T → Stepped T) (depth : T → ℕ) (tells : (tas
       (all ∙ ap (λ ms. ms ++ below) (one ∙ ap (λ ms. ms ++ own ∷ []) none) ∙ ap (λ ms. own ∷ ms) (rest ∙ ap (full_marks step depth rule) split_is)
       ∙ ap (λ m. m ∷ full_marks step depth rule (out_children (step task).out)) own_is)
       ∙ sym (full_is_cut_of_family step depth tells rule deeper task)
+
+  -- a task without children has its own mark alone
+  pub lone_walk : (deeper : (task : T) → Each (λ c. depth c < depth task) (out_children (step task).out)) (task : T) (stepped : Stepped T) (own : Visit T) (children : List T) (first more : List (Visit T)) (w : Walked T)
+      → stepped ≡ step task → own ≡ visit_of task stepped → children ≡ out_children stepped.out → children ≡ [] → first ≡ [] → more ≡ first ++ own ∷ []
+      → w ≡ cut rule zero_tally more → w ≡ full step depth rule task
+  lone_walk deeper task stepped own children first more w is owned split empty none one cuts =
+      known_walk deeper task stepped own children first more [] more w is owned split none one (ap (full_marks step depth rule) (sym empty)) (sym (append-nil more)) cuts
+
+  -- a task with one child has its own mark, and then those of the child's walk
+  pub walk_above : (deeper : (task : T) → Each (λ c. depth c < depth task) (out_children (step task).out)) (task child : T) (stepped : Stepped T) (own : Visit T) (children : List T) (first more marks : List (Visit T)) (v w : Walked T)
+      → stepped ≡ step task → own ≡ visit_of task stepped → children ≡ out_children stepped.out → children ≡ child ∷ [] → first ≡ [] → more ≡ first ++ own ∷ [] → v ≡ full step depth rule child → marks ≡ more ++ v.marks
+      → w ≡ cut rule zero_tally marks → w ≡ full step depth rule task
+  walk_above deeper task child stepped own children first more marks v w is owned split only none one below all cuts =
+      known_walk deeper task stepped own children first more v.marks marks w is owned split none one
+      (ap (λ (x : Walked T). x.marks) below ∙ (sym (append-nil (full step depth rule child).marks) ∙ ap (full_marks step depth rule) (sym only))) all cuts

@@ -150,3 +150,30 @@ module _ {T : Type 0} (step : T → Stepped T) (depth : T → ℕ) (name : T →
   drops_licensed r t rule w ds root under allowed notes =
       subst (λ (u : T). Each (IsLicensed step depth name (record { root = u; rule = rule; walked = w })) ds) root
       (subst (λ (x : Rule). Each (IsLicensed step depth name (record { root = r.root; rule = x; walked = w })) ds) under (notes_licensed r w ds allowed notes))
+
+module _ {T : Type 0} (step : T → Stepped T) (depth : T → ℕ) (name : T → Name) (rule : Rule) where
+  -- what is licensed in the walk of an only child is licensed in that of the task above it
+  licensed_above : (task child : T) (v w : Walked T) (d : DropNote) → out_children (step task).out ≡ child ∷ []
+      → IsLicensed step depth name (record { root = child; rule = rule; walked = v }) d → IsLicensed step depth name (record { root = task; rule = rule; walked = w }) d
+  unfolding task_at
+  licensed_above task child v w d only l = record {
+    above = 0 ∷ l.above;
+    parent = l.parent;
+    parent_at = at_next step (slice_get (out_children (step task).out) 0) child (λ c. task_at step c l.above) (ap (λ cs. slice_get cs 0) only) ∙ l.parent_at;
+    stopped = l.stopped;
+    sibling = l.sibling;
+    sibling_at = l.sibling_at;
+    stops = l.stops;
+    place = l.place;
+    later = l.later;
+    below = l.below;
+    task = l.task;
+    dropped_at = l.dropped_at;
+    dropped = l.dropped;
+    named = l.named;
+  }
+
+  pub each_licensed_above : (task child : T) (v w : Walked T) (ds : List DropNote) → out_children (step task).out ≡ child ∷ []
+      → Each (IsLicensed step depth name (record { root = child; rule = rule; walked = v })) ds → Each (IsLicensed step depth name (record { root = task; rule = rule; walked = w })) ds
+  each_licensed_above task child v w [] only all = tt
+  each_licensed_above task child v w (d ∷ ds) only all = (licensed_above task child v w d only all.0, each_licensed_above task child v w ds only all.1)

@@ -1,9 +1,9 @@
 //! A walk by workers.
-ghost use Rattle.std.specs.Prelude.{◌≡◌, ◌≤◌, ◌∷◌, [], false, length, IfOk};
+ghost use Rattle.std.specs.Prelude.{◌≡◌, ◌≤◌, ◌∷◌, [], false, length, IfOk, IfSome, IfNone};
 ghost use Rattle.ap_list.specs.Lists.{Each};
 ghost use Rattle.ap_walk.specs.Visits.{Tells, out_children, visit_of};
 ghost use Rattle.ap_walk.specs.Tallies.{zero_tally};
-ghost use Rattle.ap_walk.specs.Walks.{full, full_marks, walk};
+ghost use Rattle.ap_walk.specs.Walks.{cut, full, walk};
 ghost use Rattle.ap_attempt.specs.Drops.{IsLicensed};
 
 use ap_list::{NoMemory, Seq};
@@ -45,44 +45,25 @@ fn mark_and_children<T: Drop>(alloc: Global, task: T, stepped: Stepped<T>) -> (M
     (mark, below)
 }
 
-/// The marks of the walk of the only child, where there is one.
-fn marks_below<S: Step>(
-    alloc: Global,
-    step: &S,
-    children: Seq<S::Task>,
-    rule: Rule,
-) -> Result<Seq<Mark<S::Task>>, NoMemory>
-    requires { length children ≤ 1 }
-    ensures { IfOk result (λ marks. marks ≡ full_marks S.step_of S.depth rule children) }
+/// The only one of tasks, where there is one.
+fn only<T: Drop>(tasks: Seq<T>) -> Option<T>
+    requires { length tasks ≤ 1 }
+    ensures none { IfNone result (tasks ≡ []) }
+    ensures some { IfSome result (λ task. tasks ≡ task ∷ []) }
 {
-    let mut children = children;
-    let Some(child) = children.pop() else {
-        return Ok(Seq::new(alloc));
-    };
-    Ok(serial(alloc, step, &child, rule)?.marks)
+    let mut tasks = tasks;
+    tasks.pop()
 }
 
-/// The walk of a task that splits into one task at most, by its step, which isn't taken again.
-fn walk_on<S: Step>(
-    alloc: Global,
-    step: &S,
-    task: S::Task,
-    stepped: Stepped<S::Task>,
-    rule: Rule,
-) -> Result<Walked<S::Task>, NoMemory>
-    requires stepped { stepped ≡ S.step_of task }
-    requires few { length (out_children stepped.out) ≤ 1 }
-    ensures { IfOk result (λ walked. walked ≡ full S.step_of S.depth rule task) }
+/// A walk of these marks, cut where it ends.
+fn walked<T: Drop>(marks: Seq<Mark<T>>, rule: Rule) -> Walked<T>
+    ensures { result ≡ cut rule zero_tally marks }
 {
-    let (mark, children) = mark_and_children(alloc, task, stepped);
-    let mut marks = Seq::new(alloc);
-    marks.push(mark)?;
-    marks.append(marks_below(alloc, step, children, rule)?)?;
     let start = Tally {
         pushes: 0,
         goals: 0,
     };
-    Ok(cut_from(start, marks, rule))
+    cut_from(start, marks, rule)
 }
 
 /// The walk of a task by workers that share a goal table, and the notes of what they dropped.
@@ -105,9 +86,63 @@ where
     state.finish(alloc, step)
 }
 
-/// The walk of a task by so many workers, and the notes of what they dropped, in the order in which they did. Where
-/// no two goals could be worked at a time the caller makes the walk alone, and then nothing is dropped: with 0 or 1
-/// workers, and of a task that doesn't split into two or more. The only error is want of memory.
+/// The walk of a task by so many workers, from the first task on that splits into two or more, where only children
+/// lead to it; and the notes of what these dropped.
+#[cycle(shared)]
+fn walk_shared<S: Step + Sync, G: Gate + Sync, R: Threads + Wait + Sync>(
+    rt: &R,
+    alloc: Global,
+    step: &S,
+    task: S::Task,
+    rule: Rule,
+    workers: u32,
+    gate: &G,
+) -> Result<(Walked<S::Task>, Seq<DropNote>), NoMemory>
+where
+    S::Task: Send,
+    ensures walked { IfOk result (λ end. end.0 ≡ full S.step_of S.depth rule task) }
+    ensures licensed { IfOk result (λ end. Each (IsLicensed S.step_of S.depth S.name (record { root = task; rule = rule; walked = end.0 })) end.1) }
+{
+    let stepped = step.step(alloc, &task)?;
+    if splits(&stepped) {
+        return walk_together(rt, alloc, step, &task, rule, workers, gate);
+    }
+    follow(rt, alloc, step, task, stepped, rule, workers, gate)
+}
+
+/// The same of a task that splits into one task at most, by its step, which isn't taken again.
+#[cycle(shared)]
+fn follow<S: Step + Sync, G: Gate + Sync, R: Threads + Wait + Sync>(
+    rt: &R,
+    alloc: Global,
+    step: &S,
+    task: S::Task,
+    stepped: Stepped<S::Task>,
+    rule: Rule,
+    workers: u32,
+    gate: &G,
+) -> Result<(Walked<S::Task>, Seq<DropNote>), NoMemory>
+where
+    S::Task: Send,
+    requires stepped { stepped ≡ S.step_of task }
+    requires few { length (out_children stepped.out) ≤ 1 }
+    ensures walked { IfOk result (λ end. end.0 ≡ full S.step_of S.depth rule task) }
+    ensures licensed { IfOk result (λ end. Each (IsLicensed S.step_of S.depth S.name (record { root = task; rule = rule; walked = end.0 })) end.1) }
+{
+    let (mark, children) = mark_and_children(alloc, task, stepped);
+    let mut marks = Seq::new(alloc);
+    marks.push(mark)?;
+    let Some(child) = only(children) else {
+        return Ok((walked(marks, rule), Seq::new(alloc)));
+    };
+    let (below, notes) = walk_shared(rt, alloc, step, child, rule, workers, gate)?;
+    marks.append(below.marks)?;
+    Ok((walked(marks, rule), notes))
+}
+
+/// The walk of a task by so many workers, and the notes of what they dropped, in the order in which they did. The
+/// caller goes on alone as long as each task splits into one at most, since no two goals could be worked at a time, and
+/// wholly with 0 or 1 workers, where nothing is dropped. The only error is want of memory.
 pub(crate) fn walk_by<S: Step + Sync, G: Gate + Sync, R: Threads + Wait + Sync>(
     rt: &R,
     alloc: Global,
@@ -127,10 +162,6 @@ where
     if workers <= 1 {
         return Ok((serial(alloc, step, task, rule)?, Seq::new(alloc)));
     }
-    let stepped = step.step(alloc, task)?;
-    if splits(&stepped) {
-        return walk_together(rt, alloc, step, task, rule, workers, gate);
-    }
     let task = step.copy_task(alloc, task)?;
-    Ok((walk_on(alloc, step, task, stepped, rule)?, Seq::new(alloc)))
+    walk_shared(rt, alloc, step, task, rule, workers, gate)
 }
