@@ -1,5 +1,5 @@
 -- A search from a clause's cursor on: what closes the clause, and where the first `if` stands.
-use Rattle.std.proofs.Common.{◌≡◌, ℕ, zero, suc, ◌+◌, ◌<◌, ◌≤◌, Bool, true, false, true≢false, ◌&&◌, not, cond, List, [], ◌∷◌, ◌++◌, map, length, take, get_or, Option, Some, None, is_some, ◌⊎◌, inl, inr, refl, ap, sym, ◌∙◌, subst, zero-add, add-one, arith}
+use Rattle.std.proofs.Common.{◌≡◌, ℕ, zero, suc, ◌+◌, ◌<◌, ◌≤◌, Bool, true, false, true≢false, ◌&&◌, not, cond, List, [], ◌∷◌, map, length, take, get_or, Option, Some, None, is_some, ◌⊎◌, inl, inr, refl, ap, sym, ◌∙◌, subst, zero-add, add-one, arith}
 use Rattle.ap_list.specs.Lists.{Each, is_among}
 use Rattle.ap_value.specs.Values.{val_of, value_eq}
 use Rattle.ap_term.specs.declared.term.Term.{Term}
@@ -14,7 +14,7 @@ use Rattle.ap_kernel.specs.Splits.{split_made}
 use Rattle.ap_kernel.specs.Tidying.{plain, tidied, is_bare, is_plain, is_opposed, holds_by_itself, negates, is_denied}
 use Rattle.ap_kernel.proofs.PlainForm.{plain_is}
 use Rattle.ap_clausify.specs.Places.{has_if, first_place, or_later, choice_from, first_choice, found}
-use Rattle.ap_clausify.specs.Scanning.{closed_by, Ready}
+use Rattle.ap_clausify.specs.Scanning.{closed_by, IsTidy, Ready}
 use Rattle.ap_clausify.specs.Vanishing.{without_if, Vanishes}
 use Rattle.ap_clausify.proofs.Placed.{place_has}
 use Rattle.ap_clausify.proofs.LeavesCounted.{put_next}
@@ -22,11 +22,11 @@ use Rattle.ap_clausify.proofs.StepsCounted.{choice_cases}
 use Rattle.ap_clausify.proofs.Vanished.{Within, or_left, or_right, either, decided_by, nowhere, kept_has, plain_to, more_among}
 
 -- tests
-and_both : (a b : Bool) → (a && b) ≡ true → (a ≡ true) × (b ≡ true)
+pub and_both : (a b : Bool) → (a && b) ≡ true → (a ≡ true) × (b ≡ true)
 and_both true b h = (refl, h)
 and_both false b h = cc
 
-not_so : (b : Bool) → not b ≡ true → b ≡ false
+pub not_so : (b : Bool) → not b ≡ true → b ≡ false
 not_so true h = cc
 not_so false h = refl
 
@@ -175,10 +175,19 @@ put_long (t ∷ ts) (suc k) ys w =
     longer : (n : ℕ) → k ≤ n → suc k ≤ suc n
     longer n h = omega arith
 
-pub ready_put : (c : Clause) (i : ℕ) (ys : List Term) → Ready c i → Ready (record { 0 = put_at i ys c.0 }) i
-ready_put c i ys r = record { within = put_long c.0 i ys r.within; none = put_none c.0 i ys r.within r.none }
+put_before : (ts : List Term) (k : ℕ) (ys : List Term) → k ≤ length ts → take k (put_at k ys ts) ≡ take k ts
+put_before ts zero ys w = refl
+put_before [] (suc k) ys w = absurd (omega arith)
+put_before (t ∷ ts) (suc k) ys w = ap (take (suc k)) (put_next k ys t ts) ∙ ap (λ us. t ∷ us) (put_before ts k ys (omega arith))
 
-pub ready_cases : (c : Clause) (i : ℕ) (is : List ℕ) (r : Inference) → first_choice c ≡ Some (i, is) → split_made c i is ≡ Some r → Ready c i → Each (λ d. Ready d i) r.to
-ready_cases c i is r h m k =
+pub ready_put : (c : Clause) (i : ℕ) (ys : List Term) (b : Bool) → Ready c i b → Ready (record { 0 = put_at i ys c.0 }) i b
+ready_put c i ys b r = record {
+  within = put_long c.0 i ys r.within;
+  none = put_none c.0 i ys r.within r.none;
+  tidy = λ h. subst IsTidy (sym (put_before c.0 i ys r.within)) (r.tidy h);
+}
+
+pub ready_cases : (c : Clause) (i : ℕ) (is : List ℕ) (b : Bool) (r : Inference) → first_choice c ≡ Some (i, is) → split_made c i is ≡ Some r → Ready c i b → Each (λ d. Ready d i b) r.to
+ready_cases c i is b r h m k =
     let s = choice_cases c i is r h m in
-    subst (Each (λ d. Ready d i)) (sym s.to) (ready_put c i s.first k, (ready_put c i s.second k, tt))
+    subst (Each (λ d. Ready d i b)) (sym s.to) (ready_put c i s.first b k, (ready_put c i s.second b k, tt))

@@ -47,7 +47,7 @@ decides_more xs ys w u h = go (either (is_constant true u) (is_opposed xs (shape
     go (inl k) = or_left (is_constant true u) (is_opposed ys (shape_of u)) k
     go (inr k) = or_right (is_constant true u) (is_opposed ys (shape_of u)) (opposed_more xs ys w (shape_of u) k)
 
-decider : (ts us : List Term) → any_decides ts us ≡ true → (u : Term) × (is_among term_eq u us ≡ true) × (decides ts u ≡ true)
+pub decider : (ts us : List Term) → any_decides ts us ≡ true → (u : Term) × (is_among term_eq u us ≡ true) × (decides ts u ≡ true)
 decider ts [] h = absurd (true≢false (sym h))
 decider ts (u ∷ us) h = go (either (decides ts u) (any_decides ts us) h) (decider ts us)
   where
@@ -75,7 +75,7 @@ neither : (a b : Bool) → (a || b) ≡ false → a ≡ false
 neither true b h = cc
 neither false b h = refl
 
-among_end : (x u : Term) (xs : List Term) → is_among term_eq x (xs ++ u ∷ []) ≡ true → (is_among term_eq x xs ≡ true) ⊎ (term_eq x u ≡ true)
+pub among_end : (x u : Term) (xs : List Term) → is_among term_eq x (xs ++ u ∷ []) ≡ true → (is_among term_eq x xs ≡ true) ⊎ (term_eq x u ≡ true)
 among_end x u [] h = go (either (term_eq x u) false h)
   where
     go : (term_eq x u ≡ true) ⊎ (false ≡ true) → (false ≡ true) ⊎ (term_eq x u ≡ true)

@@ -1,7 +1,7 @@
-ghost use Rattle.std.specs.Prelude.{◌≡◌, IfOk};
+ghost use Rattle.std.specs.Prelude.{◌≡◌, ◌&&◌, IfOk};
 ghost use Rattle.ap_world.specs.Shapes.{shape_of};
-ghost use Rattle.ap_kernel.specs.Tidying.{is_bare, negates, is_denied};
-ghost use Rattle.ap_clausify.specs.Scanning.{closed_by, Ready, Finds};
+ghost use Rattle.ap_kernel.specs.Tidying.{is_bare, is_plain, negates, is_denied};
+ghost use Rattle.ap_clausify.specs.Scanning.{closed_by, is_kept, Ready, Finds};
 
 use crate::places::{Place, USUAL_DEPTH, find};
 use ap_kernel::{ShapeRef, is_among, is_constant, is_same, shape_of};
@@ -10,12 +10,12 @@ use ap_term::{Clause, Term};
 use std::alloc::Global;
 
 /// What a search from a clause's cursor on finds: the `if` that is split first, that the literals before hold
-/// by themselves, or that there is no `if`.
+/// by themselves, or that there is no `if`; and of the first and the last whether the literals before are tidy.
 #[derive(Drop)]
 pub(crate) enum Scanned {
-    Choice(Place),
+    Choice(Place, bool),
     Closed,
-    Whole,
+    Whole(bool),
 }
 
 /// Whether a term is neither a constant nor a negation. Takes no memory.
@@ -26,6 +26,31 @@ fn is_bare(t: &Term) -> bool
         ShapeRef::Constant(_) | ShapeRef::Not(_) => false,
         _ => true,
     }
+}
+
+/// Whether a literal is in plain form at sight. Takes no memory.
+fn is_plain(t: &Term) -> bool
+    ensures { result ≡ is_plain (shape_of t.now) }
+{
+    match shape_of(t) {
+        ShapeRef::Not(a) => is_bare(a),
+        _ => true,
+    }
+}
+
+/// Whether tidying keeps a literal behind these as it is. Takes no memory.
+fn is_kept(before: &[Term], t: &Term) -> bool
+    ensures { result ≡ is_kept before.now t.now }
+{
+    is_plain(t) && !is_constant(false, t) && !is_among(t, before)
+}
+
+/// Whether literals are tidy with one more behind them that doesn't close them, by whether they are without it.
+/// Takes no memory.
+fn stays_tidy(tidy: bool, before: &[Term], t: &Term) -> bool
+    ensures { result ≡ (tidy && is_kept before.now t.now) }
+{
+    tidy && is_kept(before, t)
 }
 
 /// Whether a term is the negation of another. Takes no memory.
@@ -64,19 +89,27 @@ fn is_closed_by(before: &[Term], t: &Term) -> bool
 
 /// Goes on from a clause's cursor to the literal that is split first, and looks whether one before it closes the
 /// clause.
-pub(crate) fn scan(alloc: Global, c: &Clause, cursor: usize) -> Result<Scanned, NoMemory>
-    requires ready { Ready c.now cursor }
+pub(crate) fn scan(
+    alloc: Global,
+    c: &Clause,
+    cursor: usize,
+    tidy: bool,
+) -> Result<Scanned, NoMemory>
+    requires ready { Ready c.now cursor tidy }
     ensures { IfOk result (λ f. Finds c.now f) }
 {
     let mut at = Seq::with_capacity(alloc, USUAL_DEPTH)?;
+    let mut tidy = tidy;
     for literal in cursor..c.0.as_slice().len() {
         let t = &c.0.as_slice()[literal];
         if find(t, &mut at)? {
-            return Ok(Scanned::Choice(Place { literal, at }));
+            return Ok(Scanned::Choice(Place { literal, at }, tidy));
         }
-        if is_closed_by(&c.0.as_slice()[..literal], t) {
+        let before = &c.0.as_slice()[..literal];
+        if is_closed_by(before, t) {
             return Ok(Scanned::Closed);
         }
+        tidy = stays_tidy(tidy, before, t);
     }
-    Ok(Scanned::Whole)
+    Ok(Scanned::Whole(tidy))
 }

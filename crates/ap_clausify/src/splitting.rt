@@ -1,12 +1,13 @@
-ghost use Rattle.std.specs.Prelude.{◌≡◌, ℕ, ◌+◌, ◌*◌, ◌<◌, ◌++◌, ◌∷◌, [], IfOk, IfSome, Some, None, slice_get, length};
+ghost use Rattle.std.specs.Prelude.{◌≡◌, ℕ, ◌+◌, ◌*◌, ◌<◌, ◌++◌, ◌∷◌, [], IfOk, IfSome, Some, None, slice_get, length, true};
 ghost use Rattle.std.specs.Bool.{OnTrue, OnFalse};
 ghost use Rattle.std.specs.Option.{option_map};
 ghost use Rattle.ap_world.specs.World.{function_of};
 ghost use Rattle.ap_kernel.specs.Standing.{HasGround};
 ghost use Rattle.ap_kernel.specs.Reductions.{KnownClause, Reduces, claims, chained};
+ghost use Rattle.ap_kernel.specs.Tidying.{tidy_made};
 ghost use Rattle.ap_clausify.specs.Leaves.{clause_leaves};
 ghost use Rattle.ap_clausify.specs.Places.{first_choice};
-ghost use Rattle.ap_clausify.specs.Scanning.{Ready};
+ghost use Rattle.ap_clausify.specs.Scanning.{IsTidy, Ready};
 ghost use Rattle.ap_clausify.specs.Vanishing.{Vanishes};
 ghost use Rattle.ap_clausify.specs.Splitting.{split_of, settled_left, steps_left};
 ghost use Rattle.ap_clausify.specs.Frames.{Waits, Linked, due, resumed, origin, outcome, at_hand, comes, IsAtHand, Goes, weight};
@@ -15,7 +16,7 @@ use crate::leaves::clause_leaves;
 use crate::places::Place;
 use crate::scanning::{Scanned, scan};
 use crate::states::{Case, Frame, Split, State, Task, Turn};
-use ap_kernel::{Reduction, chain, split_if, tidy};
+use ap_kernel::{Reduction, chain, keep, split_if, tidy};
 use ap_list::{NoMemory, Seq};
 use ap_term::{Clause, Steps, copy_terms};
 use ap_world::World;
@@ -34,12 +35,13 @@ fn joined(alloc: Global, w: &World, frame: Frame) -> Result<Reduction, NoMemory>
 
 /// A case of a clause that waits, as one that is to be split.
 fn case_of(alloc: Global, frame: &Frame, case: &Clause) -> Result<Case, NoMemory>
-    ensures { IfOk result (λ k. k ≡ record { clause = case.now; cursor = frame.now.literal }) }
+    ensures { IfOk result (λ k. k ≡ record { clause = case.now; cursor = frame.now.literal; tidy = frame.now.tidy }) }
 {
     let clause = Clause(copy_terms(alloc, case.0.as_slice())?);
     Ok(Case {
         clause,
         cursor: frame.literal,
+        tidy: frame.tidy,
     })
 }
 
@@ -111,12 +113,28 @@ fn vanish(
     Ok(Turn::On(State { frames, task }))
 }
 
+/// A clause tidied, or none where it then holds by itself. One that is known to be tidy is kept.
+fn settle(alloc: Global, w: &World, c: Clause, is_tidy: bool) -> Result<Reduction, NoMemory>
+    requires ground { HasGround (function_of w.now.entries) }
+    requires clause { KnownClause (function_of w.now.entries) c }
+    requires tidy { is_tidy ≡ true → IsTidy c.0 }
+    ensures stands { IfOk result (λ r. Reduces w.now r) }
+    ensures made { IfOk result (λ r. r.says ≡ tidy_made c) }
+{
+    if is_tidy {
+        let kept = keep(alloc, w, c)?;
+        return Ok(kept);
+    }
+    let tidied = tidy(alloc, w, c)?;
+    Ok(tidied)
+}
+
 /// A clause that waits from now on, split at its first `if`.
-fn framed(alloc: Global, w: &World, c: Clause, place: Place) -> Result<Frame, NoMemory>
+fn framed(alloc: Global, w: &World, c: Clause, place: Place, tidy: bool) -> Result<Frame, NoMemory>
     requires ground { HasGround (function_of w.now.entries) }
     requires clause { KnownClause (function_of w.now.entries) c }
     requires choice { first_choice c ≡ Some (place.literal, place.at) }
-    requires ready { Ready c place.literal }
+    requires ready { Ready c place.literal tidy }
     ensures waits { IfOk result (λ f. Waits w.now f) }
     ensures from { IfOk result (λ f. f.split.says.from ≡ c) }
     ensures due { IfOk result (λ f. (n : ℕ) → settled_left (split_of n c) ≡ due f n) }
@@ -127,6 +145,7 @@ fn framed(alloc: Global, w: &World, c: Clause, place: Place) -> Result<Frame, No
         split,
         done: Seq::new(alloc),
         literal,
+        tidy,
     })
 }
 
@@ -141,18 +160,22 @@ fn open(
     requires ground { HasGround (function_of w.now.entries) }
     requires linked { Linked w.now frames case.clause }
     requires clause { KnownClause (function_of w.now.entries) case.clause }
-    requires ready { Ready case.clause case.cursor }
+    requires ready { Ready case.clause case.cursor case.tidy }
     ensures { IfOk result (λ t. Goes w.now frames case.clause (settled_left (split_of steps.old.left case.clause)) (2 * steps.old.left + (length frames + 1)) t steps.new.left) }
 {
-    let Case { clause: c, cursor } = case;
-    match scan(alloc, &c, cursor)? {
-        Scanned::Whole => {
-            let task = Task::Done(tidy(alloc, w, c)?);
+    let Case {
+        clause: c,
+        cursor,
+        tidy,
+    } = case;
+    match scan(alloc, &c, cursor, tidy)? {
+        Scanned::Whole(is_tidy) => {
+            let task = Task::Done(settle(alloc, w, c, is_tidy)?);
             Ok(Turn::On(State { frames, task }))
         }
         Scanned::Closed => vanish(alloc, w, frames, c, steps),
-        Scanned::Choice(place) => {
-            let frame = framed(alloc, w, c, place)?;
+        Scanned::Choice(place, is_tidy) => {
+            let frame = framed(alloc, w, c, place, is_tidy)?;
             go_on(alloc, w, frames, frame, steps)
         }
     }
@@ -228,6 +251,7 @@ pub fn split(alloc: Global, w: &World, c: Clause, steps: &mut Steps) -> Result<S
         task: Task::Open(Case {
             clause: c,
             cursor: 0,
+            tidy: true,
         }),
     };
     loop {

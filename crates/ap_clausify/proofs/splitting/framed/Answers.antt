@@ -14,8 +14,8 @@ returns-clause-waits c =
     let r = c.in_ok-split.split in
     let i = c.args.place.literal in
     let none : c.new.result ≡ [] = search rules in
-    subst (λ ds. Waits c.args.w.now (record { split = r; done = ds; literal = i })) (sym none)
-    (begins c.args.w.now r i c.in_ok-split.ensures.stands (ready_cases c.args.c i c.args.place.at r.says c.requires.choice c.in_ok-split.ensures.made c.requires.ready))
+    subst (λ ds. Waits c.args.w.now (record { split = r; done = ds; literal = i; tidy = c.args.tidy })) (sym none)
+    (begins c.args.w.now r i c.args.tidy c.in_ok-split.ensures.stands (ready_cases c.args.c i c.args.place.at c.args.tidy r.says c.requires.choice c.in_ok-split.ensures.made c.requires.ready))
 
 pub returns-clause-from : goal.returns-clause-from
 returns-clause-from c = split_from c.args.c c.args.place.literal c.args.place.at c.in_ok-split.split.says c.in_ok-split.ensures.made
@@ -25,5 +25,5 @@ returns-clause-due c = λ n.
     let r = c.in_ok-split.split in
     let i = c.args.place.literal in
     let none : c.new.result ≡ [] = search rules in
-    subst (λ ds. settled_left (split_of n c.args.c) ≡ due (record { split = r; done = ds; literal = i }) n) (sym none)
-    (opened_cases n c.args.c r i (opened_by c.args.c i c.args.place.at r.says c.requires.choice c.in_ok-split.ensures.made))
+    subst (λ ds. settled_left (split_of n c.args.c) ≡ due (record { split = r; done = ds; literal = i; tidy = c.args.tidy }) n) (sym none)
+    (opened_cases n c.args.c r i c.args.tidy (opened_by c.args.c i c.args.place.at r.says c.requires.choice c.in_ok-split.ensures.made))

@@ -6,14 +6,14 @@ use Rattle.ap_clausify.proofs.splitting.open.Goals as goal
 
 pub framed-requires-clause-choice : goal.framed-requires-clause-choice
 framed-requires-clause-choice c =
-    let p : (first_choice c.args.case.clause ≡ Some (c.in-Choice.place.literal, c.in-Choice.place.at)) × Ready c.args.case.clause c.in-Choice.place.literal =
-    subst (Finds c.args.case.clause) c.in-Choice.is c.in_ok-scan.ensures in
+    let p : (first_choice c.args.case.clause ≡ Some (c.in-Choice.place.literal, c.in-Choice.place.at)) × Ready c.args.case.clause c.in-Choice.place.literal c.in-Choice.is_tidy =
+    subst (Finds c.args.case.clause) c.in-Choice.is c.in_ok-is_tidy.ensures in
     p.0
 
 pub framed-requires-clause-ready : goal.framed-requires-clause-ready
 framed-requires-clause-ready c =
-    let p : (first_choice c.args.case.clause ≡ Some (c.in-Choice.place.literal, c.in-Choice.place.at)) × Ready c.args.case.clause c.in-Choice.place.literal =
-    subst (Finds c.args.case.clause) c.in-Choice.is c.in_ok-scan.ensures in
+    let p : (first_choice c.args.case.clause ≡ Some (c.in-Choice.place.literal, c.in-Choice.place.at)) × Ready c.args.case.clause c.in-Choice.place.literal c.in-Choice.is_tidy =
+    subst (Finds c.args.case.clause) c.in-Choice.is c.in_ok-is_tidy.ensures in
     p.1
 
 pub go_on-requires-clause-linked : goal.go_on-requires-clause-linked
