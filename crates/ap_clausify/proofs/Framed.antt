@@ -1,7 +1,6 @@
 -- Splitting, and the clauses that wait: what is pushed and taken, and what comes of it.
-use Rattle.std.proofs.Common.{◌≡◌, ℕ, zero, suc, ◌+◌, ◌*◌, ◌<◌, ◌≤◌, List, [], ◌∷◌, ◌++◌, map, length, take, drop, Option, Some, None, slice_get, refl, ap, sym, ◌∙◌, subst, append_assoc, add-one, length-append, arith}
+use Rattle.std.proofs.Common.{◌≡◌, Bool, ℕ, zero, suc, ◌+◌, ◌*◌, ◌<◌, ◌≤◌, List, [], ◌∷◌, ◌++◌, map, length, take, drop, Option, Some, None, slice_get, refl, ap, sym, ◌∙◌, subst, append_assoc, add-one, length-append, arith}
 use Rattle.ap_list.specs.Lists.{Each, joined}
-use Rattle.ap_term.specs.declared.term.Term.{Term}
 use Rattle.ap_term.specs.declared.term.Clause.{Clause}
 use Rattle.ap_world.specs.World.{Shown, function_of}
 use Rattle.ap_kernel.specs.declared.reductions.Inference.{Inference}
@@ -11,6 +10,7 @@ use Rattle.ap_kernel.specs.Splits.{and_then, choice_at, with_part, cases_of, lit
 use Rattle.ap_kernel.proofs.Reduced.{each_append, all_to_end}
 use Rattle.ap_kernel.proofs.Splitting.{then_some}
 use Rattle.ap_clausify.specs.Places.{first_choice}
+use Rattle.ap_clausify.specs.declared.states.Case.{Case}
 use Rattle.ap_clausify.specs.declared.states.Frame.{Frame}
 use Rattle.ap_clausify.specs.declared.states.Task.{Task}
 use Rattle.ap_clausify.specs.declared.states.Task.TheVariants as task
@@ -169,14 +169,14 @@ settled_each s (c ∷ cs) (suc m) = go (s c m) (settled_each s cs)
 pub opened_whole : (n : ℕ) (c : Clause) → cases c ≡ None → settled_left (split_of n c) ≡ Some (settled c, n)
 opened_whole n c h = ap settled_left (unfolds n c ∙ ap (split_by untidied c n) h) ∙ ap (λ ds. Some (ds, n)) (append_nil (settled c))
 
-pub opened_cases : (n : ℕ) (c : Clause) (r : Reduction) (seen : List Term) (literal : ℕ) → cases c ≡ Some r.says → settled_left (split_of n c) ≡ due (record { split = r; done = []; seen = seen; literal = literal }) n
-opened_cases n c r seen literal h = ap settled_left (unfolds n c ∙ ap (split_by untidied c n) h) ∙ settled_each untidied r.says.to n ∙ sym (before_none (each_split by_steps r.says.to n))
+pub opened_cases : (n : ℕ) (c : Clause) (r : Reduction) (literal : ℕ) (tidy : Bool) → cases c ≡ Some r.says → settled_left (split_of n c) ≡ due (record { split = r; done = []; literal = literal; tidy = tidy }) n
+opened_cases n c r literal tidy h = ap settled_left (unfolds n c ∙ ap (split_by untidied c n) h) ∙ settled_each untidied r.says.to n ∙ sym (before_none (each_split by_steps r.says.to n))
 
-pub begins : (W : Shown) (r : Reduction) (seen : List Term) (literal : ℕ) → Reduces W r → Each (λ c. Ready c seen literal) r.says.to → Waits W (record { split = r; done = []; seen = seen; literal = literal })
-begins W r seen literal s k = record { split = s; done = tt; from = refl; ready = k }
+pub begins : (W : Shown) (r : Reduction) (literal : ℕ) (tidy : Bool) → Reduces W r → Each (λ c. Ready c literal tidy) r.says.to → Waits W (record { split = r; done = []; literal = literal; tidy = tidy })
+begins W r literal tidy s k = record { split = s; done = tt; from = refl; ready = k }
 
 -- a case that is done
-pub closed_due : (f : Frame) (r : Reduction) (n : ℕ) → resumed f (Some (r.says.to, n)) ≡ due (record { split = f.split; done = f.done ++ r ∷ []; seen = f.seen; literal = f.literal }) n
+pub closed_due : (f : Frame) (r : Reduction) (n : ℕ) → resumed f (Some (r.says.to, n)) ≡ due (record { split = f.split; done = f.done ++ r ∷ []; literal = f.literal; tidy = f.tidy }) n
 closed_due f r n =
     before_before (done_clauses f) r.says.to (each_split by_steps (drop (length f.done + 1) f.split.says.to) n)
     ∙ ap (λ cs. before cs (each_split by_steps (drop (length f.done + 1) f.split.says.to) n)) (sym (all_to_end f.done r))
@@ -186,7 +186,7 @@ from_end : (rs : List Reduction) (r : Reduction) → all_from (claims (rs ++ r �
 from_end [] r = refl
 from_end (q ∷ rs) r = ap (λ cs. q.says.from ∷ cs) (from_end rs r)
 
-pub closed_waits : (W : Shown) (f : Frame) (r : Reduction) → Waits W f → Reduces W r → slice_get f.split.says.to (length f.done) ≡ Some r.says.from → Waits W (record { split = f.split; done = f.done ++ r ∷ []; seen = f.seen; literal = f.literal })
+pub closed_waits : (W : Shown) (f : Frame) (r : Reduction) → Waits W f → Reduces W r → slice_get f.split.says.to (length f.done) ≡ Some r.says.from → Waits W (record { split = f.split; done = f.done ++ r ∷ []; literal = f.literal; tidy = f.tidy })
 closed_waits W f r w s h = record {
   split = w.split;
   done = each_append (Reduces W) f.done (r ∷ []) w.done (s, tt);
@@ -223,24 +223,30 @@ each_at P [] i c ps q = cc
 each_at P (d ∷ cs) zero c ps q = let same : d ≡ c = cc in subst P same ps.0
 each_at P (d ∷ cs) (suc i) c ps q = each_at P cs i c ps.1 q
 
-pub case_known : (W : Shown) (f : Frame) (c : Clause) → Waits W f → slice_get f.split.says.to (length f.done) ≡ Some c → KnownClause (function_of W.entries) c × Ready c f.seen f.literal
-case_known W f c w h = (each_at (KnownClause (function_of W.entries)) f.split.says.to (length f.done) c w.split.says.goals h, each_at (λ c. Ready c f.seen f.literal) f.split.says.to (length f.done) c w.ready h)
+pub case_known : (W : Shown) (f : Frame) (c : Clause) → Waits W f → slice_get f.split.says.to (length f.done) ≡ Some c → KnownClause (function_of W.entries) c × Ready c f.literal f.tidy
+case_known W f c w h = (each_at (KnownClause (function_of W.entries)) f.split.says.to (length f.done) c w.split.says.goals h, each_at (λ c. Ready c f.literal f.tidy) f.split.says.to (length f.done) c w.ready h)
 
-pub goes_open : (W : Shown) (fs gs : List Frame) (f : Frame) (c : Clause) (ts xs : List Term) (n m : ℕ) → Linked W fs f.split.says.from → Waits W f → slice_get f.split.says.to (length f.done) ≡ Some c → gs ≡ fs ++ f ∷ [] → ts ≡ c.0 → xs ≡ f.seen → n ≡ m + 1
-    → GoesOn W fs f.split.says.from (due f n) (2 * n + (length fs + 1)) (record { frames = gs; task = task.Open (record { clause = record { 0 = ts }; seen = xs; cursor = f.literal }) }) m
-goes_open W fs gs f c ts xs n m l w h g t x e =
-    subst (λ us. GoesOn W fs f.split.says.from (due f n) (2 * n + (length fs + 1)) (record { frames = gs; task = task.Open (record { clause = record { 0 = us }; seen = xs; cursor = f.literal }) }) m) (sym t)
-    (subst (λ us. GoesOn W fs f.split.says.from (due f n) (2 * n + (length fs + 1)) (record { frames = gs; task = task.Open (record { clause = c; seen = us; cursor = f.literal }) }) m) (sym x)
-    (subst (λ hs. GoesOn W fs f.split.says.from (due f n) (2 * n + (length fs + 1)) (record { frames = hs; task = task.Open (record { clause = c; seen = f.seen; cursor = f.literal }) }) m) (sym g) (record {
+goes_open : (W : Shown) (fs gs : List Frame) (f : Frame) (c : Clause) (n m : ℕ) → Linked W fs f.split.says.from → Waits W f → slice_get f.split.says.to (length f.done) ≡ Some c → gs ≡ fs ++ f ∷ [] → n ≡ m + 1
+    → GoesOn W fs f.split.says.from (due f n) (2 * n + (length fs + 1)) (record { frames = gs; task = task.Open (record { clause = c; cursor = f.literal; tidy = f.tidy }) }) m
+goes_open W fs gs f c n m l w h g e =
+    subst (λ hs. GoesOn W fs f.split.says.from (due f n) (2 * n + (length fs + 1)) (record { frames = hs; task = task.Open (record { clause = c; cursor = f.literal; tidy = f.tidy }) }) m) (sym g) (record {
       linked = linked_end W fs f c l w h;
       holds = case_known W f c w h;
       origin = origin_end fs f c;
       outcome = outcome_end fs f (by_steps c m) ∙ ap (outcome fs) (sym (ap (due f) (e ∙ add-one m) ∙ due_case f c (suc m) h));
       falls = fewer;
-    })))
+    })
   where
     fewer : 2 * m + (length (fs ++ f ∷ []) + 1) < 2 * n + (length fs + 1)
     fewer = let p = length_end fs f in omega arith
+
+-- a case that is made for it
+pub goes_case : (W : Shown) (fs gs : List Frame) (f : Frame) (c : Clause) (k : Case) (n m : ℕ) → Linked W fs f.split.says.from → Waits W f → slice_get f.split.says.to (length f.done) ≡ Some c → gs ≡ fs ++ f ∷ []
+    → k ≡ record { clause = c; cursor = f.literal; tidy = f.tidy } → n ≡ m + 1
+    → GoesOn W fs f.split.says.from (due f n) (2 * n + (length fs + 1)) (record { frames = gs; task = task.Open k }) m
+goes_case W fs gs f c k n m l w h g x e =
+    subst (λ j. GoesOn W fs f.split.says.from (due f n) (2 * n + (length fs + 1)) (record { frames = gs; task = task.Open j }) m) (sym x)
+    (goes_open W fs gs f c n m l w h g e)
 
 -- the cases are those of the clause
 pub split_from : (c : Clause) (i : ℕ) (is : List ℕ) (r : Inference) → split_made c i is ≡ Some r → r.from ≡ c

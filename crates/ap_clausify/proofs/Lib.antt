@@ -7,5 +7,6 @@ pub mod Placed
 pub mod Seen
 pub mod SplitStands
 pub mod StepsCounted
+pub mod Tidy
 pub mod Vanished
 pub mod VanishingGoes

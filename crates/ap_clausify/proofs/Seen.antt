@@ -1,46 +1,41 @@
--- A search from a clause's cursor on: what is seen, what closes, and where the first `if` stands.
-use Rattle.std.proofs.Common.{◌≡◌, ℕ, zero, suc, ◌+◌, ◌<◌, ◌≤◌, Bool, true, false, true≢false, ◌&&◌, not, cond, List, [], ◌∷◌, ◌++◌, map, length, take, get_or, slice_get, Option, Some, None, is_some, ◌⊎◌, inl, inr, refl, ap, sym, ◌∙◌, subst, zero-add, add-one, arith}
+-- A search from a clause's cursor on: what closes the clause, and where the first `if` stands.
+use Rattle.std.proofs.Common.{◌≡◌, ℕ, zero, suc, ◌+◌, ◌<◌, ◌≤◌, Bool, true, false, true≢false, ◌&&◌, not, cond, List, [], ◌∷◌, map, length, take, get_or, Option, Some, None, is_some, ◌⊎◌, inl, inr, refl, ap, sym, ◌∙◌, subst, zero-add, add-one, arith}
 use Rattle.ap_list.specs.Lists.{Each, is_among}
+use Rattle.ap_value.specs.Values.{val_of, value_eq}
 use Rattle.ap_term.specs.declared.term.Term.{Term}
 use Rattle.ap_term.specs.declared.term.Clause.{Clause}
 use Rattle.ap_term.specs.Equal.{term_eq}
 use Rattle.ap_term.proofs.Equals.{term_eq-true, term_eq-same}
-use Rattle.ap_world.specs.Shapes.{Shape, negation, shape_of, is_constant}
+use Rattle.ap_world.specs.Primitives.{nil}
+use Rattle.ap_world.specs.Shapes.{Shape, constant, choice, negation, equation, pair, other, shape_of, constant_says, is_constant}
 use Rattle.ap_kernel.specs.declared.reductions.Inference.{Inference}
 use Rattle.ap_kernel.specs.Reductions.{put_at}
 use Rattle.ap_kernel.specs.Splits.{split_made}
-use Rattle.ap_kernel.specs.Tidying.{plain, tidied, is_plain, is_opposed, decides, holds_by_itself, negates, is_denied, closes}
+use Rattle.ap_kernel.specs.Tidying.{plain, tidied, is_bare, is_plain, is_opposed, holds_by_itself, negates, is_denied}
 use Rattle.ap_kernel.proofs.PlainForm.{plain_is}
-use Rattle.ap_kernel.proofs.Reduced.{each_append}
 use Rattle.ap_clausify.specs.Places.{has_if, first_place, or_later, choice_from, first_choice, found}
-use Rattle.ap_clausify.specs.Scanning.{counts, Noted, AllAmong, Ready}
+use Rattle.ap_clausify.specs.Scanning.{closed_by, IsTidy, Ready}
 use Rattle.ap_clausify.specs.Vanishing.{without_if, Vanishes}
-use Rattle.ap_clausify.proofs.Placed.{place_has, stands_from}
+use Rattle.ap_clausify.proofs.Placed.{place_has}
 use Rattle.ap_clausify.proofs.LeavesCounted.{put_next}
 use Rattle.ap_clausify.proofs.StepsCounted.{choice_cases}
-use Rattle.ap_clausify.proofs.Vanished.{Within, or_left, or_right, either, decides_more, decided_by, nowhere, kept_has, plain_to, tidied_within, without_put}
+use Rattle.ap_clausify.proofs.Vanished.{Within, or_left, or_right, either, decided_by, nowhere, kept_has, plain_to, more_among}
 
 -- tests
-and_both : (a b : Bool) → (a && b) ≡ true → (a ≡ true) × (b ≡ true)
+pub and_both : (a b : Bool) → (a && b) ≡ true → (a ≡ true) × (b ≡ true)
 and_both true b h = (refl, h)
 and_both false b h = cc
 
-not_so : (b : Bool) → not b ≡ true → b ≡ false
+pub not_so : (b : Bool) → not b ≡ true → b ≡ false
 not_so true h = cc
 not_so false h = refl
 
--- what is seen
-among_within : (xs ys : List Term) → AllAmong xs ys → Within xs ys
-among_within [] ys h x m = nowhere m
-among_within (s ∷ xs) ys h x m = go (either (term_eq x s) (is_among term_eq x xs) m) (among_within xs ys h.1 x)
-  where
-    go : (term_eq x s ≡ true) ⊎ (is_among term_eq x xs ≡ true) → (is_among term_eq x xs ≡ true → is_among term_eq x ys ≡ true) → is_among term_eq x ys ≡ true
-    go (inl k) later = subst (λ w. is_among term_eq w ys ≡ true) (sym (term_eq-true x s k)) h.0
-    go (inr k) later = later k
-
-among_more : (xs ys zs : List Term) → Within ys zs → AllAmong xs ys → AllAmong xs zs
-among_more [] ys zs w h = tt
-among_more (x ∷ xs) ys zs w h = (w x h.0, among_more xs ys zs w h.1)
+-- the literals before a place
+front_within : (ts : List Term) (k : ℕ) → Each (λ u. has_if u ≡ false) (take k ts) → Within (take k ts) (without_if ts)
+front_within ts zero n x h = nowhere h
+front_within [] (suc k) n x h = nowhere h
+front_within (t ∷ ts) (suc k) n x h =
+    subst (λ b. is_among term_eq x (cond b (without_if ts) (t ∷ without_if ts)) ≡ true) (sym n.0) (more_among t x (take k ts) (without_if ts) (front_within ts k n.1 x) h)
 
 literal_among : (ts : List Term) (i : ℕ) (t : Term) → i < length ts → t ≡ get_or ts i t → has_if t ≡ false → is_among term_eq t (without_if ts) ≡ true
 literal_among [] i t h e n = absurd (omega arith)
@@ -53,15 +48,25 @@ literal_among (u ∷ ts) (suc i) t h e n = go (has_if u) (literal_among ts i t (
     go true k = k
     go false k = or_right (term_eq t u) (is_among term_eq t (without_if ts)) k
 
-counts_among : (ts : List Term) (t : Term) → is_among term_eq t ts ≡ true → counts t ≡ true → is_among term_eq t (tidied ts) ≡ true
-counts_among ts t h c =
-    let p = and_both (is_plain (shape_of t)) (not (is_constant false t)) c in
-    let there : is_among term_eq t (map plain ts) ≡ true = subst (λ v. is_among term_eq v (map plain ts) ≡ true) (plain_is t p.0) (plain_to t ts h) in
-    go (kept_has t [] (map plain ts) (not_so (is_constant false t) p.1) there)
+plain_among : (ts : List Term) (t : Term) → is_among term_eq t ts ≡ true → is_plain (shape_of t) ≡ true → is_constant false t ≡ false → is_among term_eq t (tidied ts) ≡ true
+plain_among ts t h p c =
+    let there : is_among term_eq t (map plain ts) ≡ true = subst (λ v. is_among term_eq v (map plain ts) ≡ true) (plain_is t p) (plain_to t ts h) in
+    go (kept_has t [] (map plain ts) c there)
   where
     go : (false ≡ true) ⊎ (is_among term_eq t (tidied ts) ≡ true) → is_among term_eq t (tidied ts) ≡ true
     go (inl k) = nowhere k
     go (inr k) = k
+
+bare_plain : (y : Shape Term) → is_bare y ≡ true → (is_plain y ≡ true) × (constant_says false y ≡ false)
+bare_plain (constant v) h = nowhere h
+bare_plain (negation a) h = nowhere h
+bare_plain (choice a b c) h = (refl, refl)
+bare_plain (equation a b) h = (refl, refl)
+bare_plain (pair a b) h = (refl, refl)
+bare_plain other h = (refl, refl)
+
+bare_among : (ts : List Term) (t : Term) → is_among term_eq t ts ≡ true → is_bare (shape_of t) ≡ true → is_among term_eq t (tidied ts) ≡ true
+bare_among ts t h b = let p = bare_plain (shape_of t) b in plain_among ts t h p.0 p.1
 
 -- what closes some closes more
 denier : (xs : List Term) (u : Term) → is_denied xs u ≡ true → (s : Term) × (is_among term_eq s xs ≡ true) × (negates (shape_of s) u ≡ true)
@@ -73,32 +78,39 @@ denier (s ∷ xs) u h = go (either (negates (shape_of s) u) (is_denied xs u) h) 
     go (inl k) later = (s, or_left (term_eq s s) (is_among term_eq s xs) (term_eq-same s), k)
     go (inr k) later = let (v, among, n) = later k in (v, or_right (term_eq v s) (is_among term_eq v xs) among, n)
 
-closes_all : (xs ys : List Term) (u : Term) → Within xs ys → is_among term_eq u ys ≡ true → closes xs u ≡ true → holds_by_itself ys ≡ true
-closes_all xs ys u w m h = go (either (decides xs u) (is_denied xs u) h)
+-- a term without `not` around it, and its negation
+opposite_holds : (ts : List Term) (s a : Term) → is_among term_eq s ts ≡ true → is_among term_eq a ts ≡ true → shape_of s ≡ negation a → is_bare (shape_of a) ≡ true → holds_by_itself (tidied ts) ≡ true
+opposite_holds ts s a m k e b =
+    let there : is_among term_eq s (tidied ts) ≡ true = plain_among ts s m (ap is_plain e ∙ b) (ap (constant_says false) e) in
+    decided_by (tidied ts) (tidied ts) s there (or_right (is_constant true s) (is_opposed (tidied ts) (shape_of s)) (ap (is_opposed (tidied ts)) e ∙ bare_among ts a k b))
+
+denied_holds : (ts before : List Term) (u : Term) → Within before ts → is_among term_eq u ts ≡ true → is_bare (shape_of u) ≡ true → is_denied before u ≡ true → holds_by_itself (tidied ts) ≡ true
+denied_holds ts before u w m b h = let (s, among, n) = denier before u h in go s (w s among) (shape_of s) refl n
   where
-    opposed : (y : Shape Term) → negates y u ≡ true → is_opposed ys y ≡ true
-    opposed (negation a) k = subst (λ v. is_among term_eq v ys ≡ true) (sym (term_eq-true a u k)) m
-    opposed y k = cc
+    go : (s : Term) → is_among term_eq s ts ≡ true → (y : Shape Term) → shape_of s ≡ y → negates y u ≡ true → holds_by_itself (tidied ts) ≡ true
+    go s k (negation a) e n = opposite_holds ts s u k m (e ∙ ap negation (term_eq-true a u n)) b
+    go s k (constant v) e n = nowhere n
+    go s k (choice a d f) e n = nowhere n
+    go s k (equation a d) e n = nowhere n
+    go s k (pair a d) e n = nowhere n
+    go s k other e n = nowhere n
 
-    go : (decides xs u ≡ true) ⊎ (is_denied xs u ≡ true) → holds_by_itself ys ≡ true
-    go (inl k) = decided_by ys ys u m (decides_more xs ys w u k)
-    go (inr k) = let (s, among, n) = denier xs u k in decided_by ys ys s (w s among) (or_right (is_constant true s) (is_opposed ys (shape_of s)) (opposed (shape_of s) n))
-
--- a literal that is noted
-pub noted_closes : (c : Clause) (i : ℕ) (t : Term) (seen new : List Term) (b : Bool) → i < length c.0 → t ≡ get_or c.0 i t → has_if t ≡ false → AllAmong seen (tidied (without_if c.0)) → Noted seen t b new → b ≡ true → Vanishes c
-noted_closes c i t seen new true within at none w h e =
-    closes_all seen (tidied (without_if c.0)) t (among_within seen (tidied (without_if c.0)) w) (counts_among (without_if c.0) t (literal_among c.0 i t within at none) h.0) h.1
-noted_closes c i t seen new false within at none w h e = nowhere e
-
-pub noted_among : (c : Clause) (i : ℕ) (t : Term) (seen new : List Term) (b : Bool) → i < length c.0 → t ≡ get_or c.0 i t → has_if t ≡ false → AllAmong seen (tidied (without_if c.0)) → Noted seen t b new → b ≡ false
-    → AllAmong new (tidied (without_if c.0))
-noted_among c i t seen new true within at none w h e = cc
-noted_among c i t seen new false within at none w h e = go h
+closed_holds : (ts before : List Term) (u : Term) → Within before ts → is_among term_eq u ts ≡ true → closed_by before u (shape_of u) ≡ true → holds_by_itself (tidied ts) ≡ true
+closed_holds ts before u w m h = go (shape_of u) refl h
   where
-    go : (new ≡ seen) ⊎ ((counts t ≡ true) × (new ≡ seen ++ t ∷ [])) → AllAmong new (tidied (without_if c.0))
-    go (inl k) = subst (λ xs. AllAmong xs (tidied (without_if c.0))) (sym k) w
-    go (inr k) = subst (λ xs. AllAmong xs (tidied (without_if c.0))) (sym k.1)
-        (each_append (λ x. is_among term_eq x (tidied (without_if c.0)) ≡ true) seen (t ∷ []) w (counts_among (without_if c.0) t (literal_among c.0 i t within at none) k.0, tt))
+    true_holds : is_plain (shape_of u) ≡ true → is_constant false u ≡ false → is_constant true u ≡ true → holds_by_itself (tidied ts) ≡ true
+    true_holds p c k = decided_by (tidied ts) (tidied ts) u (plain_among ts u m p c) (or_left (is_constant true u) (is_opposed (tidied ts) (shape_of u)) k)
+
+    go : (y : Shape Term) → shape_of u ≡ y → closed_by before u y ≡ true → holds_by_itself (tidied ts) ≡ true
+    go (constant v) e k = true_holds (ap is_plain e) (ap (constant_says false) e ∙ not_so (value_eq (val_of v) nil) (sym (ap (constant_says true) e) ∙ k)) k
+    go (negation a) e k = let p = and_both (is_bare (shape_of a)) (is_among term_eq a before) k in opposite_holds ts u a m (w a p.1) e p.0
+    go (choice a b c) e k = denied_holds ts before u w m (ap is_bare e) k
+    go (equation a b) e k = denied_holds ts before u w m (ap is_bare e) k
+    go (pair a b) e k = denied_holds ts before u w m (ap is_bare e) k
+    go other e k = denied_holds ts before u w m (ap is_bare e) k
+
+pub closed_vanishes : (c : Clause) (i : ℕ) (t : Term) → i < length c.0 → t ≡ get_or c.0 i t → has_if t ≡ false → Each (λ u. has_if u ≡ false) (take i c.0) → closed_by (take i c.0) t (shape_of t) ≡ true → Vanishes c
+closed_vanishes c i t within at its none h = closed_holds (without_if c.0) (take i c.0) t (front_within c.0 i none) (literal_among c.0 i t within at its) h
 
 -- the literals before a place
 pub next_none : (ts : List Term) (i : ℕ) (t : Term) → i < length ts → t ≡ get_or ts i t → has_if t ≡ false → Each (λ u. has_if u ≡ false) (take i ts) → Each (λ u. has_if u ≡ false) (take (i + 1) ts)
@@ -163,18 +175,19 @@ put_long (t ∷ ts) (suc k) ys w =
     longer : (n : ℕ) → k ≤ n → suc k ≤ suc n
     longer n h = omega arith
 
-pub ready_put : (c : Clause) (seen : List Term) (i : ℕ) (is : List ℕ) (ys : List Term) → first_choice c ≡ Some (i, is) → Ready c seen i → Ready (record { 0 = put_at i ys c.0 }) seen i
-ready_put c seen i is ys h r =
-    let l = stands_from 0 c.0 (i, is) h in
-    let there : slice_get c.0 i ≡ Some l.u = ap (slice_get c.0) (l.at ∙ zero-add l.k) ∙ l.there in
-    let its : has_if l.u ≡ true = sym (place_has l.u) ∙ ap is_some l.place in
-    record {
-      within = put_long c.0 i ys r.within;
-      none = put_none c.0 i ys r.within r.none;
-      among = among_more seen (tidied (without_if c.0)) (tidied (without_if (put_at i ys c.0))) (tidied_within (without_if c.0) (without_if (put_at i ys c.0)) (without_put c.0 i l.u ys there its)) r.among;
-    }
+put_before : (ts : List Term) (k : ℕ) (ys : List Term) → k ≤ length ts → take k (put_at k ys ts) ≡ take k ts
+put_before ts zero ys w = refl
+put_before [] (suc k) ys w = absurd (omega arith)
+put_before (t ∷ ts) (suc k) ys w = ap (take (suc k)) (put_next k ys t ts) ∙ ap (λ us. t ∷ us) (put_before ts k ys (omega arith))
 
-pub ready_cases : (c : Clause) (seen : List Term) (i : ℕ) (is : List ℕ) (r : Inference) → first_choice c ≡ Some (i, is) → split_made c i is ≡ Some r → Ready c seen i → Each (λ d. Ready d seen i) r.to
-ready_cases c seen i is r h m k =
+pub ready_put : (c : Clause) (i : ℕ) (ys : List Term) (b : Bool) → Ready c i b → Ready (record { 0 = put_at i ys c.0 }) i b
+ready_put c i ys b r = record {
+  within = put_long c.0 i ys r.within;
+  none = put_none c.0 i ys r.within r.none;
+  tidy = λ h. subst IsTidy (sym (put_before c.0 i ys r.within)) (r.tidy h);
+}
+
+pub ready_cases : (c : Clause) (i : ℕ) (is : List ℕ) (b : Bool) (r : Inference) → first_choice c ≡ Some (i, is) → split_made c i is ≡ Some r → Ready c i b → Each (λ d. Ready d i b) r.to
+ready_cases c i is b r h m k =
     let s = choice_cases c i is r h m in
-    subst (Each (λ d. Ready d seen i)) (sym s.to) (ready_put c seen i is s.first h k, (ready_put c seen i is s.second h k, tt))
+    subst (Each (λ d. Ready d i b)) (sym s.to) (ready_put c i s.first b k, (ready_put c i s.second b k, tt))

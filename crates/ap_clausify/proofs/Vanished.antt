@@ -40,14 +40,14 @@ opposed_more : (xs ys : List Term) → Within xs ys → (y : Shape Term) → is_
 opposed_more xs ys w (negation a) h = w a h
 opposed_more xs ys w y h = cc
 
-pub decides_more : (xs ys : List Term) → Within xs ys → (u : Term) → decides xs u ≡ true → decides ys u ≡ true
+decides_more : (xs ys : List Term) → Within xs ys → (u : Term) → decides xs u ≡ true → decides ys u ≡ true
 decides_more xs ys w u h = go (either (is_constant true u) (is_opposed xs (shape_of u)) h)
   where
     go : (is_constant true u ≡ true) ⊎ (is_opposed xs (shape_of u) ≡ true) → decides ys u ≡ true
     go (inl k) = or_left (is_constant true u) (is_opposed ys (shape_of u)) k
     go (inr k) = or_right (is_constant true u) (is_opposed ys (shape_of u)) (opposed_more xs ys w (shape_of u) k)
 
-decider : (ts us : List Term) → any_decides ts us ≡ true → (u : Term) × (is_among term_eq u us ≡ true) × (decides ts u ≡ true)
+pub decider : (ts us : List Term) → any_decides ts us ≡ true → (u : Term) × (is_among term_eq u us ≡ true) × (decides ts u ≡ true)
 decider ts [] h = absurd (true≢false (sym h))
 decider ts (u ∷ us) h = go (either (decides ts u) (any_decides ts us) h) (decider ts us)
   where
@@ -75,7 +75,7 @@ neither : (a b : Bool) → (a || b) ≡ false → a ≡ false
 neither true b h = cc
 neither false b h = refl
 
-among_end : (x u : Term) (xs : List Term) → is_among term_eq x (xs ++ u ∷ []) ≡ true → (is_among term_eq x xs ≡ true) ⊎ (term_eq x u ≡ true)
+pub among_end : (x u : Term) (xs : List Term) → is_among term_eq x (xs ++ u ∷ []) ≡ true → (is_among term_eq x xs ≡ true) ⊎ (term_eq x u ≡ true)
 among_end x u [] h = go (either (term_eq x u) false h)
   where
     go : (term_eq x u ≡ true) ⊎ (false ≡ true) → (false ≡ true) ⊎ (term_eq x u ≡ true)
@@ -155,7 +155,7 @@ plain_to u (v ∷ us) h = go (either (term_eq u v) (is_among term_eq u us) h) (p
     go (inl k) later = or_left (term_eq (plain u) (plain v)) (is_among term_eq (plain u) (map plain us)) (subst (λ w. term_eq (plain u) (plain w) ≡ true) (term_eq-true u v k) (term_eq-same (plain u)))
     go (inr k) later = or_right (term_eq (plain u) (plain v)) (is_among term_eq (plain u) (map plain us)) (later k)
 
-pub tidied_within : (xs ys : List Term) → Within xs ys → Within (tidied xs) (tidied ys)
+tidied_within : (xs ys : List Term) → Within xs ys → Within (tidied xs) (tidied ys)
 tidied_within xs ys w x h =
     let (among, c) = kept_only x [] (map plain xs) h in
     let (u, from, e) = plain_from x xs among in
@@ -171,7 +171,7 @@ pub holds_more : (xs ys : List Term) → Within xs ys → holds_by_itself (tidie
 holds_more xs ys w = holds_within (tidied xs) (tidied ys) (tidied_within xs ys w)
 
 -- the literals without `if` are literals
-more_among : (t x : Term) (us vs : List Term) → (is_among term_eq x us ≡ true → is_among term_eq x vs ≡ true) → is_among term_eq x (t ∷ us) ≡ true → is_among term_eq x (t ∷ vs) ≡ true
+pub more_among : (t x : Term) (us vs : List Term) → (is_among term_eq x us ≡ true → is_among term_eq x vs ≡ true) → is_among term_eq x (t ∷ us) ≡ true → is_among term_eq x (t ∷ vs) ≡ true
 more_among t x us vs w h = go (either (term_eq x t) (is_among term_eq x us) h)
   where
     go : (term_eq x t ≡ true) ⊎ (is_among term_eq x us ≡ true) → (term_eq x t || is_among term_eq x vs) ≡ true
@@ -196,7 +196,7 @@ without_behind (y ∷ ys) ts x h = go (has_if y) (without_behind ys ts x h)
     go false k = or_right (term_eq x y) (is_among term_eq x (without_if (ys ++ ts))) k
 
 -- and where others are put in the place of one with an `if`
-pub without_put : (ts : List Term) (k : ℕ) (t : Term) (ys : List Term) → slice_get ts k ≡ Some t → has_if t ≡ true → Within (without_if ts) (without_if (put_at k ys ts))
+without_put : (ts : List Term) (k : ℕ) (t : Term) (ys : List Term) → slice_get ts k ≡ Some t → has_if t ≡ true → Within (without_if ts) (without_if (put_at k ys ts))
 without_put [] k t ys h q x m = cc
 without_put (u ∷ ts) zero t ys h q x m =
     let same : u ≡ t = cc in

@@ -45,7 +45,7 @@ pub record Waits (w : Shown) (f : Frame) : Type 0 where
   pub split : Reduces w f.split
   pub done : Each (Reduces w) f.done
   pub from : all_from (claims f.done) ≡ take (length f.done) f.split.says.to
-  pub ready : Each (λ c. Ready c f.seen f.literal) f.split.says.to
+  pub ready : Each (λ c. Ready c f.literal f.tidy) f.split.says.to
 
 -- each clause that waits, waits for the next one, the last for the clause at hand
 abbrev pub Linked : Shown → List Frame → Clause → Type 0
@@ -62,7 +62,7 @@ comes (task.Open k) n = by_steps k.clause n
 comes (task.Done r) n = Some (r.says.to, n)
 
 abbrev pub IsAtHand : Shown → Task → Type 0
-IsAtHand w (task.Open k) = KnownClause (function_of w.entries) k.clause × Ready k.clause k.seen k.cursor
+IsAtHand w (task.Open k) = KnownClause (function_of w.entries) k.clause × Ready k.clause k.cursor k.tidy
 IsAtHand w (task.Done r) = Reduces w r
 
 -- a bound on the turns that are left

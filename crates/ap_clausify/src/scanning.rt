@@ -1,21 +1,21 @@
-ghost use Rattle.std.specs.Prelude.{◌≡◌, IfOk};
+ghost use Rattle.std.specs.Prelude.{◌≡◌, ◌&&◌, IfOk};
 ghost use Rattle.ap_world.specs.Shapes.{shape_of};
-ghost use Rattle.ap_kernel.specs.Tidying.{is_bare, is_plain, is_opposed, negates, is_denied, closes};
-ghost use Rattle.ap_clausify.specs.Scanning.{counts, Noted, Ready, Finds};
+ghost use Rattle.ap_kernel.specs.Tidying.{is_bare, is_plain, negates, is_denied};
+ghost use Rattle.ap_clausify.specs.Scanning.{closed_by, is_kept, Ready, Finds};
 
 use crate::places::{Place, USUAL_DEPTH, find};
 use ap_kernel::{ShapeRef, is_among, is_constant, is_same, shape_of};
 use ap_list::{NoMemory, Seq};
-use ap_term::{Clause, Term, copy_term};
+use ap_term::{Clause, Term};
 use std::alloc::Global;
 
 /// What a search from a clause's cursor on finds: the `if` that is split first, that the literals before hold
-/// by themselves, or that there is no `if`.
+/// by themselves, or that there is no `if`; and of the first and the last whether the literals before are tidy.
 #[derive(Drop)]
 pub(crate) enum Scanned {
-    Choice(Place),
+    Choice(Place, bool),
     Closed,
-    Whole,
+    Whole(bool),
 }
 
 /// Whether a term is neither a constant nor a negation. Takes no memory.
@@ -38,21 +38,19 @@ fn is_plain(t: &Term) -> bool
     }
 }
 
-/// Whether a literal is in plain form at sight and isn't `'NIL`. Takes no memory.
-fn counts(t: &Term) -> bool
-    ensures { result ≡ counts t.now }
+/// Whether tidying keeps a literal behind these as it is. Takes no memory.
+fn is_kept(before: &[Term], t: &Term) -> bool
+    ensures { result ≡ is_kept before.now t.now }
 {
-    is_plain(t) && !is_constant(false, t)
+    is_plain(t) && !is_constant(false, t) && !is_among(t, before)
 }
 
-/// Whether a term is the negation of one of a list. Takes no memory.
-fn is_opposed(terms: &[Term], t: &Term) -> bool
-    ensures { result ≡ is_opposed terms.now (shape_of t.now) }
+/// Whether literals are tidy with one more behind them that doesn't close them, by whether they are without it.
+/// Takes no memory.
+fn stays_tidy(tidy: bool, before: &[Term], t: &Term) -> bool
+    ensures { result ≡ (tidy && is_kept before.now t.now) }
 {
-    match shape_of(t) {
-        ShapeRef::Not(a) => is_among(a, terms),
-        _ => false,
-    }
+    tidy && is_kept(before, t)
 }
 
 /// Whether a term is the negation of another. Takes no memory.
@@ -77,46 +75,41 @@ fn is_denied(terms: &[Term], t: &Term) -> bool
     false
 }
 
-/// Whether a clause with some literals and this one holds by itself for this one. Takes no memory.
-fn closes(terms: &[Term], t: &Term) -> bool
-    ensures { result ≡ closes terms.now t.now }
+/// Whether a literal beside these makes a clause hold by itself, in plain form at sight: a constant other than
+/// `nil` by itself, a negation where its argument is one of them, another where its negation is. Takes no memory.
+fn is_closed_by(before: &[Term], t: &Term) -> bool
+    ensures { result ≡ closed_by before.now t.now (shape_of t.now) }
 {
-    is_constant(true, t) || is_opposed(terms, t) || is_denied(terms, t)
+    match shape_of(t) {
+        ShapeRef::Constant(_) => is_constant(true, t),
+        ShapeRef::Not(a) => is_bare(a) && is_among(a, before),
+        _ => is_denied(before, t),
+    }
 }
 
-/// Whether a literal closes those that are seen. If not, it is seen from now on, if it counts.
-fn note(alloc: Global, seen: &mut Seq<Term>, t: &Term) -> Result<bool, NoMemory>
-    ensures { IfOk result (λ b. Noted seen.old t.now b seen.new) }
-{
-    if !counts(t) {
-        return Ok(false);
-    }
-    if closes(seen.as_slice(), t) {
-        return Ok(true);
-    }
-    seen.push(copy_term(alloc, t)?)?;
-    Ok(false)
-}
-
-/// Goes on from a clause's cursor to the literal that is split first, and sees those before.
+/// Goes on from a clause's cursor to the literal that is split first, and looks whether one before it closes the
+/// clause.
 pub(crate) fn scan(
     alloc: Global,
     c: &Clause,
-    seen: &mut Seq<Term>,
     cursor: usize,
+    tidy: bool,
 ) -> Result<Scanned, NoMemory>
-    requires ready { Ready c.now seen.old cursor }
-    ensures { IfOk result (λ f. Finds c.now seen.new f) }
+    requires ready { Ready c.now cursor tidy }
+    ensures { IfOk result (λ f. Finds c.now f) }
 {
     let mut at = Seq::with_capacity(alloc, USUAL_DEPTH)?;
+    let mut tidy = tidy;
     for literal in cursor..c.0.as_slice().len() {
         let t = &c.0.as_slice()[literal];
         if find(t, &mut at)? {
-            return Ok(Scanned::Choice(Place { literal, at }));
+            return Ok(Scanned::Choice(Place { literal, at }, tidy));
         }
-        if note(alloc, seen, t)? {
+        let before = &c.0.as_slice()[..literal];
+        if is_closed_by(before, t) {
             return Ok(Scanned::Closed);
         }
+        tidy = stays_tidy(tidy, before, t);
     }
-    Ok(Scanned::Whole)
+    Ok(Scanned::Whole(tidy))
 }

@@ -1,23 +1,49 @@
-ghost use Rattle.std.specs.Prelude.{◌≡◌, ◌+◌, ◌*◌, ◌<◌, ◌++◌, ◌∷◌, [], IfOk, IfSome, Some, slice_get, length};
+ghost use Rattle.std.specs.Prelude.{◌≡◌, ℕ, ◌+◌, ◌*◌, ◌<◌, ◌++◌, ◌∷◌, [], IfOk, IfSome, Some, None, slice_get, length, true};
 ghost use Rattle.std.specs.Bool.{OnTrue, OnFalse};
 ghost use Rattle.std.specs.Option.{option_map};
 ghost use Rattle.ap_world.specs.World.{function_of};
 ghost use Rattle.ap_kernel.specs.Standing.{HasGround};
-ghost use Rattle.ap_kernel.specs.Reductions.{KnownClause, Reduces};
+ghost use Rattle.ap_kernel.specs.Reductions.{KnownClause, Reduces, claims, chained};
+ghost use Rattle.ap_kernel.specs.Tidying.{tidy_made};
 ghost use Rattle.ap_clausify.specs.Leaves.{clause_leaves};
-ghost use Rattle.ap_clausify.specs.Scanning.{Ready};
+ghost use Rattle.ap_clausify.specs.Places.{first_choice};
+ghost use Rattle.ap_clausify.specs.Scanning.{IsTidy, Ready};
 ghost use Rattle.ap_clausify.specs.Vanishing.{Vanishes};
 ghost use Rattle.ap_clausify.specs.Splitting.{split_of, settled_left, steps_left};
 ghost use Rattle.ap_clausify.specs.Frames.{Waits, Linked, due, resumed, origin, outcome, at_hand, comes, IsAtHand, Goes, weight};
 
 use crate::leaves::clause_leaves;
+use crate::places::Place;
 use crate::scanning::{Scanned, scan};
 use crate::states::{Case, Frame, Split, State, Task, Turn};
-use ap_kernel::{Reduction, chain, split_if, tidy};
+use ap_kernel::{Reduction, chain, keep, split_if, tidy};
 use ap_list::{NoMemory, Seq};
 use ap_term::{Clause, Steps, copy_terms};
 use ap_world::World;
 use std::alloc::Global;
+
+/// What a clause is reduced to whose cases are all done.
+fn joined(alloc: Global, w: &World, frame: Frame) -> Result<Reduction, NoMemory>
+    requires waits { Waits w.now frame }
+    requires none { slice_get frame.split.says.to (length frame.done) ≡ None }
+    ensures stands { IfOk result (λ r. Reduces w.now r) }
+    ensures made { IfOk result (λ r. r.says ≡ chained frame.split.says (claims frame.done)) }
+{
+    let Frame { split, done, .. } = frame;
+    chain(alloc, w, split, done)
+}
+
+/// A case of a clause that waits, as one that is to be split.
+fn case_of(alloc: Global, frame: &Frame, case: &Clause) -> Result<Case, NoMemory>
+    ensures { IfOk result (λ k. k ≡ record { clause = case.now; cursor = frame.now.literal; tidy = frame.now.tidy }) }
+{
+    let clause = Clause(copy_terms(alloc, case.0.as_slice())?);
+    Ok(Case {
+        clause,
+        cursor: frame.literal,
+        tidy: frame.tidy,
+    })
+}
 
 /// Goes on with a clause whose next case is due: makes it, which spends a step, or joins what all are
 /// reduced to. `Out` where no step is left.
@@ -33,21 +59,16 @@ fn go_on(
     ensures { IfOk result (λ t. Goes w.now frames frame.split.says.from (due frame steps.old.left) (2 * steps.old.left + (length frames + 1)) t steps.new.left) }
 {
     let Some(case) = frame.split.to().get(frame.done.len()) else {
-        let Frame { split, done, .. } = frame;
-        let task = Task::Done(chain(alloc, w, split, done)?);
+        let reduction = joined(alloc, w, frame)?;
+        let task = Task::Done(reduction);
         return Ok(Turn::On(State { frames, task }));
     };
     if steps.tick().is_err() {
         return Ok(Turn::Out);
     }
-    let clause = Clause(copy_terms(alloc, case.0.as_slice())?);
-    let seen = copy_terms(alloc, frame.seen.as_slice())?;
-    let task = Task::Open(Case {
-        clause,
-        seen,
-        cursor: frame.literal,
-    });
+    let next = case_of(alloc, &frame, case)?;
     frames.push(frame)?;
+    let task = Task::Open(next);
     Ok(Turn::On(State { frames, task }))
 }
 
@@ -92,6 +113,42 @@ fn vanish(
     Ok(Turn::On(State { frames, task }))
 }
 
+/// A clause tidied, or none where it then holds by itself. One that is known to be tidy is kept.
+fn settle(alloc: Global, w: &World, c: Clause, is_tidy: bool) -> Result<Reduction, NoMemory>
+    requires ground { HasGround (function_of w.now.entries) }
+    requires clause { KnownClause (function_of w.now.entries) c }
+    requires tidy { is_tidy ≡ true → IsTidy c.0 }
+    ensures stands { IfOk result (λ r. Reduces w.now r) }
+    ensures made { IfOk result (λ r. r.says ≡ tidy_made c) }
+{
+    if is_tidy {
+        let kept = keep(alloc, w, c)?;
+        return Ok(kept);
+    }
+    let tidied = tidy(alloc, w, c)?;
+    Ok(tidied)
+}
+
+/// A clause that waits from now on, split at its first `if`.
+fn framed(alloc: Global, w: &World, c: Clause, place: Place, tidy: bool) -> Result<Frame, NoMemory>
+    requires ground { HasGround (function_of w.now.entries) }
+    requires clause { KnownClause (function_of w.now.entries) c }
+    requires choice { first_choice c ≡ Some (place.literal, place.at) }
+    requires ready { Ready c place.literal tidy }
+    ensures waits { IfOk result (λ f. Waits w.now f) }
+    ensures from { IfOk result (λ f. f.split.says.from ≡ c) }
+    ensures due { IfOk result (λ f. (n : ℕ) → settled_left (split_of n c) ≡ due f n) }
+{
+    let literal = place.literal;
+    let split = split_if(alloc, w, c, literal, &place.at)?;
+    Ok(Frame {
+        split,
+        done: Seq::new(alloc),
+        literal,
+        tidy,
+    })
+}
+
 /// Begins to split a clause.
 fn open(
     alloc: Global,
@@ -103,35 +160,23 @@ fn open(
     requires ground { HasGround (function_of w.now.entries) }
     requires linked { Linked w.now frames case.clause }
     requires clause { KnownClause (function_of w.now.entries) case.clause }
-    requires ready { Ready case.clause case.seen case.cursor }
+    requires ready { Ready case.clause case.cursor case.tidy }
     ensures { IfOk result (λ t. Goes w.now frames case.clause (settled_left (split_of steps.old.left case.clause)) (2 * steps.old.left + (length frames + 1)) t steps.new.left) }
 {
     let Case {
         clause: c,
-        mut seen,
         cursor,
+        tidy,
     } = case;
-    match scan(alloc, &c, &mut seen, cursor)? {
-        Scanned::Whole => {
-            let task = Task::Done(tidy(alloc, w, c)?);
+    match scan(alloc, &c, cursor, tidy)? {
+        Scanned::Whole(is_tidy) => {
+            let task = Task::Done(settle(alloc, w, c, is_tidy)?);
             Ok(Turn::On(State { frames, task }))
         }
-        Scanned::Closed => {
-            let turn = vanish(alloc, w, frames, c, steps)?;
-            Ok(turn)
-        }
-        Scanned::Choice(place) => {
-            let literal = place.literal;
-            let split = split_if(alloc, w, c, literal, &place.at)?;
-            let done = Seq::new(alloc);
-            let frame = Frame {
-                split,
-                done,
-                seen,
-                literal,
-            };
-            let turn = go_on(alloc, w, frames, frame, steps)?;
-            Ok(turn)
+        Scanned::Closed => vanish(alloc, w, frames, c, steps),
+        Scanned::Choice(place, is_tidy) => {
+            let frame = framed(alloc, w, c, place, is_tidy)?;
+            go_on(alloc, w, frames, frame, steps)
         }
     }
 }
@@ -192,7 +237,7 @@ fn advance(alloc: Global, w: &World, state: State, steps: &mut Steps) -> Result<
 /// by itself then, so what splitting it would spend is spent at once, two steps for each clause but one.
 ///
 /// The memory is linear in the literals of the clauses that are made, and so is the time, but that each literal
-/// without `if` is compared with those that are seen before it. The call's own stack doesn't grow with the
+/// without `if` is compared with those before it. The call's own stack doesn't grow with the
 /// number of splits, but with the depth of a term.
 pub fn split(alloc: Global, w: &World, c: Clause, steps: &mut Steps) -> Result<Split, NoMemory>
     requires ground { HasGround (function_of w.now.entries) }
@@ -205,8 +250,8 @@ pub fn split(alloc: Global, w: &World, c: Clause, steps: &mut Steps) -> Result<S
         frames: Seq::new(alloc),
         task: Task::Open(Case {
             clause: c,
-            seen: Seq::new(alloc),
             cursor: 0,
+            tidy: true,
         }),
     };
     loop {

@@ -1,6 +1,6 @@
 use ap_kernel::Reduction;
 use ap_list::Seq;
-use ap_term::{Clause, Term};
+use ap_term::Clause;
 
 /// The clauses without `if` that a clause is split into, each tidied, or nothing where the steps ran out.
 #[derive(Drop)]
@@ -9,22 +9,23 @@ pub struct Split {
 }
 
 /// A clause that waits while its cases are split: its two cases, and what the first of these are reduced to.
-/// The cases have the clause's literals before the place of the one that is split, and what is seen of these.
+/// The cases have the clause's literals before the place of the one that is split, and it is known of these
+/// whether they are tidy.
 #[derive(Drop)]
 pub(crate) struct Frame {
     pub split: Reduction,
     pub done: Seq<Reduction>,
-    pub seen: Seq<Term>,
     pub literal: usize,
+    pub tidy: bool,
 }
 
-/// A clause that is to be split. The literals before the cursor have no `if`; those of them that count are
-/// seen, but for some that weren't in plain form at sight.
+/// A clause that is to be split. The literals before the cursor have no `if`. Where they are known to be tidy, tidying
+/// leaves them as they are.
 #[derive(Drop)]
 pub(crate) struct Case {
     pub clause: Clause,
-    pub seen: Seq<Term>,
     pub cursor: usize,
+    pub tidy: bool,
 }
 
 /// What is at hand: a clause that is to be split, or one that is.

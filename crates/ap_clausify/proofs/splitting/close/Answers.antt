@@ -12,6 +12,6 @@ pub returns : goal.returns
 returns c =
     let n = c.args.steps.now.left in
     let e : c.push.new.self ≡ c.args.frame.done ++ c.args.r ∷ [] = search rules in
-    let same : due (record { split = c.args.frame.split; done = c.push.new.self; seen = c.args.frame.seen; literal = c.args.frame.literal }) n ≡ resumed c.args.frame (Some (c.args.r.says.to, n)) =
-    ap (λ rs. due (record { split = c.args.frame.split; done = rs; seen = c.args.frame.seen; literal = c.args.frame.literal }) n) e ∙ sym (closed_due c.args.frame c.args.r n) in
+    let same : due (record { split = c.args.frame.split; done = c.push.new.self; literal = c.args.frame.literal; tidy = c.args.frame.tidy }) n ≡ resumed c.args.frame (Some (c.args.r.says.to, n)) =
+    ap (λ rs. due (record { split = c.args.frame.split; done = rs; literal = c.args.frame.literal; tidy = c.args.frame.tidy }) n) e ∙ sym (closed_due c.args.frame c.args.r n) in
     subst (λ o. Goes c.args.w.now c.args.frames c.args.frame.split.says.from o (2 * n + (length c.args.frames + 1)) c.in_ok-turn.turn c.go_on.new.steps.left) same c.in_ok-turn.ensures

@@ -1,11 +1,11 @@
-use Rattle.std.proofs.Common.{◌≡◌, ◌+◌, Some, None, length, slice_get, ◌∙◌, rules}
-use Rattle.ap_clausify.proofs.Framed.{goes_open, goes_done, goes_out}
+use Rattle.std.proofs.Common.{◌≡◌, ◌+◌, Some, None, length, slice_get, rules}
+use Rattle.ap_clausify.proofs.Framed.{goes_case, goes_done, goes_out}
 use Rattle.ap_clausify.proofs.splitting.go_on.Goals as goal
 
 pub returns-in_default : goal.returns-in_default
 returns-in_default c =
     let h : slice_get c.args.frame.split.says.to (length c.args.frame.done) ≡ None = search rules in
-    goes_done c.args.w.now c.args.frames c.args.frame c.in_ok-chain.field-0 c.args.steps.now.left c.requires.linked h c.in_ok-chain.ensures.stands c.in_ok-chain.ensures.made
+    goes_done c.args.w.now c.args.frames c.args.frame c.in_ok-reduction.reduction c.args.steps.now.left c.requires.linked h c.in_ok-reduction.ensures.stands c.in_ok-reduction.ensures.made
 
 pub returns-then-is_err : goal.returns-then-is_err
 returns-then-is_err c =
@@ -18,5 +18,5 @@ pub returns : goal.returns
 returns c =
     let h : slice_get c.args.frame.split.says.to (length c.args.frame.done) ≡ Some c.in-Some.case.now = search rules in
     let e : c.args.steps.now.left ≡ c.tick.new.self.left + 1 = search rules in
-    goes_open c.args.w.now c.args.frames c.push.new.self c.args.frame c.in-Some.case.now c.in_ok-copy_terms.field-0 c.in_ok-seen.seen c.args.steps.now.left c.tick.new.self.left
-    c.requires.linked c.requires.waits h c.in_ok-push.ensures.ok (c.in_ok-copy_terms.ensures ∙ c.as_slice.ensures) (search rules) e
+    goes_case c.args.w.now c.args.frames c.push.new.self c.args.frame c.in-Some.case.now c.in_ok-next.next c.args.steps.now.left c.tick.new.self.left
+    c.requires.linked c.requires.waits h c.in_ok-push.ensures.ok c.in_ok-next.ensures e
