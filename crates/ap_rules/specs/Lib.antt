@@ -1,3 +1,4 @@
+pub mod Renaming
 pub mod Indexed
 pub mod Made
 pub mod Grouped

@@ -4,10 +4,11 @@ use Rattle.ap_value.specs.declared.symbol.Symbol.{Symbol}
 use Rattle.ap_term.specs.declared.term.Term.{Term}
 use Rattle.ap_world.specs.Rules.{Rule, Sides, sides}
 use Rattle.ap_rules.specs.declared.rule.RewriteRule.{RewriteRule}
+use Rattle.ap_rules.specs.Renaming.{as_rule}
 use Rattle.ap_rules.specs.declared.statement.Reading.{Reading}
 
 abbrev pub rule_in : RewriteRule → Rule
-rule_in g = record { theorem = g.theorem; part = g.part; iff = g.iff; lhs = g.lhs; rhs = g.rhs; hyps = g.hyps }
+rule_in g = as_rule g.theorem g.part g.iff g.lhs g.rhs g.hyps
 
 -- the rule of a conjunct
 abbrev pub part_rule : Symbol → List Term → ℕ → Term → Rule

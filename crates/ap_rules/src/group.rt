@@ -40,6 +40,8 @@ fn filler(alloc: Global) -> RewriteRule {
         lhs: Term::Quote(Value::Int(0)),
         rhs: Term::Quote(Value::Int(0)),
         hyps: Seq::new(alloc),
+        permutative: true,
+        bound_by_left: true,
     }
 }
 

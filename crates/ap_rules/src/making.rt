@@ -1,9 +1,12 @@
 ghost use Rattle.std.specs.Prelude.{◌≡◌, ◌⊎◌, [], IfOk, IfErr, OnOk, None, Some, map, true};
-ghost use Rattle.ap_list.specs.Lists.{Each};
-ghost use Rattle.ap_term.specs.declared.term.Term.{out-Term};
+ghost use Rattle.ap_list.specs.Lists.{Each, is_within};
+ghost use Rattle.ap_value.specs.Values.{symbol_eq};
+ghost use Rattle.ap_term.specs.declared.term.Term.{out-Term, fold-Term};
+ghost use Rattle.ap_term.specs.Terms.{vars_after};
 ghost use Rattle.ap_world.specs.Prescribing.{prescribes};
-ghost use Rattle.ap_world.specs.Rules.{is_left, rules_from, rules_of_term, rewrites, sound_rules, rules_in_entry};
+ghost use Rattle.ap_world.specs.Rules.{is_left, rules_from, rules_of_term, rewrites, sound_rules, rules_in_entry, Renames, is_renaming, rename_step};
 ghost use Rattle.ap_world.specs.declared.entry.Entry.TheVariants as entry;
+ghost use Rattle.ap_rules.specs.Renaming.{as_rule};
 ghost use Rattle.ap_rules.specs.Made.{rule_in, part_rule};
 ghost use Rattle.ap_rules.specs.Shapes.{is_linear};
 ghost use Rattle.ap_rules.specs.Linear.{linear_in_entry};
@@ -11,9 +14,10 @@ ghost use Rattle.ap_rules.specs.Refused.{or_else, first_refusal, rule_refusal, a
 
 use crate::linear::{LinearRule, theorem_linear};
 use crate::refusing::{RuleError, rewrite_refusal};
+use crate::renaming::{are_renamed, is_bound_by};
 use crate::rule::RewriteRule;
 use crate::shapes::{are_inequalities, is_type_form};
-use crate::statement::{sides, state};
+use crate::statement::{Reading, sides, state};
 use ap_list::{NoMemory, Seq};
 use ap_term::{Term, copy_terms};
 use ap_value::{Symbol, copy_symbol};
@@ -40,6 +44,49 @@ impl EntryRules {
     }
 }
 
+/// What the order of terms asks of the sides of a rule.
+#[derive(Clone, Copy)]
+struct Order {
+    permutative: bool,
+    bound_by_left: bool,
+}
+
+/// What it asks of these sides.
+fn order_of(alloc: Global, lhs: &Term, rhs: &Term) -> Result<Order, NoMemory>
+    ensures permutes { IfOk result (λ o. o.permutative ≡ is_renaming (fold-Term Renames rename_step lhs.now rhs.now [])) }
+    ensures binds { IfOk result (λ o. o.bound_by_left ≡ is_within symbol_eq (vars_after rhs.now []) (vars_after lhs.now [])) }
+{
+    let permutative = are_renamed(alloc, lhs, rhs)?;
+    let bound_by_left = is_bound_by(alloc, rhs, lhs)?;
+    Ok(Order {
+        permutative,
+        bound_by_left,
+    })
+}
+
+/// The rule with these parts.
+fn with_order(
+    alloc: Global,
+    theorem: Symbol,
+    part: u32,
+    sides: Reading,
+    hyps: Seq<Term>,
+) -> Result<RewriteRule, NoMemory>
+    ensures { IfOk result (λ g. rule_in g ≡ as_rule theorem part sides.iff sides.lhs sides.rhs hyps) }
+{
+    let order = order_of(alloc, &sides.lhs, &sides.rhs)?;
+    Ok(RewriteRule {
+        theorem,
+        part,
+        iff: sides.iff,
+        lhs: sides.lhs,
+        rhs: sides.rhs,
+        hyps,
+        permutative: order.permutative,
+        bound_by_left: order.bound_by_left,
+    })
+}
+
 /// The rule of a conjunct.
 fn rule_of(
     alloc: Global,
@@ -50,17 +97,10 @@ fn rule_of(
 ) -> Result<RewriteRule, NoMemory>
     ensures { IfOk result (λ g. rule_in g ≡ part_rule name.now hyps.now part t.now) }
 {
-    let sides = sides(alloc, t)?;
     let theorem = copy_symbol(alloc, name)?;
     let hyps = copy_terms(alloc, hyps)?;
-    Ok(RewriteRule {
-        theorem,
-        part,
-        iff: sides.iff,
-        lhs: sides.lhs,
-        rhs: sides.rhs,
-        hyps,
-    })
+    let sides = sides(alloc, t)?;
+    with_order(alloc, theorem, part, sides, hyps)
 }
 
 /// A number of 32 bits. A theorem with more conjuncts doesn't fit the memory.

@@ -146,7 +146,7 @@ pub world_sync : IsSync term.the_row → IsSync value.the_row → IsSync world.t
 world_sync t v = let e = entry_sync t v in search (sendable, crosses, names_sync, places_sync, theory_sync) depth 60 fits 100000
 
 rule_send : IsSend term.the_row → IsSend rule.the_row
-rule_send t = declared_send rule.the_type (symbol_send, (search (sendable, crosses) depth 40, (search (sendable, crosses) depth 40, (t, (t, (seq_send _ t, tt))))))
+rule_send t = declared_send rule.the_type (symbol_send, (search (sendable, crosses) depth 40, (search (sendable, crosses) depth 40, (t, (t, (seq_send _ t, (search (sendable, crosses) depth 40, (search (sendable, crosses) depth 40, tt))))))))
 
 group_send : IsSend term.the_row → IsSend group.the_row
 group_send t = let r = rule_send t in search (sendable, crosses) depth 40 fits 100000
@@ -172,7 +172,7 @@ ruled_send t v =
     search (sendable, crosses) depth 40
 
 rule_sync : IsSync term.the_row → IsSync rule.the_row
-rule_sync t = declared_sync rule.the_type (symbol_sync, (search (sendable, crosses) depth 40, (search (sendable, crosses) depth 40, (t, (t, (seq_sync _ t, tt))))))
+rule_sync t = declared_sync rule.the_type (symbol_sync, (search (sendable, crosses) depth 40, (search (sendable, crosses) depth 40, (t, (t, (seq_sync _ t, (search (sendable, crosses) depth 40, (search (sendable, crosses) depth 40, tt))))))))
 
 group_sync : IsSync term.the_row → IsSync group.the_row
 group_sync t = let r = rule_sync t in search (sendable, crosses) depth 40 fits 100000
