@@ -1,1 +1,5 @@
 pub mod Walks
+pub mod Signs
+pub mod Lone
+pub mod Struck
+pub mod ByBits

@@ -1,8 +1,10 @@
-//! Linear arithmetic: the search for a certificate, by elimination of atoms.
+//! Linear arithmetic: the search for a certificate, by elimination of atoms, and a test that there is none.
 #![tactic(auto)]
 
 mod atoms;
 mod eliminating;
+pub mod laws;
+mod marks;
 mod mixing;
 mod oracle;
 mod rows;

@@ -4,6 +4,7 @@ ghost use Rattle.ap_poly.specs.Holding.{IsCertificate};
 
 use crate::atoms::atoms_of;
 use crate::eliminating::left_after;
+use crate::marks::is_hopeless;
 use crate::rows::{first_negative, rows_of};
 use ap_kernel::{LinearOracle, World};
 use ap_list::{NoMemory, Seq};
@@ -21,6 +22,9 @@ pub fn refute(alloc: Global, w: &World, polys: &Seq<Poly>) -> Result<Option<Seq<
 {
     let _ = w;
     let atoms = atoms_of(alloc, polys.as_slice())?;
+    if is_hopeless(alloc, atoms.as_slice(), polys.as_slice())? {
+        return Ok(None);
+    }
     let rows = rows_of(alloc, polys.as_slice())?;
     let left = left_after(alloc, atoms.as_slice(), rows)?;
     first_negative(alloc, left.as_slice())
