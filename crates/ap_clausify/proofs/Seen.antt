@@ -1,5 +1,6 @@
 -- A search from a clause's cursor on: what closes the clause, and where the first `if` stands.
-use Rattle.std.proofs.Common.{◌≡◌, ℕ, zero, suc, ◌+◌, ◌<◌, ◌≤◌, Bool, true, false, true≢false, ◌&&◌, not, cond, List, [], ◌∷◌, map, length, take, get_or, Option, Some, None, is_some, ◌⊎◌, inl, inr, refl, ap, sym, ◌∙◌, subst, zero-add, add-one, arith}
+use Rattle.std.proofs.Common.{◌≡◌, ℕ, zero, suc, ◌+◌, ◌-◌, ◌*◌, ◌<◌, ◌≤◌, Bool, true, false, true≢false, ◌&&◌, not, cond, List, [], ◌∷◌, map, length, take, drop, get_or, Option, Some, None, is_some, ◌⊎◌, inl, inr, refl, ap, sym, ◌∙◌, subst, zero-add, add-one, arith}
+use Rattle.std.proofs.Math.Nat.{one-mul}
 use Rattle.ap_list.specs.Lists.{Each, is_among}
 use Rattle.ap_value.specs.Values.{val_of, value_eq}
 use Rattle.ap_term.specs.declared.term.Term.{Term}
@@ -14,10 +15,11 @@ use Rattle.ap_kernel.specs.Splits.{split_made}
 use Rattle.ap_kernel.specs.Tidying.{plain, tidied, is_bare, is_plain, is_opposed, holds_by_itself, negates, is_denied}
 use Rattle.ap_kernel.proofs.PlainForm.{plain_is}
 use Rattle.ap_clausify.specs.Places.{has_if, first_place, or_later, choice_from, first_choice, found}
+use Rattle.ap_clausify.specs.Leaves.{product, leaves}
 use Rattle.ap_clausify.specs.Scanning.{closed_by, IsTidy, Ready}
 use Rattle.ap_clausify.specs.Vanishing.{without_if, Vanishes}
 use Rattle.ap_clausify.proofs.Placed.{place_has}
-use Rattle.ap_clausify.proofs.LeavesCounted.{put_next}
+use Rattle.ap_clausify.proofs.LeavesCounted.{put_next, one_leaf}
 use Rattle.ap_clausify.proofs.StepsCounted.{choice_cases}
 use Rattle.ap_clausify.proofs.Vanished.{Within, or_left, or_right, either, decided_by, nowhere, kept_has, plain_to, more_among}
 
@@ -142,6 +144,26 @@ choice_found c k t b at new h within here e f q = choice_behind 0 c.0 k t new h 
     go : (o : Option (List ℕ)) → (b, new) ≡ found [] o → o ≡ Some new
     go None g = absurd (true≢false (sym q ∙ ap (λ (p : Bool × List ℕ). p.0) g))
     go (Some is) g = ap Some (sym (ap (λ (p : Bool × List ℕ). p.1) g))
+
+-- those before a place have one leaf each
+rest_long : (ts : List Term) (k : ℕ) → length (drop k ts) ≤ length ts - k
+rest_long ts zero = omega arith
+rest_long [] (suc k) = omega arith
+rest_long (t ∷ ts) (suc k) = let r = rest_long ts k in omega arith
+
+pub take_all : (ts : List Term) (n : ℕ) → length ts ≤ n → take n ts ≡ ts
+take_all [] zero past = refl
+take_all [] (suc n) past = refl
+take_all (t ∷ ts) zero past = absurd (omega arith)
+take_all (t ∷ ts) (suc n) past = ap (λ us. t ∷ us) (take_all ts n (omega arith))
+
+pub front_leaves : (ts : List Term) (k : ℕ) → Each (λ u. has_if u ≡ false) (take k ts) → product (map leaves (take (length ts - k) (drop k ts))) ≡ product (map leaves ts)
+front_leaves ts k n = ap (λ us. product (map leaves us)) (take_all (drop k ts) (length ts - k) (rest_long ts k)) ∙ go ts k n
+  where
+    go : (ts : List Term) (k : ℕ) → Each (λ u. has_if u ≡ false) (take k ts) → product (map leaves (drop k ts)) ≡ product (map leaves ts)
+    go ts zero n = refl
+    go [] (suc k) n = refl
+    go (t ∷ ts) (suc k) n = go ts k n.1 ∙ sym (one-mul (product (map leaves ts))) ∙ ap (λ m. m * product (map leaves ts)) (sym (one_leaf t (no_place t n.0)))
 
 -- a search that finds none
 pub none_found : (t : Term) (b : Bool) (at new : List ℕ) → (b, new) ≡ found at (first_place t) → b ≡ false → (has_if t ≡ false) × (new ≡ at)

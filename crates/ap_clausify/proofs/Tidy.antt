@@ -11,7 +11,7 @@ use Rattle.ap_kernel.proofs.PlainForm.{plain_is}
 use Rattle.ap_kernel.proofs.Reduced.{each_append}
 use Rattle.ap_clausify.specs.Scanning.{closed_by, is_kept, IsTidy}
 use Rattle.ap_clausify.proofs.Framed.{append_nil}
-use Rattle.ap_clausify.proofs.Seen.{and_both, not_so}
+use Rattle.ap_clausify.proofs.Seen.{and_both, not_so, take_all}
 use Rattle.ap_clausify.proofs.Vanished.{or_left, or_right, either, nowhere, decider, decided_by, among_end}
 
 -- one that is kept behind others
@@ -164,13 +164,7 @@ next_tidy ts i t b new within at so_far n is h =
     subst IsTidy (sym (take_end ts i t within at)) (tidy_end (take i ts) t (so_far p.0) p.1 n)
 
 pub all_tidy : (ts : List Term) (k : ℕ) (b : Bool) → length ts ≤ k → (b ≡ true → IsTidy (take k ts)) → b ≡ true → IsTidy ts
-all_tidy ts k b past so_far h = subst IsTidy (go ts k past) (so_far h)
-  where
-    go : (ts : List Term) (k : ℕ) → length ts ≤ k → take k ts ≡ ts
-    go [] zero past = refl
-    go [] (suc k) past = refl
-    go (t ∷ ts) zero past = absurd (omega arith)
-    go (t ∷ ts) (suc k) past = ap (λ us. t ∷ us) (go ts k (omega arith))
+all_tidy ts k b past so_far h = subst IsTidy (take_all ts k past) (so_far h)
 
 -- a tidy clause is kept
 pub kept_made : (c : Clause) → IsTidy c.0 → tidy_goals (tidied c.0) ≡ c ∷ []

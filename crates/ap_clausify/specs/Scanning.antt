@@ -37,5 +37,5 @@ pub record Ready (c : Clause) (cursor : ℕ) (is_tidy : Bool) : Type 0 where
 -- what a search from the cursor on finds
 abbrev pub Finds : Clause → Scanned → Type 0
 Finds c (scanned.Choice p b) = (first_choice c ≡ Some (p.literal, p.at)) × Ready c p.literal b
-Finds c scanned.Closed = Vanishes c
+Finds c (scanned.Closed k) = Vanishes c × Ready c k false
 Finds c (scanned.Whole b) = (first_choice c ≡ None) × (b ≡ true → IsTidy c.0)

@@ -1,5 +1,6 @@
-ghost use Rattle.std.specs.Prelude.{◌≡◌, ◌≤◌, min, map};
+ghost use Rattle.std.specs.Prelude.{◌≡◌, ◌≤◌, false, min, map};
 ghost use Rattle.ap_clausify.specs.Leaves.{product, leaves, clause_leaves, capped};
+ghost use Rattle.ap_clausify.specs.Scanning.{Ready};
 
 use ap_kernel::is_if;
 use ap_term::{Clause, Term};
@@ -53,11 +54,12 @@ fn leaves_of(ts: &[Term], limit: u32) -> u32
     all
 }
 
-/// The number of clauses without `if` that a clause is split into, or the limit where there are more. Takes no
-/// memory.
-pub(crate) fn clause_leaves(c: &Clause, limit: u32) -> u32
-    requires { 1 ≤ limit }
+/// The number of clauses without `if` that a clause is split into, or the limit where there are more. The literals
+/// before the cursor have no `if`, and aren't looked at. Takes no memory.
+pub(crate) fn clause_leaves(c: &Clause, cursor: usize, limit: u32) -> u32
+    requires some { 1 ≤ limit }
+    requires ready { Ready c.now cursor false }
     ensures { result ≡ capped limit (clause_leaves c.now) }
 {
-    leaves_of(c.0.as_slice(), limit)
+    leaves_of(&c.0.as_slice()[cursor..], limit)
 }

@@ -10,11 +10,12 @@ use ap_term::{Clause, Term};
 use std::alloc::Global;
 
 /// What a search from a clause's cursor on finds: the `if` that is split first, that the literals before hold
-/// by themselves, or that there is no `if`; and of the first and the last whether the literals before are tidy.
+/// by themselves, and the place of the one that shows it, or that there is no `if`; and of the first and the last
+/// whether the literals before are tidy.
 #[derive(Drop)]
 pub(crate) enum Scanned {
     Choice(Place, bool),
-    Closed,
+    Closed(usize),
     Whole(bool),
 }
 
@@ -107,7 +108,7 @@ pub(crate) fn scan(
         }
         let before = &c.0.as_slice()[..literal];
         if is_closed_by(before, t) {
-            return Ok(Scanned::Closed);
+            return Ok(Scanned::Closed(literal));
         }
         tidy = stays_tidy(tidy, before, t);
     }

@@ -1,4 +1,4 @@
-ghost use Rattle.std.specs.Prelude.{◌≡◌, ℕ, ◌+◌, ◌*◌, ◌<◌, ◌++◌, ◌∷◌, [], IfOk, IfSome, Some, None, slice_get, length, true};
+ghost use Rattle.std.specs.Prelude.{◌≡◌, ℕ, ◌+◌, ◌*◌, ◌<◌, ◌++◌, ◌∷◌, [], IfOk, IfSome, Some, None, slice_get, length, true, false};
 ghost use Rattle.std.specs.Bool.{OnTrue, OnFalse};
 ghost use Rattle.std.specs.Option.{option_map};
 ghost use Rattle.ap_world.specs.World.{function_of};
@@ -73,14 +73,15 @@ fn go_on(
 }
 
 /// Spends the steps of splitting a clause wholly at once: two for each clause that it is split into but one.
-/// Answers whether there are as many; where there aren't, none is left.
-fn spend_wholly(c: &Clause, steps: &mut Steps) -> bool
+/// Answers whether there are as many; where there aren't, none is left. The literals before the cursor have no `if`.
+fn spend_wholly(c: &Clause, cursor: usize, steps: &mut Steps) -> bool
+    requires ready { Ready c.now cursor false }
     ensures spent { OnTrue result (steps.new.left + 2 * clause_leaves c.now ≡ steps.old.left + 2) }
     ensures out { OnFalse result (steps.old.left + 2 < 2 * clause_leaves c.now) }
     ensures none { OnFalse result (steps.new.left ≡ 0) }
 {
     let left = steps.left;
-    let others = clause_leaves(c, left / 2 + 2) - 1;
+    let others = clause_leaves(c, cursor, left / 2 + 2) - 1;
     let enough = others <= left / 2;
     if enough {
         steps.left = left - 2 * others;
@@ -97,15 +98,17 @@ fn vanish(
     w: &World,
     frames: Seq<Frame>,
     c: Clause,
+    cursor: usize,
     steps: &mut Steps,
 ) -> Result<Turn, NoMemory>
     requires ground { HasGround (function_of w.now.entries) }
     requires linked { Linked w.now frames c }
     requires clause { KnownClause (function_of w.now.entries) c }
+    requires ready { Ready c cursor false }
     requires vanishes { Vanishes c }
     ensures { IfOk result (λ t. Goes w.now frames c (settled_left (split_of steps.old.left c)) (2 * steps.old.left + (length frames + 1)) t steps.new.left) }
 {
-    if !spend_wholly(&c, steps) {
+    if !spend_wholly(&c, cursor, steps) {
         return Ok(Turn::Out);
     }
     let reduction = tidy(alloc, w, c)?;
@@ -173,7 +176,7 @@ fn open(
             let task = Task::Done(settle(alloc, w, c, is_tidy)?);
             Ok(Turn::On(State { frames, task }))
         }
-        Scanned::Closed => vanish(alloc, w, frames, c, steps),
+        Scanned::Closed(at) => vanish(alloc, w, frames, c, at, steps),
         Scanned::Choice(place, is_tidy) => {
             let frame = framed(alloc, w, c, place, is_tidy)?;
             go_on(alloc, w, frames, frame, steps)

@@ -1,4 +1,4 @@
-use Rattle.std.proofs.Common.{◌≡◌, ◌<◌, ◌≤◌, true, false, get_or, length, take, ◌∙◌, rules}
+use Rattle.std.proofs.Common.{◌≡◌, ◌<◌, ◌≤◌, true, false, true≢false, sym, get_or, length, take, ◌∙◌, rules}
 use Rattle.ap_world.specs.Shapes.{shape_of}
 use Rattle.ap_clausify.specs.Places.{first_place, found}
 use Rattle.ap_clausify.specs.Scanning.{closed_by}
@@ -25,8 +25,10 @@ returns-then-is_closed_by c =
     let at : t ≡ get_or c.args.c.now.0 k t = search rules in
     let f : (c.in_ok-find.field-0, c.find.new.at) ≡ found c.loop-literal.at (first_place t) = search rules in
     let none = none_found t c.in_ok-find.field-0 c.loop-literal.at c.find.new.at f c.if-branch.false in
-    let closed : closed_by (take k c.args.c.now.0) t (shape_of t) ≡ true = search rules in
-    closed_vanishes c.args.c.now k t below at none.0 c.loop-literal.invariant.none closed
+    let closed : closed_by (take k c.args.c.now.0) t (shape_of t) ≡ true = search rules in (
+      closed_vanishes c.args.c.now k t below at none.0 c.loop-literal.invariant.none closed,
+      record { within = search rules; none = c.loop-literal.invariant.none; tidy = λ h. absurd (true≢false (sym h)) },
+    )
 
 pub loop-literal-preserved : goal.loop-literal-preserved
 loop-literal-preserved c =
