@@ -3,3 +3,4 @@ pub mod Leading
 pub mod Powers
 pub mod Counted
 pub mod Followed
+pub mod Best
