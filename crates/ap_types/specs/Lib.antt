@@ -1,4 +1,5 @@
 pub mod Scopes
 pub mod Settings
 pub mod Laws
+pub mod Words
 pub mod Sides

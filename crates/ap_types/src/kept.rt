@@ -30,7 +30,6 @@ fn body_types(
     let setting = Setting {
         alloc,
         w,
-        base: &[],
         own: Some(Own { name, mask }),
     };
     types_at(&setting, &mut nothing, body)

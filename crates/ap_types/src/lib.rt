@@ -16,8 +16,10 @@ pub mod laws;
 mod oracle;
 mod rows;
 mod rules;
+mod scope;
 mod scopes;
 mod typing;
+mod words;
 
 pub use ap_kernel::{Ctx, TypeOracle};
 pub use ap_list::NoMemory;
