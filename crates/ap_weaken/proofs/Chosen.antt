@@ -20,7 +20,7 @@ use Rattle.ap_weaken.specs.Generalize.{may_generalise, smaller, smallest, chosen
 use Rattle.ap_weaken.specs.Laws.{GeneralizeApplies}
 
 -- what holds of each of some terms holds of the smallest
-smallest_holds : (P : Term → Type 0) (test : Term → Bool) (ts : List Term) (t : Term) → Each P ts → smallest test ts ≡ Some t → P t
+pub smallest_holds : (P : Term → Type 0) (test : Term → Bool) (ts : List Term) (t : Term) → Each P ts → smallest test ts ≡ Some t → P t
 smallest_holds P test [] t hs h = cc
 smallest_holds P test (u ∷ us) t hs h = go (test u) (smallest test us) (smallest_holds P test us t hs.1) h
   where

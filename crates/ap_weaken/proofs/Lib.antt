@@ -3,3 +3,5 @@ pub mod Chosen
 pub mod Followed
 pub mod LeftOut
 pub mod Used
+pub mod Smallest
+pub mod Firsts

@@ -1,11 +1,12 @@
--- That what an engine leaves of a clause proves it, that generalization applies wherever its call is found, and what
--- the parts of a clause are.
-use Rattle.std.specs.Prelude.{◌≡◌, ◌<◌, ◌^◌, true, IsTrue, List, [], Some, length}
+-- That what an engine leaves of a clause proves it, that generalization and fertilization apply wherever what they go
+-- by is found, which that is, and what the parts of a clause are.
+use Rattle.std.specs.Prelude.{◌≡◌, ◌↔◌, ◌<◌, ◌≤◌, ◌^◌, ℕ, Bool, true, false, IsTrue, List, [], ◌∷◌, ◌++◌, Some, None, length}
 use Rattle.ap_list.specs.Lists.{Each, is_among}
 use Rattle.ap_value.specs.declared.symbol.Symbol.{Symbol}
 use Rattle.ap_value.specs.Values.{symbol_eq}
 use Rattle.ap_term.specs.declared.term.Term.{Term}
 use Rattle.ap_term.specs.declared.term.Clause.{Clause}
+use Rattle.ap_term.specs.Terms.{term_size}
 use Rattle.ap_world.specs.Meaning.{Defs, Total}
 use Rattle.ap_world.specs.Sound.{known, HasFunctions}
 use Rattle.ap_world.specs.World.{Shown, function_of}
@@ -13,9 +14,10 @@ use Rattle.ap_kernel.specs.declared.reductions.Inference.{Inference}
 use Rattle.ap_kernel.specs.Masks.{MaskHolds}
 use Rattle.ap_kernel.specs.Reductions.{KnownClause, Follows}
 use Rattle.ap_kernel.specs.Standing.{HasGround}
+use Rattle.ap_induct.specs.Choosing.{calls_among}
 use Rattle.ap_elim.specs.Naming as naming
-use Rattle.ap_weaken.specs.Fertilize.{fertilize_made}
-use Rattle.ap_weaken.specs.Generalize.{mask_in, chosen, generalize_made}
+use Rattle.ap_weaken.specs.Fertilize.{can_use, use_of, fertilize_made}
+use Rattle.ap_weaken.specs.Generalize.{mask_in, may_generalise, chosen, generalize_made}
 use Rattle.ap_weaken.specs.Irrelevance.{vars_of, have_common, part_vars, irrelevance_made}
 
 -- one clause is left, from which the other follows
@@ -38,6 +40,37 @@ IrrelevanceFollows = (D : Defs) → Total D → (c : Clause) → KnownClause D c
 -- with a call that is chosen, and fewer variables than memory can hold, there is a generalization
 abbrev pub GeneralizeApplies : Type 0
 GeneralizeApplies = (w : Shown) (c : Clause) (t : Term) → chosen w c.0 ≡ Some t → length (naming.vars_of c.0) < 2 ^ 63 → (i : Inference) × (generalize_made w c ≡ Some i)
+
+-- a term stands among others and passes a test, each that passes it before it has more nodes, and none behind it fewer
+pub record IsSmallest (test : Term → Bool) (ts : List Term) (t : Term) : Type 0 where
+  pub front : List Term
+  pub back : List Term
+  pub stands : ts ≡ front ++ t ∷ back
+  pub passes : test t ≡ true
+  pub before : Each (λ u. test u ≡ true → term_size t < term_size u) front
+  pub behind : Each (λ u. test u ≡ true → term_size t ≤ term_size u) back
+
+-- the call that is generalized is exactly that one of those that may be
+abbrev pub SmallestIsChosen : Type 0
+SmallestIsChosen = (w : Shown) (ts : List Term) (t : Term) → (chosen w ts ≡ Some t) ↔ IsSmallest (may_generalise w ts) (calls_among ts) t
+
+-- and there is none exactly where none may be
+abbrev pub NoneMayBe : Type 0
+NoneMayBe = (w : Shown) (ts : List Term) → (chosen w ts ≡ None) ↔ Each (λ t. may_generalise w ts t ≡ false) (calls_among ts)
+
+-- the places of the first literal that can be used in some literal, and of the first that it can be used in
+pub record IsFirstUse (c : Clause) (i j : ℕ) : Type 0 where
+  pub there : can_use c i j ≡ true
+  pub first : (k l : ℕ) → k < i → can_use c k l ≡ false
+  pub next : (l : ℕ) → l < j → can_use c i l ≡ false
+
+-- those are where fertilization uses an equation
+abbrev pub FirstUseIsTaken : Type 0
+FirstUseIsTaken = (c : Clause) (i j : ℕ) → (use_of c ≡ Some (i, j)) ↔ IsFirstUse c i j
+
+-- where some literal can be used in some literal there is a fertilization
+abbrev pub FertilizeApplies : Type 0
+FertilizeApplies = (c : Clause) (i j : ℕ) → can_use c i j ≡ true → (q : Inference) × (fertilize_made c ≡ Some q)
 
 -- each of some variables is one of others
 abbrev pub Within : List Symbol → List Symbol → Type 0
