@@ -3,3 +3,5 @@ pub mod Signs
 pub mod Lone
 pub mod Struck
 pub mod ByBits
+pub mod Ranks
+pub mod Turns

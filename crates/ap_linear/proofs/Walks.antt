@@ -1,16 +1,18 @@
 -- The walks of the search: what is done, and what is left to do.
-use Rattle.std.proofs.Common.{◌≡◌, ℕ, zero, suc, ◌+◌, ◌*◌, ◌/◌, ◌%◌, ◌<◌, ◌≤◌, ℤ, pos, true, cond, int_lt, unsigned_abs, List, [], ◌∷◌, ◌++◌, ◌-◌, map, take, drop, length, get_or, Option, Some, None, Result, Ok, Err, IfOk, IfSome, refl, ap, sym, ◌∙◌, arith}
+use Rattle.std.proofs.Common.{◌≡◌, ℕ, zero, suc, ◌+◌, ◌*◌, ◌/◌, ◌%◌, ◌<◌, ◌≤◌, ℤ, Bool, true, false, cond, List, [], ◌∷◌, ◌++◌, ◌-◌, map, take, drop, length, get_or, Option, Some, None, Result, Ok, Err, IfOk, IfSome, refl, ap, sym, ◌∙◌, arith}
 use Rattle.std.proofs.Math.Seq.{take-suc, take-length}
-use Rattle.std.proofs.lemmas.List.{append_assoc, append-nil, take-append-le, length-append}
+use Rattle.std.proofs.lemmas.List.{append_assoc, append-nil, take-append-le}
 use Rattle.std.proofs.lemmas.Nat.Gcd.{IsGcd-from_mod, same_from_IsGcd}
 use Rattle.std.proofs.Math.Nat.{div-mul_cancel}
 use Rattle.ap_term.specs.declared.term.Term.{Term}
+use Rattle.ap_term.specs.Equal.{term_eq}
+use Rattle.ap_term.specs.Order.{term_less}
 use Rattle.ap_poly.specs.Polynomials.{Parts, Polynomial, and_then}
-use Rattle.ap_poly.specs.Elimination.{Row, behind, rows_of, gcd, multiplier, mixed, meeting, or_less, coefficient, with_negative, with_positive, with_atom, with_atoms, atoms_of, eliminated, left_after, lin}
+use Rattle.ap_poly.specs.Elimination.{Row, behind, rows_of, gcd, multiplier, mixed, with_atom, with_atoms, atoms_of, eliminated, left_after, lin}
 use Rattle.ap_poly.proofs.Divisors.{gcd_is}
 use Rattle.ap_poly.specs.Holding.{IsCertificate}
 use Rattle.ap_poly.proofs.Certified.{lin_certifies}
-use Rattle.ap_linear.specs.Steps.{zeros, unit, mix}
+use Rattle.ap_linear.specs.Steps.{zeros, unit, mix, is_placed}
 
 -- a row behind so many polynomials that don't stand in it
 abbrev pub shifted : ℕ → List Row → List Row
@@ -65,6 +67,11 @@ abbrev pub onto : List ℕ → Option (List ℕ) → Option (List ℕ)
 onto xs None = None
 onto xs (Some ys) = Some (xs ++ ys)
 
+-- the same of any numbers
+abbrev pub onto_all : {A : Type 0} → List A → Option (List A) → Option (List A)
+onto_all xs None = None
+onto_all xs (Some ys) = Some (xs ++ ys)
+
 pub onto-nothing : (o : Option (List ℕ)) → onto [] o ≡ o
 onto-nothing None = refl
 onto-nothing (Some xs) = refl
@@ -118,6 +125,16 @@ take-onto zero xs ys = refl
 take-onto (suc n) [] ys = refl
 take-onto (suc n) (x ∷ xs) ys = ap (λ zs. x ∷ zs) (take-onto n xs ys)
 
+-- an atom that is there adds nothing
+pub placed-same : (t : Term) (us : List Term) → is_placed t us ≡ true → with_atom t us ≡ us
+placed-same t [] h = cc
+placed-same t (u ∷ us) h = go (term_eq t u) (term_less t u) (placed-same t us) h
+  where
+    go : (b c : Bool) → (is_placed t us ≡ true → with_atom t us ≡ us) → cond b true (cond c false (is_placed t us)) ≡ true → cond b (u ∷ us) (cond c (t ∷ u ∷ us) (u ∷ with_atom t us)) ≡ u ∷ us
+    go true c next k = refl
+    go false true next k = cc
+    go false false next k = ap (λ vs. u ∷ vs) (next k)
+
 -- of a list of atoms the last is eliminated first
 left-last : (xs : List Term) (x : Term) (rs : List Row) → left_after (xs ++ x ∷ []) rs ≡ left_after xs (eliminated x rs)
 left-last [] x rs = refl
@@ -170,7 +187,7 @@ rest-of {A} (x ∷ xs) p h e = ap (λ y. y ∷ take (suc (length xs) - 1) xs) e 
     one n = omega arith
 
 -- nothing is left
-pub none-left : (f : List Row → List Row) (out left g : List Row) → f [] ≡ [] → length left < 1 → length out ≤ 64 → take 64 (out ++ f left) ≡ g → out ≡ g
+pub none-left : {A : Type 0} (f : List A → List A) (out left g : List A) → f [] ≡ [] → length left < 1 → length out ≤ 64 → take 64 (out ++ f left) ≡ g → out ≡ g
 none-left f out [] g e h k l = sym (take-few 64 out k) ∙ ap (take 64) (sym (append-nil out) ∙ ap (λ ys. out ++ ys) (sym e)) ∙ l
 none-left f out (w ∷ ws) g e h k l = absurd (no (length ws) h)
   where
@@ -178,17 +195,8 @@ none-left f out (w ∷ ws) g e h k l = absurd (no (length ws) h)
     no n h = omega arith
 
 -- no more is kept
-pub all-kept : (out more g : List Row) → 64 ≤ length out → length out ≤ 64 → take 64 (out ++ more) ≡ g → out ≡ g
+pub all-kept : {A : Type 0} (out more g : List A) → 64 ≤ length out → length out ≤ 64 → take 64 (out ++ more) ≡ g → out ≡ g
 all-kept out more g h k l = sym (take-full 64 out more h k) ∙ l
-
-pub positive-turn : (x : Term) (rs out new : List Row) (p : Row) (rest left g : List Row) → p ∷ rest ≡ left → int_lt (pos 0) (coefficient x p) ≡ true
-    → new ≡ take 64 (out ++ with_negative x p rs) → take 64 (out ++ with_positive x left rs) ≡ g → take 64 (new ++ with_positive x rest rs) ≡ g
-positive-turn x rs out new p rest left g whole c e l =
-    ap (λ ys. take 64 (ys ++ with_positive x rest rs)) e
-    ∙ take-onto 64 (out ++ with_negative x p rs) (with_positive x rest rs)
-    ∙ ap (take 64) (append_assoc out (with_negative x p rs) (with_positive x rest rs))
-    ∙ ap (λ b. take 64 (out ++ cond b (with_negative x p rs ++ with_positive x rest rs) (with_positive x rest rs))) (sym c)
-    ∙ ap (λ ps. take 64 (out ++ with_positive x ps rs)) whole ∙ l
 
 pub rows-next : (rows new : List Row) (n m : ℕ) (p : Polynomial) (ps left : List Polynomial) (g : List Row) → p ∷ ps ≡ left → m ≡ suc n
     → new ≡ rows ++ record { poly = p; by = unit n (length ps) } ∷ [] → rows ++ shifted n (rows_of left) ≡ g → new ++ shifted m (rows_of ps) ≡ g
@@ -196,26 +204,6 @@ rows-next rows new n m p ps left g whole next e l =
     ap (λ ws. ws ++ shifted m (rows_of ps)) e
     ∙ ap (λ (k : ℕ). (rows ++ record { poly = p; by = unit n (length ps) } ∷ []) ++ shifted k (rows_of ps)) next
     ∙ rows-turn rows n p ps ∙ ap (λ qs. rows ++ shifted n (rows_of qs)) whole ∙ l
-
-or_less-front : (o : Option Row) (rs : List Row) → or_less o [] ++ rs ≡ or_less o rs
-or_less-front None rs = refl
-or_less-front (Some r) rs = refl
-
-pub one-more : (out : List Row) (o : Option Row) → length out < 64 → length (out ++ or_less o []) ≤ 64
-one-more out None h = rw (append-nil out) (omega arith)
-one-more out (Some r) h = rw (length-append out (r ∷ [])) (omega arith)
-
-pub negative-turn : (x : Term) (p q : Row) (out new rest left g : List Row) (c d : ℕ) → q ∷ rest ≡ left → int_lt (coefficient x q) (pos 0) ≡ true
-    → c ≡ unsigned_abs (coefficient x p) → d ≡ unsigned_abs (coefficient x q) → new ≡ out ++ or_less (meeting c p d q) []
-    → take 64 (out ++ with_negative x p left) ≡ g → take 64 (new ++ with_negative x p rest) ≡ g
-negative-turn x p q out new rest left g c d whole h ci di e l =
-    ap (λ ys. take 64 (ys ++ with_negative x p rest)) e
-    ∙ ap (take 64) (append_assoc out (or_less (meeting c p d q) []) (with_negative x p rest))
-    ∙ ap (λ zs. take 64 (out ++ zs)) (or_less-front (meeting c p d q) (with_negative x p rest))
-    ∙ ap (λ (n : ℕ). take 64 (out ++ or_less (meeting n p d q) (with_negative x p rest))) ci
-    ∙ ap (λ (n : ℕ). take 64 (out ++ or_less (meeting (unsigned_abs (coefficient x p)) p n q) (with_negative x p rest))) di
-    ∙ ap (λ b. take 64 (out ++ cond b (or_less (meeting (unsigned_abs (coefficient x p)) p (unsigned_abs (coefficient x q)) q) (with_negative x p rest)) (with_negative x p rest))) (sym h)
-    ∙ ap (λ qs. take 64 (out ++ with_negative x p qs)) whole ∙ l
 
 -- what is answered is a certificate
 pub certified : {E : Type 0} (r : Result (Option (List ℕ)) E) (ps : List Polynomial) → IfOk r (λ o. o ≡ lin ps) → IfOk r (λ o. IfSome o (λ by. IsCertificate ps by))

@@ -1,6 +1,9 @@
 -- The steps of the search that the definition doesn't name: multipliers of one place, and sums of two rows.
-use Rattle.std.specs.Prelude.{ℕ, zero, suc, ◌+◌, ◌*◌, List, [], ◌∷◌, ◌++◌, Option, Some}
-use Rattle.ap_poly.specs.Polynomials.{Polynomial, and_then, add, scale}
+use Rattle.std.specs.Prelude.{ℕ, zero, suc, ◌+◌, ◌*◌, Bool, true, false, cond, List, [], ◌∷◌, ◌++◌, Option, Some}
+use Rattle.ap_term.specs.declared.term.Term.{Term}
+use Rattle.ap_term.specs.Equal.{term_eq}
+use Rattle.ap_term.specs.Order.{term_less}
+use Rattle.ap_poly.specs.Polynomials.{and_then, add, scale}
 use Rattle.ap_poly.specs.Elimination.{Row, multiplier, mixed}
 
 abbrev pub zeros : ℕ → List ℕ
@@ -21,10 +24,7 @@ summed k p l q =
     and_then (scale k p.poly) (λ a. and_then (scale l q.poly) (λ b. and_then (add a b) (λ c.
     and_then (mixed k p.by l q.by) (λ by. Some (record { poly = c; by = by })))))
 
--- p and l times q
-abbrev pub added : Polynomial → ℕ → Polynomial → Option Polynomial
-added p l q = and_then (scale l q) (λ b. add p b)
-
--- k times p and l times q
-abbrev pub both : ℕ → Polynomial → ℕ → Polynomial → Option Polynomial
-both k p l q = and_then (scale k p) (λ a. added a l q)
+-- the atom stands before one that it comes before
+abbrev pub is_placed : Term → List Term → Bool
+is_placed t [] = false
+is_placed t (u ∷ us) = cond (term_eq t u) true (cond (term_less t u) false (is_placed t us))

@@ -1,6 +1,8 @@
 // The atoms of polynomials, rising in the order of terms.
 ghost use Rattle.std.specs.Prelude.{◌≡◌, ◌++◌, ◌∷◌, IfOk};
 ghost use Rattle.ap_poly.specs.Elimination.{with_atom, with_atoms, atoms_of};
+ghost use Rattle.ap_linear.specs.Steps.{is_placed};
+ghost use Rattle.ap_linear.specs.Ranked.{is_before_all, rising};
 
 use ap_kernel::is_same;
 use ap_list::{NoMemory, Seq};
@@ -18,8 +20,25 @@ fn joined(alloc: Global, front: Seq<Term>, t: &Term, rest: &[Term]) -> Result<Se
     Ok(out)
 }
 
-/// The atoms with one more at its place, if it isn't there.
-fn with_atom(alloc: Global, t: &Term, atoms: &[Term]) -> Result<Seq<Term>, NoMemory>
+/// Whether an atom is there before one that it comes before.
+fn is_placed(t: &Term, atoms: &[Term]) -> Result<bool, NoMemory>
+    ensures { IfOk result (λ b. b ≡ is_placed t.now atoms.now) }
+{
+    let mut left = atoms;
+    while let [u, rest @ ..] = left {
+        if is_same(t, u) {
+            return Ok(true);
+        }
+        if is_before(t, u)? {
+            return Ok(false);
+        }
+        left = rest;
+    }
+    Ok(false)
+}
+
+/// The atoms with one more at its place, if it isn't there; copied.
+fn with_new_atom(alloc: Global, t: &Term, atoms: &[Term]) -> Result<Seq<Term>, NoMemory>
     ensures { IfOk result (λ us. us ≡ with_atom t.now atoms.now) }
 {
     let mut out = Seq::new(alloc);
@@ -37,6 +56,16 @@ fn with_atom(alloc: Global, t: &Term, atoms: &[Term]) -> Result<Seq<Term>, NoMem
     joined(alloc, out, t, left)
 }
 
+/// The atoms with one more at its place, if it isn't there. They aren't copied where it is.
+fn with_atom(alloc: Global, t: &Term, atoms: Seq<Term>) -> Result<Seq<Term>, NoMemory>
+    ensures { IfOk result (λ us. us ≡ with_atom t.now atoms) }
+{
+    if is_placed(t, atoms.as_slice())? {
+        return Ok(atoms);
+    }
+    with_new_atom(alloc, t, atoms.as_slice())
+}
+
 /// The atoms with those of parts.
 fn with_atoms(
     alloc: Global,
@@ -50,7 +79,7 @@ fn with_atoms(
     while left > 0 {
         left -= 1;
         let (t, _) = &parts[left];
-        out = with_atom(alloc, t, out.as_slice())?;
+        out = with_atom(alloc, t, out)?;
     }
     Ok(out)
 }
@@ -67,4 +96,28 @@ pub(crate) fn atoms_of(alloc: Global, polys: &[Poly]) -> Result<Seq<Term>, NoMem
         out = with_atoms(alloc, p.parts.as_slice(), out)?;
     }
     Ok(out)
+}
+
+/// Whether a term comes before the first of others, if there is one.
+fn is_before_all(t: &Term, atoms: &[Term]) -> Result<bool, NoMemory>
+    ensures { IfOk result (λ b. b ≡ is_before_all t.now atoms.now) }
+{
+    match atoms {
+        [u, ..] => is_before(t, u),
+        [] => Ok(true),
+    }
+}
+
+/// Whether each atom comes before the next.
+pub(crate) fn are_rising(atoms: &[Term]) -> Result<bool, NoMemory>
+    ensures { IfOk result (λ b. b ≡ rising atoms.now) }
+{
+    let mut left = atoms;
+    while let [t, rest @ ..] = left {
+        if !is_before_all(t, rest)? {
+            return Ok(false);
+        }
+        left = rest;
+    }
+    Ok(true)
 }

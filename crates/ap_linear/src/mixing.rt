@@ -1,11 +1,12 @@
 // The sum of two rows in which an atom vanishes.
-ghost use Rattle.std.specs.Prelude.{◌≡◌, ◌+◌, ◌*◌, ◌<◌, IfOk};
-ghost use Rattle.ap_poly.specs.Elimination.{gcd, multiplier, mixed, combined, meeting};
-ghost use Rattle.ap_linear.specs.Steps.{mix, added, both, summed};
+ghost use Rattle.std.specs.Prelude.{◌≡◌, ◌+◌, ◌*◌, ◌<◌, pos, ◌+ℤ◌, ◌*ℤ◌, IfOk};
+ghost use Rattle.ap_poly.specs.Polynomials.{narrow};
+ghost use Rattle.ap_poly.specs.Elimination.{gcd, multiplier, mixed};
+ghost use Rattle.ap_linear.specs.Steps.{mix};
+ghost use Rattle.ap_linear.specs.Ranked.{sum_of, times, sum_of_two, sums_of, constant_of, summed, combined, meeting};
 
-use crate::rows::Row;
+use crate::rows::{Ranked, head, tail};
 use ap_list::{NoMemory, Seq};
-use ap_poly::{Poly, add, scale};
 use std::alloc::Global;
 
 /// The greatest common divisor, by Euclid's steps.
@@ -83,9 +84,127 @@ fn mixed(
     Ok(Some(by))
 }
 
-/// So many of one row and so many of another. `None` where a number leaves its type.
-fn combined(alloc: Global, k: u128, p: &Row, l: u128, q: &Row) -> Result<Option<Row>, NoMemory>
-    ensures { IfOk result (λ o. o ≡ combined k p.now l q.now) }
+/// The product, where 128 bits hold it.
+fn narrow_product(m: i128, n: i128) -> Option<i128>
+    ensures { result ≡ narrow (m *ℤ n) }
+{
+    m.checked_mul(n)
+}
+
+/// A coefficient so many times, of which 0 stays. `None` where it leaves 128 bits.
+fn times(k: u64, c: i128) -> Option<i128>
+    ensures { result ≡ times k c }
+{
+    if c == 0 {
+        Some(0)
+    } else {
+        narrow_product(i128::from(k), c)
+    }
+}
+
+/// The sum, where 128 bits hold it.
+fn narrow_sum(m: i128, n: i128) -> Option<i128>
+    ensures { result ≡ narrow (m +ℤ n) }
+{
+    m.checked_add(n)
+}
+
+/// The sum, of which 0 is no side. `None` where it leaves 128 bits.
+fn sum_of(a: i128, b: i128) -> Option<i128>
+    ensures { result ≡ sum_of a b }
+{
+    if a == 0 {
+        return Some(b);
+    }
+    if b == 0 {
+        return Some(a);
+    }
+    narrow_sum(a, b)
+}
+
+/// So many of one coefficient and so many of another. `None` where a number leaves 128 bits.
+fn sum_of_two(k: u64, a: i128, l: u64, b: i128) -> Option<i128>
+    ensures { result ≡ sum_of_two k a l b }
+{
+    let first = times(k, a)?;
+    let second = times(l, b)?;
+    sum_of(first, second)
+}
+
+/// So many of one constant and so many of another. `None` where a number leaves 128 bits.
+fn constant_of(k: u64, a: i128, l: u64, b: i128) -> Option<i128>
+    ensures { result ≡ constant_of k a l b }
+{
+    let first = narrow_product(i128::from(k), a)?;
+    let second = narrow_product(i128::from(l), b)?;
+    narrow_sum(first, second)
+}
+
+/// So many of the first coefficients and so many of the second, of so many atoms. `None` where a number leaves 128 bits.
+fn sums_of(
+    alloc: Global,
+    atoms: usize,
+    k: u64,
+    xs: &[i128],
+    l: u64,
+    ys: &[i128],
+) -> Result<Option<Seq<i128>>, NoMemory>
+    ensures { IfOk result (λ o. o ≡ sums_of atoms k xs.now l ys.now) }
+{
+    let mut out = Seq::with_capacity(alloc, atoms)?;
+    let mut count = atoms;
+    let mut left = xs;
+    let mut right = ys;
+    while count > 0 {
+        let Some(c) = sum_of_two(k, head(left), l, head(right)) else {
+            return Ok(None);
+        };
+        out.push(c)?;
+        left = tail(left);
+        right = tail(right);
+        count -= 1;
+    }
+    Ok(Some(out))
+}
+
+/// So many of one row and so many of another, of so many atoms. `None` where a number leaves its type.
+fn summed(
+    alloc: Global,
+    atoms: usize,
+    k: u64,
+    p: &Ranked,
+    l: u64,
+    q: &Ranked,
+) -> Result<Option<Ranked>, NoMemory>
+    ensures { IfOk result (λ o. o ≡ summed atoms k p.now l q.now) }
+{
+    let Some(constant) = constant_of(k, p.constant, l, q.constant) else {
+        return Ok(None);
+    };
+    let xs = p.coefficients.as_slice();
+    let Some(coefficients) = sums_of(alloc, atoms, k, xs, l, q.coefficients.as_slice())? else {
+        return Ok(None);
+    };
+    match mixed(alloc, k, p.by.as_slice(), l, q.by.as_slice())? {
+        Some(by) => Ok(Some(Ranked {
+            constant,
+            coefficients,
+            by,
+        })),
+        None => Ok(None),
+    }
+}
+
+/// The same, where the numbers are multipliers.
+fn combined(
+    alloc: Global,
+    atoms: usize,
+    k: u128,
+    p: &Ranked,
+    l: u128,
+    q: &Ranked,
+) -> Result<Option<Ranked>, NoMemory>
+    ensures { IfOk result (λ o. o ≡ combined atoms k p.now l q.now) }
 {
     let Some(k) = multiplier(k) else {
         return Ok(None);
@@ -93,53 +212,21 @@ fn combined(alloc: Global, k: u128, p: &Row, l: u128, q: &Row) -> Result<Option<
     let Some(l) = multiplier(l) else {
         return Ok(None);
     };
-    summed(alloc, k, p, l, q)
-}
-
-/// A polynomial and so many of another. `None` where a number leaves its type.
-fn added(alloc: Global, a: &Poly, l: u64, q: &Poly) -> Result<Option<Poly>, NoMemory>
-    ensures { IfOk result (λ o. o ≡ added a.now l q.now) }
-{
-    let Some(b) = scale(alloc, q, l)? else {
-        return Ok(None);
-    };
-    add(alloc, a, &b)
-}
-
-/// So many of one polynomial and so many of another. `None` where a number leaves its type.
-fn both(alloc: Global, k: u64, p: &Poly, l: u64, q: &Poly) -> Result<Option<Poly>, NoMemory>
-    ensures { IfOk result (λ o. o ≡ both k p.now l q.now) }
-{
-    let Some(a) = scale(alloc, p, k)? else {
-        return Ok(None);
-    };
-    added(alloc, &a, l, q)
-}
-
-/// The same of multipliers.
-fn summed(alloc: Global, k: u64, p: &Row, l: u64, q: &Row) -> Result<Option<Row>, NoMemory>
-    ensures { IfOk result (λ o. o ≡ summed k p.now l q.now) }
-{
-    let Some(poly) = both(alloc, k, &p.poly, l, &q.poly)? else {
-        return Ok(None);
-    };
-    match mixed(alloc, k, p.by.as_slice(), l, q.by.as_slice())? {
-        Some(by) => Ok(Some(Row { poly, by })),
-        None => Ok(None),
-    }
+    summed(alloc, atoms, k, p, l, q)
 }
 
 /// Of a coefficient of each row, taken without its sign, the least multiples in which they meet.
 pub(crate) fn meeting(
     alloc: Global,
+    atoms: usize,
     c: u128,
-    p: &Row,
+    p: &Ranked,
     d: u128,
-    q: &Row,
-) -> Result<Option<Row>, NoMemory>
+    q: &Ranked,
+) -> Result<Option<Ranked>, NoMemory>
     requires { 0 < c }
-    ensures { IfOk result (λ o. o ≡ meeting c p.now d q.now) }
+    ensures { IfOk result (λ o. o ≡ meeting atoms c p.now d q.now) }
 {
     let divisor = gcd(c, d);
-    combined(alloc, d / divisor, p, c / divisor, q)
+    combined(alloc, atoms, d / divisor, p, c / divisor, q)
 }

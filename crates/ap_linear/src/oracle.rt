@@ -1,15 +1,30 @@
 ghost use Rattle.std.specs.Prelude.{◌≡◌, IfOk, IfSome};
-ghost use Rattle.ap_poly.specs.Elimination.{lin};
+ghost use Rattle.ap_poly.specs.Elimination.{lin, atoms_of};
 ghost use Rattle.ap_poly.specs.Holding.{IsCertificate};
 
-use crate::atoms::atoms_of;
+use crate::atoms::{are_rising, atoms_of};
 use crate::eliminating::left_after;
 use crate::marks::is_hopeless;
 use crate::rows::{first_negative, rows_of};
 use ap_kernel::{LinearOracle, World};
 use ap_list::{NoMemory, Seq};
 use ap_poly::Poly;
-use std::alloc::Global;
+use ap_term::Term;
+use std::alloc::{AllocError, Global};
+
+/// The search by elimination over the ranks of the atoms. Where an atom doesn't come before the next, as never of terms
+/// in memory, which print differently, it is answered as want of memory.
+fn search(alloc: Global, atoms: &[Term], polys: &[Poly]) -> Result<Option<Seq<u64>>, NoMemory>
+    requires { atoms.now ≡ atoms_of polys.now }
+    ensures { IfOk result (λ o. o ≡ lin polys.now) }
+{
+    if !are_rising(atoms)? {
+        return Err(AllocError);
+    }
+    let rows = rows_of(alloc, atoms, polys)?;
+    let left = left_after(alloc, atoms.len(), rows)?;
+    first_negative(alloc, atoms.len(), left.as_slice())
+}
 
 /// The first certificate of polynomials: multipliers, one for each, of which the weighted sum is a negative
 /// constant. Atoms are eliminated from the greatest in the order of terms, and of the constants that are left the
@@ -25,9 +40,7 @@ pub fn refute(alloc: Global, w: &World, polys: &Seq<Poly>) -> Result<Option<Seq<
     if is_hopeless(alloc, atoms.as_slice(), polys.as_slice())? {
         return Ok(None);
     }
-    let rows = rows_of(alloc, polys.as_slice())?;
-    let left = left_after(alloc, atoms.as_slice(), rows)?;
-    first_negative(alloc, left.as_slice())
+    search(alloc, atoms.as_slice(), polys.as_slice())
 }
 
 /// The search as the kernel's oracle.

@@ -1,5 +1,5 @@
 use Rattle.std.proofs.Common.{◌≡◌, ◌≤◌, ◌++◌, length, take, subst, sym, rules, ◌∙◌}
-use Rattle.ap_poly.specs.Elimination.{without, with_positive}
+use Rattle.ap_linear.specs.Ranked.{without, with_positive}
 use Rattle.ap_linear.proofs.Walks.{take-short, take-onto}
 use Rattle.ap_linear.proofs.eliminating.eliminated.Goals as goal
 
@@ -10,5 +10,5 @@ add_with_positive-requires c =
 
 pub returns : goal.returns
 returns c =
-    let all : c.add_with_positive.new.out ≡ take 64 (take 64 (without c.args.x.now c.args.rows.now) ++ with_positive c.args.x.now c.args.rows.now c.args.rows.now) = search rules in
-    all ∙ take-onto 64 (without c.args.x.now c.args.rows.now) (with_positive c.args.x.now c.args.rows.now c.args.rows.now)
+    let all : c.add_with_positive.new.out ≡ take 64 (take 64 (without c.args.rank c.args.rows.now) ++ with_positive c.args.atoms c.args.rank c.args.rows.now c.args.rows.now) = search rules in
+    all ∙ take-onto 64 (without c.args.rank c.args.rows.now) (with_positive c.args.atoms c.args.rank c.args.rows.now c.args.rows.now)

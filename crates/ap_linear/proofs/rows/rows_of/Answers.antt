@@ -1,7 +1,7 @@
-use Rattle.std.proofs.Common.{◌≡◌, ◌+◌, ◌++◌, [], ◌∷◌, ◌-◌, suc, length, take, drop, ap, rules, arith}
+use Rattle.std.proofs.Common.{◌≡◌, ◌+◌, ◌-◌, suc, length, take, drop, ap, rules, arith}
 use Rattle.ap_poly.specs.Elimination.{rows_of}
-use Rattle.ap_linear.specs.Steps.{unit}
-use Rattle.ap_linear.proofs.Walks.{shifted-none, rest-of, rows-next}
+use Rattle.ap_linear.proofs.Walks.{shifted-none, rest-of}
+use Rattle.ap_linear.proofs.Ranks.{ranked-next}
 use Rattle.ap_linear.proofs.rows.rows_of.Goals as goal
 
 pub loop-left-init : goal.loop-left-init
@@ -16,8 +16,7 @@ loop-left-preserved c =
     let longer : suc (length rest) ≡ length left = ap length whole in
     let count = c.loop-left.invariant.count in
     let next : c.loop-left.before + 1 ≡ suc c.loop-left.before = omega arith in
-    let made : c.push.new.self ≡ c.loop-left.rows ++ record { poly = p; by = unit c.loop-left.before (length rest) } ∷ [] = search rules in
     record {
       count = omega arith;
-      rows = rows-next c.loop-left.rows c.push.new.self c.loop-left.before (c.loop-left.before + 1) p rest left (rows_of c.args.polys.now) whole next made c.loop-left.invariant.rows;
+      rows = ranked-next c.args.atoms.now c.loop-left.rows c.push.new.self c.in_ok-row.row c.loop-left.before (c.loop-left.before + 1) p rest left (rows_of c.args.polys.now) whole next (search rules) (search rules) c.loop-left.invariant.rows;
     }

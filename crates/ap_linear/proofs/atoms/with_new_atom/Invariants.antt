@@ -1,6 +1,6 @@
 use Rattle.std.proofs.Common.{◌≡◌, ◌++◌, length}
 use Rattle.ap_poly.specs.Elimination.{with_atom}
-use Rattle.ap_linear.proofs.atoms.with_atom.Given as goal
+use Rattle.ap_linear.proofs.atoms.with_new_atom.Given as goal
 
 -- the atoms so far, and those that are left with the new one
 abbrev pub invariant-loop-left : goal.invariant-loop-left
