@@ -98,7 +98,7 @@ module _ (S : Setting) where
     by_pair u (Some prim.Equal) a b n = by_equation u a b n
     by_pair u o a b n = known None n
 
-    -- what is tried on a call between 4c's equations and the rules
+    -- what is tried on a call between its equation (`equate`) and the rules
     abbrev pub by_arithmetic : Symbol → List Term → By (Option Term)
     by_arithmetic f (a ∷ b ∷ []) n = by_pair (Call f (a ∷ b ∷ [])) (prim_of f) a b n
     by_arithmetic f us n = known None n

@@ -3,7 +3,6 @@ pub mod Formed
 pub mod Scoped
 pub mod Named
 pub mod Sides
-pub mod Worded
 pub mod RowsHold
 pub mod Cutting
 pub mod TypesHold

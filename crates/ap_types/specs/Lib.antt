@@ -1,5 +1,4 @@
 pub mod Scopes
 pub mod Settings
 pub mod Laws
-pub mod Words
 pub mod Sides

@@ -24,6 +24,8 @@ pub(crate) struct Own<'a> {
 pub(crate) struct Setting<'a, 'w> {
     pub(crate) alloc: Global,
     pub(crate) w: &'w World,
+    /// The facts that the term is asked under.
+    pub(crate) base: &'a [(Term, bool)],
     pub(crate) own: Option<Own<'a>>,
 }
 

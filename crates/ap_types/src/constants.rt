@@ -36,7 +36,7 @@ fn is_true_list(v: &Value) -> bool
 }
 
 /// The type of an integer.
-pub(crate) fn int_kind(n: i128) -> Kind
+fn int_kind(n: i128) -> Kind
     ensures { result ≡ int_kind n }
 {
     if n == 0 {

@@ -1,4 +1,4 @@
-ghost use Rattle.std.specs.Prelude.{◌≡◌, map};
+ghost use Rattle.std.specs.Prelude.{◌≡◌};
 ghost use Rattle.ap_value.specs.Values.{val_of};
 ghost use Rattle.ap_term.specs.declared.term.Term.{out-Term};
 ghost use Rattle.ap_term.specs.Equal.{term_eq};
@@ -6,12 +6,10 @@ ghost use Rattle.ap_world.specs.Primitives.{prim_of};
 ghost use Rattle.ap_world.specs.Shapes.{shape_of};
 ghost use Rattle.ap_world.specs.Narrowing.{signed, by_itself, by_recogniser, by_kind, by_pair, by_parts, leaves, cut};
 ghost use Rattle.ap_types.specs.Sides.{by_value, by_side};
-ghost use Rattle.ap_types.specs.Words.{word, targets};
 
 use crate::constants::{is_zero_value, kind_of};
 use crate::kinds::{ALL, NIL, bit, without};
 use crate::rows::{is_single, recognised};
-use crate::words::{FactWords, have};
 use ap_kernel::is_same;
 use ap_term::Term;
 use ap_value::{Symbol, Value};
@@ -128,41 +126,13 @@ fn leaves(t: &Term, fact: &Term, sign: bool) -> u16
     by_itself(t, fact, sign) & by_parts(t, sign, fact)
 }
 
-/// What a fact leaves, of which the words are known: all types where it says nothing of a term of this word.
-fn leaves_by(words: &FactWords, t: &Term, here: u64, fact: &Term, sign: bool) -> u16
-    requires words { words.now ≡ targets fact.now }
-    requires here { here ≡ word t.now }
-    ensures { result ≡ leaves t.now fact.now sign }
-{
-    if have(words, here) {
-        leaves(t, fact, sign)
-    } else {
-        ALL
-    }
-}
-
-/// A mask of a term cut by the facts on it. Those alone are compared with the term that have its word.
-pub(crate) fn cut(
-    facts: &[(Term, bool)],
-    words: &[FactWords],
-    t: &Term,
-    here: u64,
-    mask: u16,
-) -> u16
-    requires words { words.now ≡ map (λ p. targets p.0) facts.now }
-    requires here { here ≡ word t.now }
+/// A mask of a term cut by the facts on it.
+pub(crate) fn cut(facts: &[(Term, bool)], t: &Term, mask: u16) -> u16
     ensures { result ≡ cut facts.now t.now mask }
 {
     let mut out = mask;
-    let mut left = words;
     for (fact, sign) in facts {
-        match left {
-            [first, rest @ ..] => {
-                out = out & leaves_by(first, t, here, fact, *sign);
-                left = rest;
-            }
-            [] => out = out & leaves(t, fact, *sign),
-        }
+        out = out & leaves(t, fact, *sign);
     }
     out
 }

@@ -30,6 +30,7 @@ fn body_types(
     let setting = Setting {
         alloc,
         w,
+        base: &[],
         own: Some(Own { name, mask }),
     };
     types_at(&setting, &mut nothing, body)

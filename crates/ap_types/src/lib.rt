@@ -4,7 +4,7 @@
 //! [`types_of`] answers exactly the table of types (`specs/Rows.antt`, `specs/Narrowing.antt`,
 //! `specs/Typing.antt`), and that mask holds: wherever the facts hold, the type of the term's value is in
 //! it. [`Types`] is the kernel's oracle by it. [`kept_mask`] answers the mask that a function keeps when it
-//! is added to a world: the first that its body gives back as it was, in eleven rounds from the empty mask.
+//! is added to a world: the least that its body gives back.
 #![tactic(auto)]
 
 mod calls;
@@ -16,10 +16,8 @@ pub mod laws;
 mod oracle;
 mod rows;
 mod rules;
-mod scope;
 mod scopes;
 mod typing;
-mod words;
 
 pub use ap_kernel::{Ctx, TypeOracle};
 pub use ap_list::NoMemory;

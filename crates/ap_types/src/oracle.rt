@@ -7,7 +7,6 @@ ghost use Rattle.ap_kernel.specs.Standing.{HasGround};
 ghost use Rattle.ap_kernel.specs.Masks.{MaskHolds};
 
 use crate::calls::Setting;
-use crate::scope::Scope;
 use crate::typing::types_at;
 use ap_kernel::{Ctx, TypeOracle};
 use ap_list::{NoMemory, Seq};
@@ -32,10 +31,10 @@ pub fn types_of(alloc: Global, w: &World, ctx: &Ctx, t: &Term) -> Result<Mask, N
     let setting = Setting {
         alloc,
         w,
+        base: ctx.facts(),
         own: None,
     };
     let mut scopes = Seq::new(alloc);
-    scopes.push(Scope::of(alloc, ctx.share()?)?)?;
     Ok(Mask(types_at(&setting, &mut scopes, t)?))
 }
 

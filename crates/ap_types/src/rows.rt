@@ -8,22 +8,15 @@ ghost use Rattle.ap_world.specs.Rows.{recognised, tested, test_types, plus_row, 
 use crate::constants::is_list_name;
 use crate::kinds::{ALL, NIL, T, bit, kinds, meets, sign_bit, sign_of, without};
 use ap_term::Term;
-use ap_value::Symbol;
+use ap_value::{Symbol, is_named};
 use ap_world::{Kind, Primitive, Sign};
-
-/// Whether bytes are those of a name. Names of another length aren't looked at.
-fn is_bytes(bytes: &[u8], name: &[u8]) -> bool
-    ensures { result ≡ bytes_eq bytes.now name.now }
-{
-    bytes.len() == name.len() && bytes == name
-}
 
 /// What stands beside the bytes in a table.
 fn find_bytes(bytes: &[u8], table: &[(&'static [u8], u16)]) -> Option<u16>
     ensures { result ≡ lookup_by bytes_eq (map (λ p. (p.0.now, p.1)) table.now) bytes.now }
 {
     for (name, mask) in table {
-        if is_bytes(bytes, name) {
+        if bytes == *name {
             return Some(*mask);
         }
     }
@@ -58,21 +51,14 @@ pub(crate) fn recognised(name: &Symbol) -> Option<u16>
 }
 
 /// The types for which a call of this name gives `t`, where it tests types.
+#[tactic(auto, unfolding(ap_world::specs::Names::not_name))]
 pub(crate) fn tested(name: &Symbol) -> Option<u16>
     ensures { result ≡ tested name.now }
 {
-    find_named(
-        name,
-        &[
-            (b"NOT", 8),
-            (b"CONSP", 64 + 128),
-            (b"INTEGERP", 1 + 2 + 4),
-            (b"SYMBOLP", 8 + 16 + 32),
-            (b"STRINGP", 256),
-            (b"CHARACTERP", 512),
-            (b"TRUE-LISTP", 8 + 64),
-        ],
-    )
+    if is_named(name, b"NOT") {
+        return Some(NIL);
+    }
+    recognised(name)
 }
 
 /// `t` where the mask has a type that is tested for, `nil` where it has another.

@@ -5,37 +5,38 @@ ghost use Rattle.ap_world.specs.Assume.{assume};
 ghost use Rattle.ap_world.specs.Kinds.{if_so};
 ghost use Rattle.ap_world.specs.Narrowing.{cut};
 ghost use Rattle.ap_world.specs.Typing.{if_parts, call_types, head_types, types_by, chosen_types};
-ghost use Rattle.ap_types.specs.Scopes.{entered};
+ghost use Rattle.ap_types.specs.Scopes.{in_scope};
 ghost use Rattle.ap_types.specs.Settings.{types_in};
 
 use crate::calls::{Setting, call_types};
 use crate::constants::kind_of;
 use crate::kinds::{ALL, NIL, bit, meets, without};
-use crate::scope::Scope;
 use crate::scopes::{cut_by_each, enter};
+use ap_kernel::Ctx;
 use ap_list::{NoMemory, Seq};
 use ap_term::Term;
 use ap_value::Symbol;
 use ap_world::{Primitive, primitive_of};
 
-/// The types of a term under the facts of the scopes. On the way scopes are added and taken away again.
+/// The types of a term under the setting's facts and those of the contexts. On the way contexts are added and taken
+/// away again.
 #[cycle(typing)]
 pub(crate) fn types_at(
     s: &Setting<'_, '_>,
-    scopes: &mut Seq<Scope>,
+    scopes: &mut Seq<Ctx>,
     t: &Term,
 ) -> Result<u16, NoMemory>
-    ensures is { IfOk result (λ m. m ≡ types_by (types_in s.now.w.now s.now.own) t.now (entered scopes.old)) }
+    ensures is { IfOk result (λ m. m ≡ types_by (types_in s.now.w.now s.now.own) t.now (in_scope s.now.base.now scopes.old)) }
     ensures scopes { OnOk result (scopes.new ≡ scopes.old) }
 {
     let mask = form_types(s, scopes, t)?;
-    Ok(cut_by_each(scopes.as_slice(), t, mask))
+    Ok(cut_by_each(s.base, scopes.as_slice(), t, mask))
 }
 
 /// The types of a term by its form; the facts on the term itself cut them.
 #[cycle(typing)]
-fn form_types(s: &Setting<'_, '_>, scopes: &mut Seq<Scope>, t: &Term) -> Result<u16, NoMemory>
-    ensures is { IfOk result (λ m. cut (entered scopes.old) t.now m ≡ types_by (types_in s.now.w.now s.now.own) t.now (entered scopes.old)) }
+fn form_types(s: &Setting<'_, '_>, scopes: &mut Seq<Ctx>, t: &Term) -> Result<u16, NoMemory>
+    ensures is { IfOk result (λ m. cut (in_scope s.now.base.now scopes.old) t.now m ≡ types_by (types_in s.now.w.now s.now.own) t.now (in_scope s.now.base.now scopes.old)) }
     ensures scopes { OnOk result (scopes.new ≡ scopes.old) }
 {
     match t {
@@ -59,11 +60,11 @@ fn if_parts(p: Option<Primitive>, ts: &[Term]) -> Option<(&Term, &Term, &Term)>
 #[cycle(typing)]
 fn head_types(
     s: &Setting<'_, '_>,
-    scopes: &mut Seq<Scope>,
+    scopes: &mut Seq<Ctx>,
     f: &Symbol,
     ts: &[Term],
 ) -> Result<u16, NoMemory>
-    ensures is { IfOk result (λ m. m ≡ head_types (types_in s.now.w.now s.now.own) f.now (prim_of f.now) (map (λ u. (u, types_by (types_in s.now.w.now s.now.own) u)) ts.now) (entered scopes.old)) }
+    ensures is { IfOk result (λ m. m ≡ head_types (types_in s.now.w.now s.now.own) f.now (prim_of f.now) (map (λ u. (u, types_by (types_in s.now.w.now s.now.own) u)) ts.now) (in_scope s.now.base.now scopes.old)) }
     ensures scopes { OnOk result (scopes.new ≡ scopes.old) }
 {
     let p = primitive_of(f);
@@ -78,13 +79,13 @@ fn head_types(
 #[cycle(typing)]
 fn call_of_one(
     s: &Setting<'_, '_>,
-    scopes: &mut Seq<Scope>,
+    scopes: &mut Seq<Ctx>,
     f: &Symbol,
     p: Option<Primitive>,
     ts: &[Term],
     a: &Term,
 ) -> Result<u16, NoMemory>
-    ensures is { IfOk result (λ m. m ≡ call_types (types_in s.now.w.now s.now.own) f.now p ts.now (types_by (types_in s.now.w.now s.now.own) a.now (entered scopes.old) ∷ [])) }
+    ensures is { IfOk result (λ m. m ≡ call_types (types_in s.now.w.now s.now.own) f.now p ts.now (types_by (types_in s.now.w.now s.now.own) a.now (in_scope s.now.base.now scopes.old) ∷ [])) }
     ensures scopes { OnOk result (scopes.new ≡ scopes.old) }
 {
     let mask = types_at(s, scopes, a)?;
@@ -95,14 +96,14 @@ fn call_of_one(
 #[cycle(typing)]
 fn call_of_two(
     s: &Setting<'_, '_>,
-    scopes: &mut Seq<Scope>,
+    scopes: &mut Seq<Ctx>,
     f: &Symbol,
     p: Option<Primitive>,
     ts: &[Term],
     a: &Term,
     b: &Term,
 ) -> Result<u16, NoMemory>
-    ensures is { IfOk result (λ m. m ≡ call_types (types_in s.now.w.now s.now.own) f.now p ts.now (types_by (types_in s.now.w.now s.now.own) a.now (entered scopes.old) ∷ types_by (types_in s.now.w.now s.now.own) b.now (entered scopes.old) ∷ [])) }
+    ensures is { IfOk result (λ m. m ≡ call_types (types_in s.now.w.now s.now.own) f.now p ts.now (types_by (types_in s.now.w.now s.now.own) a.now (in_scope s.now.base.now scopes.old) ∷ types_by (types_in s.now.w.now s.now.own) b.now (in_scope s.now.base.now scopes.old) ∷ [])) }
     ensures scopes { OnOk result (scopes.new ≡ scopes.old) }
 {
     let first = types_at(s, scopes, a)?;
@@ -114,12 +115,12 @@ fn call_of_two(
 #[cycle(typing)]
 fn other_call(
     s: &Setting<'_, '_>,
-    scopes: &mut Seq<Scope>,
+    scopes: &mut Seq<Ctx>,
     f: &Symbol,
     p: Option<Primitive>,
     ts: &[Term],
 ) -> Result<u16, NoMemory>
-    ensures is { IfOk result (λ m. m ≡ head_types (types_in s.now.w.now s.now.own) f.now p (map (λ u. (u, types_by (types_in s.now.w.now s.now.own) u)) ts.now) (entered scopes.old)) }
+    ensures is { IfOk result (λ m. m ≡ head_types (types_in s.now.w.now s.now.own) f.now p (map (λ u. (u, types_by (types_in s.now.w.now s.now.own) u)) ts.now) (in_scope s.now.base.now scopes.old)) }
     ensures scopes { OnOk result (scopes.new ≡ scopes.old) }
 {
     match if_parts(p, ts) {
@@ -135,12 +136,12 @@ fn other_call(
 #[cycle(typing)]
 fn if_types(
     s: &Setting<'_, '_>,
-    scopes: &mut Seq<Scope>,
+    scopes: &mut Seq<Ctx>,
     a: &Term,
     b: &Term,
     c: &Term,
 ) -> Result<u16, NoMemory>
-    ensures is { IfOk result (λ m. m ≡ chosen_types (types_by (types_in s.now.w.now s.now.own) a.now (entered scopes.old)) (types_by (types_in s.now.w.now s.now.own) b.now (assume (entered scopes.old) a.now true)) (types_by (types_in s.now.w.now s.now.own) c.now (assume (entered scopes.old) a.now false))) }
+    ensures is { IfOk result (λ m. m ≡ chosen_types (types_by (types_in s.now.w.now s.now.own) a.now (in_scope s.now.base.now scopes.old)) (types_by (types_in s.now.w.now s.now.own) b.now (assume (in_scope s.now.base.now scopes.old) a.now true)) (types_by (types_in s.now.w.now s.now.own) c.now (assume (in_scope s.now.base.now scopes.old) a.now false))) }
     ensures scopes { OnOk result (scopes.new ≡ scopes.old) }
 {
     let test = types_at(s, scopes, a)?;
@@ -154,13 +155,13 @@ fn if_types(
 #[cycle(typing)]
 fn types_under(
     s: &Setting<'_, '_>,
-    scopes: &mut Seq<Scope>,
+    scopes: &mut Seq<Ctx>,
     chosen: bool,
     test: &Term,
     sign: bool,
     t: &Term,
 ) -> Result<u16, NoMemory>
-    ensures is { IfOk result (λ m. m ≡ if_so chosen (types_by (types_in s.now.w.now s.now.own) t.now (assume (entered scopes.old) test.now sign))) }
+    ensures is { IfOk result (λ m. m ≡ if_so chosen (types_by (types_in s.now.w.now s.now.own) t.now (assume (in_scope s.now.base.now scopes.old) test.now sign))) }
     ensures scopes { OnOk result (scopes.new ≡ scopes.old) }
 {
     if !chosen {
@@ -175,8 +176,8 @@ fn types_under(
 
 /// The masks of a call's arguments.
 #[cycle(typing)]
-fn masks_of(s: &Setting<'_, '_>, scopes: &mut Seq<Scope>, ts: &[Term]) -> Result<Seq<u16>, NoMemory>
-    ensures is { IfOk result (λ ms. ms ≡ map (λ u. types_by (types_in s.now.w.now s.now.own) u (entered scopes.old)) ts.now) }
+fn masks_of(s: &Setting<'_, '_>, scopes: &mut Seq<Ctx>, ts: &[Term]) -> Result<Seq<u16>, NoMemory>
+    ensures is { IfOk result (λ ms. ms ≡ map (λ u. types_by (types_in s.now.w.now s.now.own) u (in_scope s.now.base.now scopes.old)) ts.now) }
     ensures scopes { OnOk result (scopes.new ≡ scopes.old) }
 {
     let mut masks = Seq::new(s.alloc);

@@ -5,5 +5,5 @@ use Rattle.ap_types.proofs.scopes.enter.Goals as goal
 
 pub returns-clause-facts : goal.returns-clause-facts
 returns-clause-facts c =
-    let is : c.in_ok-scope.scope.ctx.0 ≡ assume [] c.args.test.now c.args.sign = search rules in
+    let is : c.in_ok-scope.scope.0 ≡ assume [] c.args.test.now c.args.sign = search rules in
     one_entered c.push.result c.args.scopes.now c.push.new.self c.in_ok-scope.scope c.args.test.now c.args.sign is c.push.ensures.ok

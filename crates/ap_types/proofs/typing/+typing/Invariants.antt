@@ -1,7 +1,7 @@
 use Rattle.std.proofs.Common.{◌≡◌, ◌+◌, ◌*◌, take, map}
 use Rattle.ap_list.specs.Lists.{sum_of}
 use Rattle.ap_term.specs.Terms.{term_size}
-use Rattle.ap_types.specs.Scopes.{entered}
+use Rattle.ap_types.specs.Scopes.{in_scope}
 use Rattle.ap_types.specs.Settings.{types_in}
 use Rattle.ap_world.specs.Typing.{types_by}
 use Rattle.ap_types.proofs.typing.+typing.Given as goal
@@ -34,9 +34,9 @@ decreases-types_under l = 8 * term_size l.t.now + 4
 abbrev pub decreases-masks_of : goal.decreases-masks_of
 decreases-masks_of l = 8 * sum_of (map term_size l.ts.now) + 5
 
--- the masks of those so far, the scopes as they were
+-- the masks of those so far, the contexts as they were
 abbrev pub invariant-masks_of-loop-t : goal.invariant-masks_of-loop-t
 invariant-masks_of-loop-t l = record {
-  masks : l.masks ≡ map (λ u. types_by (types_in l.s.w.now l.s.own) u (entered l.fn.scopes)) (take l.t-index l.ts);
+  masks : l.masks ≡ map (λ u. types_by (types_in l.s.w.now l.s.own) u (in_scope l.s.base.now l.fn.scopes)) (take l.t-index l.ts);
   scopes : l.scopes ≡ l.fn.scopes;
 }
