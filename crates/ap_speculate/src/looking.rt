@@ -11,12 +11,12 @@ fn look_at(seat: &mut AncestorSeat) -> Option<License>
     ensures looked { IfNone result (LookedOn 1 seat.old seat.new) }
     ensures dropped { IfSome result (λ l. ReadBelow l seat.new) }
 {
-    let found = seat.word.look(&mut seat.seat);
-    if found >= seat.place as u64 {
+    let found = seat.look();
+    if found >= seat.place() as u64 {
         return None;
     }
     Some(License {
-        family: seat.family,
+        family: seat.family(),
         index: found as u32,
     })
 }

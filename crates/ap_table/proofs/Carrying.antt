@@ -5,12 +5,11 @@ use Rattle.ap_list.specs.Lists.{Each}
 use Rattle.ap_walk.specs.declared.act.Stepped.{Stepped}
 use Rattle.ap_walk.specs.declared.rule.Rule.{Rule}
 use Rattle.ap_walk.specs.Visits.{out_children}
-use Rattle.ap_word.specs.declared.family.View.{View}
 use Rattle.ap_word.specs.Words.{made}
 use Rattle.ap_table.specs.Core.{Node, free, root, children, replay_from}
 use Rattle.ap_table.specs.Shown.{Run, turns, nodes_of}
-use Rattle.ap_table.specs.Calls.{longer, NodeClaims, NodeGrows, NodePuts, NodeDrops, IsNodeJob, CanGrow, CanStill, IsLicense}
-use Rattle.ap_table.specs.Steps.{node_job, AreSeats, IsJob, Claims, Grows, Puts, Drops}
+use Rattle.ap_table.specs.Calls.{longer, NodeClaims, NodeClaimsAt, NodeGrows, NodePuts, NodeDrops, IsNodeJob, CanGrow, CanStill, IsLicense}
+use Rattle.ap_table.specs.Steps.{node_job, AreSeats, IsJob, Claims, ClaimsAt, Grows, Puts, Drops}
 use Rattle.ap_table.specs.declared.link.License.{License}
 use Rattle.ap_table.specs.declared.stored.Entry.TheVariants as entry
 use Rattle.ap_table.specs.declared.stored.Job.{Job}
@@ -23,6 +22,7 @@ use Rattle.ap_table.specs.declared.stored.NodeGrown.TheVariants as node_grown
 use Rattle.ap_table.specs.declared.stored.NodeTaken.TheVariants as node_taken
 use Rattle.ap_table.specs.declared.seats.AncestorSeat.{AncestorSeat}
 use Rattle.ap_table.specs.declared.seats.Beside.{Beside}
+use Rattle.ap_table.specs.Kept.{Kept}
 use Rattle.ap_table.specs.Seated.{amend, without_job, with_kept, AreRows, IsMark, true_family, SeatsFor, AreSeated}
 use Rattle.ap_table.proofs.Keeping.{some_is}
 use Rattle.ap_table.proofs.Sitting.{is_there, is_below}
@@ -60,6 +60,17 @@ module _ {T : Type 0} (step : T → Stepped T) (depth : T → ℕ) where
       let seats = subst (λ (x : List AncestorSeat). SeatsFor step depth r.rule (nodes_of step depth r) first.node.path x) (some_is f.1 ss (sym f.3 ∙ has f.0 f.2)) f.4 in
       subst (λ (j : Job T). Claims step depth old new (claim.Found j)) (sym is)
       (subst (λ (x : Run T). Claims step depth x new (claim.Found (whole q ss))) ro (d, (first.node, first.at, seats)))
+
+  -- the same of a node that was claimed by its number
+  pub found_at : (old new r : Run T) (bs : List Beside) (k : ℕ) (q : NodeJob T) (ss : List AncestorSeat) (job : Job T) → r ≡ old → NodeClaimsAt step depth r new k (node_claim.Found q) → AreSeated step depth r.rule (nodes_of step depth r) bs
+      → ((b : Beside) → slice_get bs q.node ≡ Some b → b.job ≡ Some ss) → job ≡ whole q ss → ClaimsAt step depth old new k (claim.Found job)
+  found_at old new r bs k q ss job ro d s has is =
+      let n = d.3 in
+      let at = ap (slice_get (nodes_of step depth r)) d.1 ∙ n.1 in
+      let f = free_seats r.rule (nodes_of step depth r) bs q.node n.0 s at n.2 in
+      let seats = subst (λ (x : List AncestorSeat). SeatsFor step depth r.rule (nodes_of step depth r) n.0.path x) (some_is f.1 ss (sym f.3 ∙ has f.0 f.2)) f.4 in
+      subst (λ (j : Job T). ClaimsAt step depth old new k (claim.Found j)) (sym is)
+      (subst (λ (x : Run T). ClaimsAt step depth x new k (claim.Found (whole q ss))) ro (d, (n.0, at, seats)))
 
   pub after_drop : (r r' : Run T) (bs : List Beside) (k : ℕ) (l : License) → r' ≡ longer r (entry.Dropped k l) → AreSeated step depth r.rule (nodes_of step depth r) bs → AreSeated step depth r'.rule (nodes_of step depth r') bs
   after_drop r r' bs k l is s = subst (λ (x : Run T). AreSeated step depth x.rule (nodes_of step depth x) bs) (sym is) (dropped_seats step depth r bs k l s)
@@ -137,8 +148,8 @@ module _ {T : Type 0} (step : T → Stepped T) (depth : T → ℕ) where
       let here = d.3 in
       subst (λ (xs : List Beside). family < length xs) (sym eb) (omega arith)
 
-  pub after_expand : (r r' : Run T) (bs bs' cs : List Beside) (job : Job T) (p : NodeJob T) (stepped : Stepped T) (own : View) (rows : List Beside) (family first count : ℕ) → NodeGrows step depth r r' p stepped (node_grown.Family family first count) → p ≡ node_job job
-      → stepped ≡ step job.task → length rows ≡ length (out_children stepped.out) → own ≡ made (true_family step depth job.rule job.task)
+  pub after_expand : (r r' : Run T) (bs bs' cs : List Beside) (job : Job T) (p : NodeJob T) (stepped : Stepped T) (own : Kept) (rows : List Beside) (family first count : ℕ) → NodeGrows step depth r r' p stepped (node_grown.Family family first count) → p ≡ node_job job
+      → stepped ≡ step job.task → length rows ≡ length (out_children stepped.out) → own.view ≡ made (true_family step depth job.rule job.task)
       → ((n : Node T) → slice_get (nodes_of step depth r) job.node ≡ Some n → AreRows bs n.path job.node own rows) → bs' ≡ bs → cs ≡ amend bs' family (with_kept own) ++ rows
       → AreSeated step depth r.rule (nodes_of step depth r) bs → AreSeated step depth r'.rule (nodes_of step depth r') cs
   after_expand r r' bs bs' cs job p stepped own rows family first count d ep st long is are eb ec s =
@@ -148,7 +159,7 @@ module _ {T : Type 0} (step : T → Stepped T) (depth : T → ℕ) where
       let task : job.task ≡ n.task = sym (ap (λ (q : NodeJob T). q.task) ep) ∙ d.1.1.3 in
       let rule : job.rule ≡ r.rule = sym (ap (λ (q : NodeJob T). q.rule) ep) ∙ d.1.0 in
       let at : slice_get ns job.node ≡ Some n = ap (slice_get ns) (sym node) ∙ d.1.1.1 in
-      let own_is : own ≡ made (true_family step depth r.rule n.task) = is ∙ (ap (λ (x : Rule). made (true_family step depth x job.task)) rule ∙ ap (λ (t : T). made (true_family step depth r.rule t)) task) in
+      let own_is : own.view ≡ made (true_family step depth r.rule n.task) = is ∙ (ap (λ (x : Rule). made (true_family step depth x job.task)) rule ∙ ap (λ (t : T). made (true_family step depth r.rule t)) task) in
       let many : length rows ≡ length (children step depth r.rule n.task) = long ∙ (ap (λ (x : Stepped T). length (out_children x.out)) st ∙ ap (λ (t : T). length (out_children (step t).out)) task) in
       let seats = expanded_seats step depth r bs job.node n own rows at own_is (are n at) many s in
       let here : cs ≡ amend bs job.node (with_kept own) ++ rows = ec ∙ (ap (λ (xs : List Beside). amend xs family (with_kept own) ++ rows) eb ∙ ap (λ (k : ℕ). amend bs k (with_kept own) ++ rows) (d.3 ∙ node)) in

@@ -2,16 +2,16 @@
 use Rattle.std.proofs.Common.{◌≡◌, ℕ, zero, suc, ◌+◌, ◌≤◌, List, [], ◌∷◌, ◌++◌, Some, None, length, take, refl, sym, ap, subst, ◌∙◌, arith, inl, inr, length-append}
 use Rattle.std.proofs.lemmas.Bool.{cases_lt}
 use Rattle.std.specs.List.{slice_get}
-use Rattle.ap_word.specs.declared.family.View.{View}
 use Rattle.ap_table.specs.declared.link.Link.{Link}
 use Rattle.ap_table.specs.declared.seats.AncestorSeat.{AncestorSeat}
 use Rattle.ap_table.specs.declared.seats.Beside.{Beside}
+use Rattle.ap_table.specs.Kept.{Kept}
 use Rattle.ap_table.specs.Seated.{IsCut, kept_at, AreCut, AreRows}
 use Rattle.ap_table.proofs.Keeping.{some_is}
 use Rattle.ap_table.proofs.Sitting.{at_left, at_right, is_below}
 
 abbrev CutFrom : List Beside → Link → AncestorSeat → Type 0
-CutFrom bs l s = (v : View) × (kept_at bs l.family ≡ Some v) × IsCut v l s
+CutFrom bs l s = (v : Kept) × (kept_at bs l.family ≡ Some v) × IsCut v l s
 
 cut_none : (bs : List Beside) (j : ℕ) (ls : List Link) (ss : List AncestorSeat) → j ≡ 0 → AreCut bs [] ss → AreCut bs (take j ls) ss
 cut_none bs zero ls ss e a = a
@@ -42,11 +42,11 @@ pub cut_every : (bs : List Beside) (i : ℕ) (ls : List Link) (first : AncestorS
     → (rest : List AncestorSeat) × (cut ≡ first ∷ rest) × AreCut bs ls rest
 cut_every bs i ls first cut h a = (a.0, a.1, cut_whole bs i ls a.0 h a.2)
 
-pub no_rows : (bs : List Beside) (path : List Link) (family : ℕ) (own : View) (rows : List Beside) → rows ≡ [] → AreRows bs path family own rows
+pub no_rows : (bs : List Beside) (path : List Link) (family : ℕ) (own : Kept) (rows : List Beside) → rows ≡ [] → AreRows bs path family own rows
 no_rows bs path family own [] e i b at = absurd (cc)
 no_rows bs path family own (x ∷ xs) e i b at = absurd (cc)
 
-pub row_next : (bs : List Beside) (path : List Link) (family : ℕ) (own : View) (rows new : List Beside) (place : ℕ) (s : AncestorSeat) (job : List AncestorSeat) (b : Beside)
+pub row_next : (bs : List Beside) (path : List Link) (family : ℕ) (own : Kept) (rows new : List Beside) (place : ℕ) (s : AncestorSeat) (job : List AncestorSeat) (b : Beside)
     → length rows ≡ place → new ≡ rows ++ b ∷ [] → b.kept ≡ None → b.job ≡ Some job → IsCut own (record { family = family; place = place }) s
     → ((rest : List AncestorSeat) × (job ≡ s ∷ rest) × AreCut bs path rest) → AreRows bs path family own rows → AreRows bs path family own new
 row_next bs path family own rows new place s job b long is none has cut rest all i c at =

@@ -16,6 +16,7 @@ pub mod Moving
 pub mod Finding
 pub mod Sitting
 pub mod Cutting
+pub mod Once
 pub mod Wording
 pub mod Carrying
 pub mod Totals

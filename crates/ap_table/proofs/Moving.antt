@@ -202,7 +202,7 @@ module _ {T : Type 0} (step : T → Stepped T) (depth : T → ℕ) where
       (words_stage [] cs k c s at (λ h. absurd (now.1 h)) t.words)
       (nomore_alter step cs k c f at refl refl (λ v h. absurd (now.2 v h)) t.puts)
 
-  free_node : (cs : List (Stored T)) (ns : List (Node T)) (k : ℕ) → AllShow step cs ns → free_at cs k ≡ true → (n : Node T) × (slice_get ns k ≡ Some n) × (n.phase ≡ free)
+  pub free_node : (cs : List (Stored T)) (ns : List (Node T)) (k : ℕ) → AllShow step cs ns → free_at cs k ≡ true → (n : Node T) × (slice_get ns k ≡ Some n) × (n.phase ≡ free)
   free_node cs ns k a e =
       let c = free_there cs k e in
       let n = shown_at step cs ns k c.0 a c.1 in
@@ -215,6 +215,11 @@ module _ {T : Type 0} (step : T → Stepped T) (depth : T → ℕ) where
       let f : stage_free c.0.stage ≡ true = free_stage n.task c.0.count w c.0.stage (subst (StageShows n.task c.0.count w c.0.stage) is c.2.stage) in
       let g : kept_free (slice_get cs k) ≡ true = ap kept_free c.1 ∙ f in
       absurd (cc)
+
+  -- one that isn't kept as free isn't free
+  pub busy_there : (cs : List (Stored T)) (ns : List (Node T)) (k : ℕ) (o : Option (Node T)) → slice_get ns k ≡ o → AllShow step cs ns → free_at cs k ≡ false → IsFree o → ⊥
+  busy_there cs ns k None at a e f = f
+  busy_there cs ns k (Some n) at a e f = busy_node cs ns k a e n at f
 
   all_busy : (cs : List (Stored T)) (ns : List (Node T)) (live : List ℕ) → AllShow step cs ns → Each (IsBusy cs) live → Each (λ x. (m : Node T) → slice_get ns x ≡ Some m → m.phase ≡ free → ⊥) (reverse live)
   all_busy cs ns live a h = each_reverse (λ x. (m : Node T) → slice_get ns x ≡ Some m → m.phase ≡ free → ⊥) live (each_map (IsBusy cs) (λ x. (m : Node T) → slice_get ns x ≡ Some m → m.phase ≡ free → ⊥) live (λ x e. busy_node cs ns x a e) h)

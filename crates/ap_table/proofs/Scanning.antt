@@ -5,6 +5,7 @@ use Rattle.ap_word.specs.declared.family.Counted.{Counted}
 use Rattle.ap_word.specs.declared.family.Numbers.{Numbers}
 use Rattle.ap_word.specs.Stops.{nothing_counted, stops, add, known_from, known_stop}
 use Rattle.ap_table.specs.Core.{counted_of, counts_of, with_kept, kept}
+use Rattle.ap_table.specs.Firsts.{AreFirst}
 use Rattle.ap_table.specs.Laws.{FrontDone, ClosesBy}
 use Rattle.ap_word.proofs.Stopping.{known_is}
 use Rattle.ap_table.proofs.Closing.{kept_step}
@@ -37,6 +38,17 @@ module _ {T : Type 0} where
         | inl k ↦ rw k.0 (subst (λ (vs : List (Walked T)). From (Some p) (Some w ∷ os) p (length vs)) k.1 (omega arith, tt))
         | inr k ↦ rw k.0 (subst (λ (vs : List (Walked T)). From (known_from n (add s (counted_of w)) (p + 1) (counts_of os)) (Some w ∷ os) p (length vs)) k.1.2
             (from_next (known_from n (add s (counted_of w)) (p + 1) (counts_of os)) w os p (length k.1.0) (kept_from n (add s (counted_of w)) (p + 1) os k.1.0 k.1.1)))
+      ]
+
+  -- what is kept are the first siblings' walks
+  pub kept_first : (n : Numbers) (s : Counted) (os : List (Option (Walked T))) (ws : List (Walked T)) → kept n s os ≡ Some ws → AreFirst os ws
+  unfolding kept
+  kept_first n s [] ws e = let x : [] ≡ ws = cc in subst (AreFirst []) x tt
+  kept_first n s (None ∷ os) ws e = absurd (cc)
+  kept_first n s (Some w ∷ os) ws e =
+      elim (kept_step (stops n (add s (counted_of w))) (kept n (add s (counted_of w)) os) w ws e) [
+        | inl k ↦ subst (AreFirst (Some w ∷ os)) k.1 (refl, tt)
+        | inr k ↦ subst (AreFirst (Some w ∷ os)) k.1.2 (refl, kept_first n (add s (counted_of w)) os k.1.0 k.1.1)
       ]
 
   none_zero : (n : Numbers) (s : Counted) (p : ℕ) (c : Option Counted) (cs : List (Option Counted)) (o : Option ℕ) (os : List (Option (Walked T))) (x : Option (Walked T)) → known_from n s p (c ∷ cs) ≡ o → From o (x ∷ os) p 0 → ⊥

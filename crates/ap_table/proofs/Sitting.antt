@@ -6,12 +6,12 @@ use Rattle.ap_walk.specs.declared.act.Stepped.{Stepped}
 use Rattle.ap_walk.specs.declared.rule.Rule.{Rule}
 use Rattle.ap_walk.specs.declared.mark.Walked.{Walked}
 use Rattle.ap_word.specs.declared.family.View.{View}
-use Rattle.ap_word.specs.Words.{marked}
 use Rattle.ap_table.specs.Core.{Phase, Node, free, claimed, expanded, put, closed, dropped, change, set_phase, parent_of, on_closed, joined_walk, kept_of, close_with, close_phase, close_node, close_up}
 use Rattle.ap_table.specs.Sound.{HasFamily}
 use Rattle.ap_table.specs.declared.link.Link.{Link}
 use Rattle.ap_table.specs.declared.seats.AncestorSeat.{AncestorSeat}
 use Rattle.ap_table.specs.declared.seats.Beside.{Beside}
+use Rattle.ap_table.specs.Kept.{Kept, kept_marked}
 use Rattle.ap_table.specs.Seated.{kept_in, kept_at, amend, without_job, marked_kept, with_mark, HasSeat, AreCut, true_family, SeatsFor, IsSeatedAt, AreSeated}
 use Rattle.ap_table.proofs.Keeping.{same_or_not, some_is, get_same, get_other, change_length}
 use Rattle.ap_table.proofs.Replay.{Keeps, change_keeps}
@@ -63,13 +63,13 @@ module _ {A : Type 0} where
   at_right (x ∷ xs) ys i zero e = absurd (omega arith)
   at_right (x ∷ xs) ys i (suc j) e = at_right xs ys i j (omega arith)
 
-pub kept_there : (o : Option Beside) (v : View) → kept_in o ≡ Some v → (b : Beside) × (o ≡ Some b) × (b.kept ≡ Some v)
+pub kept_there : (o : Option Beside) (v : Kept) → kept_in o ≡ Some v → (b : Beside) × (o ≡ Some b) × (b.kept ≡ Some v)
 kept_there None v e = absurd (cc)
 kept_there (Some b) v e = (b, refl, e)
 
 -- seats that are there stay
 abbrev pub Stay : List Beside → List Beside → Type 0
-Stay bs cs = (j : ℕ) (v : View) → kept_at bs j ≡ Some v → (w : View) × (kept_at cs j ≡ Some w)
+Stay bs cs = (j : ℕ) (v : Kept) → kept_at bs j ≡ Some v → (w : Kept) × (kept_at cs j ≡ Some w)
 
 pub each_stays : (bs cs : List Beside) (ls : List Link) → Stay bs cs → Each (HasSeat bs) ls → Each (HasSeat cs) ls
 each_stays bs cs [] s e = tt
@@ -104,8 +104,8 @@ module _ {T : Type 0} (step : T → Stepped T) (depth : T → ℕ) (rule : Rule)
 
   -- what is so of a node apart from the families above it
   pub record Alone (ns : List (Node T)) (n : Node T) (b : Beside) : Type 0 where
-    pub kept : (v : View) → b.kept ≡ Some v → (v.family ≡ true_family step depth rule n.task) × (v.low ≡ n.word)
-    pub has : HasFamily n.phase → (v : View) × (b.kept ≡ Some v)
+    pub kept : (v : Kept) → b.kept ≡ Some v → (v.view.family ≡ true_family step depth rule n.task) × (v.view.low ≡ n.word)
+    pub has : HasFamily n.phase → (v : Kept) × (b.kept ≡ Some v)
     pub job : n.phase ≡ free → (ss : List AncestorSeat) × (b.job ≡ Some ss) × SeatsFor step depth rule ns n.path ss
 
   -- a step that keeps the nodes' number keeps the seats where it does so at each node
@@ -236,13 +236,13 @@ module _ {T : Type 0} (step : T → Stepped T) (depth : T → ℕ) (rule : Rule)
       ])
       a
 
-  marked_alone : (i : ℕ) (o : Option View) (t : T) (word : ℕ) → ((v : View) → o ≡ Some v → (v.family ≡ true_family step depth rule t) × (v.low ≡ word))
-      → (v : View) → marked_kept i o ≡ Some v → (v.family ≡ true_family step depth rule t) × (v.low ≡ min word i)
+  marked_alone : (i : ℕ) (o : Option Kept) (t : T) (word : ℕ) → ((v : Kept) → o ≡ Some v → (v.view.family ≡ true_family step depth rule t) × (v.view.low ≡ word))
+      → (v : Kept) → marked_kept i o ≡ Some v → (v.view.family ≡ true_family step depth rule t) × (v.view.low ≡ min word i)
   marked_alone i None t word h v e = absurd (cc)
   marked_alone i (Some w) t word h v e =
       let k = h w refl in
-      let same = some_is (marked w i) v e in
-      (ap (λ (y : View). y.family) (sym same) ∙ k.0, ap (λ (y : View). y.low) (sym same) ∙ ap (λ (n : ℕ). min n i) k.1)
+      let same = some_is (kept_marked w i) v e in
+      (ap (λ (y : Kept). y.view.family) (sym same) ∙ k.0, ap (λ (y : Kept). y.view.low) (sym same) ∙ ap (λ (n : ℕ). min n i) k.1)
 
   -- a mark is made on the word too
   pub seated_mark : (ns : List (Node T)) (bs : List Beside) (k i : ℕ) → AreSeated step depth rule ns bs → AreSeated step depth rule (change ns k (λ x. record x { word = min x.word i })) (amend bs k (with_mark i))

@@ -18,6 +18,7 @@ use Rattle.ap_table.specs.declared.link.License.{License}
 use Rattle.ap_table.specs.declared.stored.Entry.{Entry}
 use Rattle.ap_table.specs.declared.stored.Entry.TheVariants as entry
 use Rattle.ap_table.specs.declared.seats.Beside.{Beside}
+use Rattle.ap_table.specs.Kept.{Kept}
 use Rattle.ap_table.specs.Seated.{kept_in, kept_at, amend, without_job, with_kept, with_mark, HasSeat, AreRows, IsMark, true_family, SeatsFor, IsSeatedAt, AreSeated}
 use Rattle.ap_table.proofs.Keeping.{same_or_not, some_is, get_same, get_other, change_length}
 use Rattle.ap_table.proofs.Growing.{new_at}
@@ -75,7 +76,7 @@ module _ {T : Type 0} (step : T → Stepped T) (depth : T → ℕ) where
   allowed_at rule ns (x ∷ xs) (suc k) e a at = allowed_at rule (apply step depth rule ns (turn_of x)) xs k e a.1 at
 
   can_mark : (rule : Rule) (ns : List (Node T)) (bs : List Beside) (f i : ℕ) (o : Option (Node T)) → slice_get ns f ≡ o → AreSeated step depth rule ns bs → CanMark step depth rule o i
-      → (v : View) × (kept_at bs f ≡ Some v) × IsStop v.family i
+      → (v : Kept) × (kept_at bs f ≡ Some v) × IsStop v.view.family i
   can_mark rule ns bs f i None e a m = absurd m
   can_mark rule ns bs f i (Some n) e a m =
       let low = is_below ns f n e in
@@ -86,7 +87,7 @@ module _ {T : Type 0} (step : T → Stepped T) (depth : T → ℕ) where
       (v.0, ap kept_in b.1 ∙ v.1, subst (λ g. IsStop g i) (sym (s.kept v.0 v.1).0) m.1)
 
   pub mark_can : (r : Run T) (bs : List Beside) (h : List Entry) (k : ℕ) (d : Entry) (f i : ℕ) → h ≡ r.history → AreAllowed step depth r.rule (root r.root) (turns r.history) → k < length h → get_or h k d ≡ entry.Marked f i
-      → AreSeated step depth r.rule (replay_from step depth r.rule (root r.root) (turns (take k r.history))) bs → (v : View) × (kept_at bs f ≡ Some v) × IsStop v.family i
+      → AreSeated step depth r.rule (replay_from step depth r.rule (root r.root) (turns (take k r.history))) bs → (v : Kept) × (kept_at bs f ≡ Some v) × IsStop v.view.family i
   mark_can r bs h k d f i same a low e s =
       let ns = replay_from step depth r.rule (root r.root) (turns (take k r.history)) in
       can_mark r.rule ns bs f i (slice_get ns f) refl s
@@ -199,9 +200,9 @@ module _ {T : Type 0} (step : T → Stepped T) (depth : T → ℕ) where
       }
 
   -- the node that is expanded keeps its children's seat
-  expanded_own : (rule : Rule) (ns : List (Node T)) (bs : List Beside) (k : ℕ) (n : Node T) (g : Node T → Node T) (own : View) → slice_get ns k ≡ Some n
+  expanded_own : (rule : Rule) (ns : List (Node T)) (bs : List Beside) (k : ℕ) (n : Node T) (g : Node T → Node T) (own : Kept) → slice_get ns k ≡ Some n
       → ((x : Node T) → (g x).task ≡ x.task) → ((x : Node T) → (g x).path ≡ x.path) → ((x : Node T) → (g x).word ≡ NONE) → ((x : Node T) → (g x).phase ≡ expanded)
-      → own ≡ made (true_family step depth rule n.task) → AreSeated step depth rule ns bs → AreSeated step depth rule (change ns k g) (amend bs k (with_kept own))
+      → own.view ≡ made (true_family step depth rule n.task) → AreSeated step depth rule ns bs → AreSeated step depth rule (change ns k g) (amend bs k (with_kept own))
   expanded_own rule ns bs k n g own at gt gp gw gf is a =
       let f : Beside → Beside = with_kept own in
       seated_by step depth rule ns (change ns k g) bs (amend bs k f) (change_keeps ns k g gt gp) (change_length ns k g) (amend_length bs k f)
@@ -223,7 +224,7 @@ module _ {T : Type 0} (step : T → Stepped T) (depth : T → ℕ) where
             record {
               kept = λ v e.
                   let same = some_is own v (sym kept ∙ e) in
-                  (ap (λ (y : View). y.family) (sym same ∙ is) ∙ ap (true_family step depth rule) (ap (λ (y : Node T). y.task) ism ∙ sym task), ap (λ (y : View). y.low) (sym same ∙ is) ∙ sym word);
+                  (ap (λ (y : Kept). y.view.family) (sym same) ∙ (ap (λ (y : View). y.family) is ∙ ap (true_family step depth rule) (ap (λ (y : Node T). y.task) ism ∙ sym task)), ap (λ (y : Kept). y.view.low) (sym same) ∙ (ap (λ (y : View). y.low) is ∙ sym word));
               has = λ h. (own, kept);
               job = λ h. (let z = sym phase ∙ h in absurd (cc));
             }
@@ -235,7 +236,7 @@ module _ {T : Type 0} (step : T → Stepped T) (depth : T → ℕ) where
       a
 
   -- an expansion
-  pub expanded_seats : (r : Run T) (bs : List Beside) (k : ℕ) (n : Node T) (own : View) (rows : List Beside) → slice_get (nodes_of step depth r) k ≡ Some n → own ≡ made (true_family step depth r.rule n.task)
+  pub expanded_seats : (r : Run T) (bs : List Beside) (k : ℕ) (n : Node T) (own : Kept) (rows : List Beside) → slice_get (nodes_of step depth r) k ≡ Some n → own.view ≡ made (true_family step depth r.rule n.task)
       → AreRows bs n.path k own rows → length rows ≡ length (children step depth r.rule n.task) → AreSeated step depth r.rule (nodes_of step depth r) bs
       → AreSeated step depth r.rule (nodes_of step depth (longer r (entry.Expanded k))) (amend bs k (with_kept own) ++ rows)
   expanded_seats r bs k n own rows at is are long s =
@@ -250,8 +251,8 @@ module _ {T : Type 0} (step : T → Stepped T) (depth : T → ℕ) where
       let same_length = s.long in
       let b = is_there bs k (let low = is_below ns k n at in omega arith) in
       let kept : kept_at cs k ≡ Some own = ap kept_in (amend_same bs k b.0 f b.1) in
-      let in_new : (j : ℕ) (v : View) → kept_at cs j ≡ Some v → kept_at (cs ++ rows) j ≡ Some v = λ j v e. (let c = kept_there (slice_get cs j) v e in ap kept_in (at_left cs rows j (is_below cs j c.0 c.1)) ∙ e) in
-      let stays : (j : ℕ) (v : View) → kept_at bs j ≡ Some v → (w : View) × (kept_at (cs ++ rows) j ≡ Some w) =
+      let in_new : (j : ℕ) (v : Kept) → kept_at cs j ≡ Some v → kept_at (cs ++ rows) j ≡ Some v = λ j v e. (let c = kept_there (slice_get cs j) v e in ap kept_in (at_left cs rows j (is_below cs j c.0 c.1)) ∙ e) in
+      let stays : (j : ℕ) (v : Kept) → kept_at bs j ≡ Some v → (w : Kept) × (kept_at (cs ++ rows) j ≡ Some w) =
       λ j v e.
       let c = kept_there (slice_get bs j) v e in
       elim (same_or_not j k) [

@@ -19,7 +19,7 @@ use Rattle.ap_table.specs.declared.stored.NodeTaken.TheVariants as taken
 use Rattle.ap_table.specs.Core.{Node, free, claimed, phase_walk, known_of}
 use Rattle.ap_walk.specs.declared.mark.Walked.{Walked}
 use Rattle.ap_table.specs.Order.{IsFirst}
-use Rattle.ap_table.specs.Sound.{Names}
+use Rattle.ap_table.specs.Sound.{Names, IsFree}
 use Rattle.ap_table.specs.Shown.{Run, nodes_of}
 
 -- no node is free
@@ -50,6 +50,12 @@ module _ {T : Type 0} (step : T → Stepped T) (depth : T → ℕ) where
   NodeClaims old new (claim.Found job) =
       (new ≡ longer old (entry.Claimed job.node)) × (job.rule ≡ old.rule) × ((first : IsFirst (nodes_of step depth old) job.node) × (job.task ≡ first.node.task))
   NodeClaims old new claim.Nothing = (new ≡ old) × NoneFree (nodes_of step depth old)
+
+  -- Found takes this node, which is free, and Nothing is where it isn't there or isn't free
+  abbrev pub NodeClaimsAt : Run T → Run T → ℕ → NodeClaim T → Type 0
+  NodeClaimsAt old new k (claim.Found job) =
+      (new ≡ longer old (entry.Claimed k)) × (job.node ≡ k) × (job.rule ≡ old.rule) × ((n : Node T) × (slice_get (nodes_of step depth old) k ≡ Some n) × (n.phase ≡ free) × (job.task ≡ n.task))
+  NodeClaimsAt old new k claim.Nothing = (new ≡ old) × (IsFree (slice_get (nodes_of step depth old) k) → ⊥)
 
   -- the root is done, and its task and the table's rule are these
   abbrev pub IsRootDone : Run T → T → Rule → Type 0

@@ -1,6 +1,8 @@
 pub mod Core
 pub mod Sound
 pub mod Laws
+pub mod Once
+pub mod Firsts
 pub mod Order
 pub mod Pieces
 pub mod Shown
@@ -8,6 +10,7 @@ pub mod Live
 pub mod Sums
 pub mod Settled
 pub mod Calls
+pub mod Kept
 pub mod Seated
 pub mod Steps
 pub mod Locked

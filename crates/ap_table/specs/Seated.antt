@@ -5,9 +5,9 @@ use Rattle.ap_list.specs.Lists.{Each, AnyOf}
 use Rattle.ap_walk.specs.declared.act.Stepped.{Stepped}
 use Rattle.ap_walk.specs.declared.rule.Rule.{Rule}
 use Rattle.ap_word.specs.declared.family.Family.{Family}
-use Rattle.ap_word.specs.declared.family.View.{View}
-use Rattle.ap_word.specs.Words.{unlooked, marked}
-use Rattle.ap_word.specs.Seats.{seat_view}
+use Rattle.ap_word.specs.Words.{unlooked}
+use Rattle.ap_word.specs.Seats.{seat_table, seat_view}
+use Rattle.ap_table.specs.Kept.{Kept, kept_marked}
 use Rattle.ap_table.specs.Core.{Node, free, numbers_of, tallies, children}
 use Rattle.ap_table.specs.Sound.{HasFamily}
 use Rattle.ap_table.specs.declared.link.Link.{Link}
@@ -16,18 +16,25 @@ use Rattle.ap_table.specs.declared.stored.Entry.TheVariants as entry
 use Rattle.ap_table.specs.declared.seats.AncestorSeat.{AncestorSeat}
 use Rattle.ap_table.specs.declared.seats.Beside.{Beside}
 
--- a seat at this place of a family, just cut from one that knows this
-pub record IsCut (v : View) (l : Link) (s : AncestorSeat) : Type 0 where
+-- the same seat, which may know more
+pub record SameSeat (old new : AncestorSeat) : Type 0 where
+  pub family : new.family ≡ old.family
+  pub place : new.place ≡ old.place
+  pub word : new.word ≡ old.word
+
+-- a seat at this place of a family, just cut from one that is kept: it is of that one's word, and knows what that one does
+pub record IsCut (k : Kept) (l : Link) (s : AncestorSeat) : Type 0 where
   pub family : s.family ≡ l.family
   pub place : s.place ≡ l.place
-  pub view : seat_view s.seat ≡ unlooked v
+  pub word : seat_table s.seat ≡ k.table
+  pub view : seat_view s.seat ≡ unlooked k.view
 
 -- the seat that is kept beside a node
-abbrev pub kept_in : Option Beside → Option View
+abbrev pub kept_in : Option Beside → Option Kept
 kept_in None = None
 kept_in (Some b) = b.kept
 
-abbrev pub kept_at : List Beside → ℕ → Option View
+abbrev pub kept_at : List Beside → ℕ → Option Kept
 kept_at bs k = kept_in (slice_get bs k)
 
 -- element k as f makes it
@@ -39,29 +46,29 @@ amend (x ∷ xs) (suc k) f = x ∷ amend xs k f
 abbrev pub without_job : Beside → Beside
 without_job b = record b { job = None }
 
-abbrev pub with_kept : View → Beside → Beside
-with_kept v b = record b { kept = Some v }
+abbrev pub with_kept : Kept → Beside → Beside
+with_kept k b = record b { kept = Some k }
 
-abbrev pub marked_kept : ℕ → Option View → Option View
+abbrev pub marked_kept : ℕ → Option Kept → Option Kept
 marked_kept place None = None
-marked_kept place (Some v) = Some (marked v place)
+marked_kept place (Some k) = Some (kept_marked k place)
 
 abbrev pub with_mark : ℕ → Beside → Beside
 with_mark place b = record b { kept = marked_kept place b.kept }
 
 -- a seat of the family's word is kept
 abbrev pub HasSeat : List Beside → Link → Type 0
-HasSeat bs l = (v : View) × (kept_at bs l.family ≡ Some v)
+HasSeat bs l = (k : Kept) × (kept_at bs l.family ≡ Some k)
 
 -- seats cut from those that are kept, one for each family of a path
 abbrev pub AreCut : List Beside → List Link → List AncestorSeat → Type 0
 AreCut bs [] [] = Unit {0}
 AreCut bs [] (s ∷ ss) = ⊥
 AreCut bs (l ∷ ls) [] = ⊥
-AreCut bs (l ∷ ls) (s ∷ ss) = ((v : View) × (kept_at bs l.family ≡ Some v) × IsCut v l s) × AreCut bs ls ss
+AreCut bs (l ∷ ls) (s ∷ ss) = ((k : Kept) × (kept_at bs l.family ≡ Some k) × IsCut k l s) × AreCut bs ls ss
 
 -- what is new beside the children of a node: seats for their jobs, cut from the one of their own family and those that are kept
-abbrev pub AreRows : List Beside → List Link → ℕ → View → List Beside → Type 0
+abbrev pub AreRows : List Beside → List Link → ℕ → Kept → List Beside → Type 0
 AreRows bs path family own rows = (i : ℕ) (b : Beside) → slice_get rows i ≡ Some b
     → (b.kept ≡ None) × ((s : AncestorSeat) × (ss : List AncestorSeat) × (b.job ≡ Some (s ∷ ss)) × IsCut own (record { family = family; place = i }) s × AreCut bs path ss)
 
@@ -105,8 +112,8 @@ module _ {T : Type 0} (step : T → Stepped T) (depth : T → ℕ) (rule : Rule)
 
   -- a kept seat has the family's true tallies, and the core's word for its number; each family above the node, and its own children's, has one; a free node has the seats for its job
   pub record IsSeatedAt (ns : List (Node T)) (bs : List Beside) (n : Node T) (b : Beside) : Type 0 where
-    pub kept : (v : View) → b.kept ≡ Some v → (v.family ≡ true_family n.task) × (v.low ≡ n.word)
-    pub has : HasFamily n.phase → (v : View) × (b.kept ≡ Some v)
+    pub kept : (k : Kept) → b.kept ≡ Some k → (k.view.family ≡ true_family n.task) × (k.view.low ≡ n.word)
+    pub has : HasFamily n.phase → (k : Kept) × (b.kept ≡ Some k)
     pub above : Each (HasSeat bs) n.path
     pub job : n.phase ≡ free → (ss : List AncestorSeat) × (b.job ≡ Some ss) × SeatsFor ns n.path ss
 

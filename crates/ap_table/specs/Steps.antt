@@ -17,7 +17,7 @@ use Rattle.ap_table.specs.declared.stored.NodeGrown.TheVariants as node_grown
 use Rattle.ap_table.specs.declared.stored.NodeTaken.TheVariants as node_taken
 use Rattle.ap_table.specs.Core.{Node}
 use Rattle.ap_table.specs.Shown.{Run, nodes_of}
-use Rattle.ap_table.specs.Calls.{NodeClaims, NodeGrows, NodePuts, NodeDrops, IsNodeJob, CanGrow, CanStill, IsLicense}
+use Rattle.ap_table.specs.Calls.{NodeClaims, NodeClaimsAt, NodeGrows, NodePuts, NodeDrops, IsNodeJob, CanGrow, CanStill, IsLicense}
 use Rattle.ap_table.specs.Seated.{GiveAll, SeatsFor}
 
 abbrev pub node_job : {T : Type 0} → Job T → NodeJob T
@@ -36,6 +36,11 @@ module _ {T : Type 0} (step : T → Stepped T) (depth : T → ℕ) where
   abbrev pub Claims : Run T → Run T → Claim T → Type 0
   Claims old new (claim.Found job) = NodeClaims step depth old new (node_claim.Found (node_job job)) × ((n : Node T) × (slice_get (nodes_of step depth old) job.node ≡ Some n) × SeatsFor step depth old.rule (nodes_of step depth old) n.path job.seats)
   Claims old new claim.Nothing = NodeClaims step depth old new node_claim.Nothing
+
+  -- Found takes this node, which is free, with a seat for each family above it; and Nothing is where it isn't there or isn't free
+  abbrev pub ClaimsAt : Run T → Run T → ℕ → Claim T → Type 0
+  ClaimsAt old new k (claim.Found job) = NodeClaimsAt step depth old new k (node_claim.Found (node_job job)) × ((n : Node T) × (slice_get (nodes_of step depth old) job.node ≡ Some n) × SeatsFor step depth old.rule (nodes_of step depth old) n.path job.seats)
+  ClaimsAt old new k claim.Nothing = NodeClaimsAt step depth old new k node_claim.Nothing
 
   abbrev pub Grows : Run T → Run T → Job T → Stepped T → Grown T → Type 0
   Grows old new job stepped (grown.Family family first count) = NodeGrows step depth old new (node_job job) stepped (node_grown.Family family first count) × AreSeats old job

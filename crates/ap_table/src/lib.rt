@@ -26,7 +26,7 @@ mod telling;
 
 pub use laws::{
     closing_is_by_the_known_stop, core_is_sound, known_stops_are_true, live_nodes_stay_in_order,
-    pieces_make_the_walk, stopped_walks_end,
+    nodes_are_claimed_once, pieces_make_the_walk, stopped_walks_end,
 };
 pub use link::{DropNote, License, Link};
 pub use seats::AncestorSeat;

@@ -9,7 +9,7 @@ ghost use Rattle.ap_table.specs.Live.{free_at, IsBusy, FirstFree};
 use crate::stored::{Stage, Stored};
 
 /// Whether a node is free.
-fn is_free<T>(nodes: &Vec<Stored<T>>, node: u32) -> bool
+pub(crate) fn is_free<T>(nodes: &Vec<Stored<T>>, node: u32) -> bool
     ensures { result ≡ free_at nodes.now.items node }
 {
     let i = node as usize;

@@ -2,7 +2,7 @@ ghost use Rattle.std.specs.Prelude.{◌≡◌, ℕ, ◌≤◌, List, [], ◌∷�
 
 use crate::gathering::pieces;
 use crate::link::{DropNote, License, Link};
-use crate::live::{first_free, give_way, take_out};
+use crate::live::{first_free, give_way, is_free, take_out};
 use crate::making::{
     fresh_nodes, grow, has_room, is_done, is_job, is_licensed, root_node, same_rule, set_claimed,
     set_expanded, set_stage,
@@ -67,7 +67,7 @@ pub(crate) fn first_nodes<S: Step>(
 impl<S: Step> Nodes<S> {
     ghost use Rattle.ap_walk.specs.Visits.{out_children};
     ghost use Rattle.ap_walk.specs.Walks.{full};
-    ghost use Rattle.ap_table.specs.Calls.{NodeClaims, NodeGrows, NodePuts, NodeDrops, IsRootDone, CanGrow};
+    ghost use Rattle.ap_table.specs.Calls.{NodeClaims, NodeClaimsAt, NodeGrows, NodePuts, NodeDrops, IsRootDone, CanGrow};
     ghost use Rattle.ap_table.specs.Ended.{HasEnded, Ends};
     ghost use Rattle.ap_table.specs.Locked.{WasAllowed};
     ghost use Rattle.std.specs.Prelude.{IfSome, None, Some};
@@ -82,6 +82,22 @@ impl<S: Step> Nodes<S> {
         let Some(node) = first_free(&self.nodes, self.live.as_slice()) else {
             return NodeClaim::Nothing;
         };
+        let task = set_claimed(&mut self.nodes, node as usize);
+        self.history.push_reserved(Entry::Claimed(node));
+        NodeClaim::Found(NodeJob {
+            task,
+            rule: self.rule,
+            node,
+        })
+    }
+
+    /// Claims this node, or it isn't there or isn't free.
+    pub fn claim_node_step(&mut self, node: u32) -> NodeClaim<S::Task>
+        ensures { NodeClaimsAt S.step_of S.depth self.old self.new node result }
+    {
+        if !is_free(&self.nodes, node) {
+            return NodeClaim::Nothing;
+        }
         let task = set_claimed(&mut self.nodes, node as usize);
         self.history.push_reserved(Entry::Claimed(node));
         NodeClaim::Found(NodeJob {

@@ -2,11 +2,11 @@
 ghost use Rattle.std.specs.Prelude.{◌≡◌, ℕ, ◌+◌, ◌≤◌, ◌<◌, ◌∷◌, ◌++◌, Some, List, length, take, drop, IfOk, IsTrue, ◌↔◌, vec_capacity};
 ghost use Rattle.std.specs.List.{slice_get};
 ghost use Rattle.ap_list.specs.Lists.{AnyOf, Each};
-ghost use Rattle.ap_word.specs.declared.family.View.{View};
 ghost use Rattle.ap_word.specs.Words.{IsStop, made};
 ghost use Rattle.ap_table.specs.declared.seats.AncestorSeat.{AncestorSeat};
 ghost use Rattle.ap_table.specs.declared.seats.Beside.{Beside};
 ghost use Rattle.ap_table.specs.declared.link.Link.{Link};
+ghost use Rattle.ap_table.specs.Kept.{Kept};
 ghost use Rattle.ap_table.specs.Core.{numbers_of, root, replay_from};
 ghost use Rattle.ap_table.specs.Shown.{turns, nodes_of};
 ghost use Rattle.ap_table.specs.Seated.{IsCut, AreCut, AreRows, HasSeat, Gives, GiveAll, kept_at, amend, without_job, with_kept, with_mark, true_family, AreSeated, IsMark};
@@ -109,7 +109,7 @@ pub(crate) fn take_seats(seats: &mut Vec<Beside>, i: usize) -> Seq<AncestorSeat>
 
 /// Marks the word of a family.
 fn mark_at(seats: &mut Vec<Beside>, i: usize, place: u64)
-    requires { (v : View) × (kept_at seats.old.items i ≡ Some v) × IsStop v.family place }
+    requires { (k : Kept) × (kept_at seats.old.items i ≡ Some k) × IsStop k.view.family place }
     ensures { seats.new.items ≡ amend seats.old.items i (with_mark place) }
 {
     let beside = &mut seats[i];
@@ -123,7 +123,7 @@ fn mark_at(seats: &mut Vec<Beside>, i: usize, place: u64)
 fn cut_at(seats: &mut Vec<Beside>, link: Link) -> Result<AncestorSeat, NoMemory>
     requires { HasSeat seats.old.items link }
     ensures same { seats.new.items ≡ seats.old.items }
-    ensures seat { IfOk result (λ s. (v : View) × (kept_at seats.old.items link.family ≡ Some v) × IsCut v link s) }
+    ensures seat { IfOk result (λ s. (k : Kept) × (kept_at seats.old.items link.family ≡ Some k) × IsCut k link s) }
 {
     let beside = &mut seats[link.family as usize];
     let Some(kept) = &mut beside.kept else {
@@ -195,7 +195,7 @@ pub(crate) fn new_family<S: Step>(
     requires above { Each (HasSeat seats.old.items) path.now }
     requires few { count ≤ 1000000 }
     ensures same { seats.new.items ≡ seats.old.items }
-    ensures own { IfOk result (λ r. r.0 ≡ made (true_family S.step_of S.depth rule task.now)) }
+    ensures own { IfOk result (λ r. r.0.view ≡ made (true_family S.step_of S.depth rule task.now)) }
     ensures rows { IfOk result (λ r. AreRows seats.old.items path.now family r.0 r.1.items) }
     ensures long { IfOk result (λ r. length r.1.items ≡ count) }
     ensures room { IfOk result (λ r. length seats.new.items + count ≤ vec_capacity seats.new) }

@@ -103,7 +103,7 @@ fn family_of<S: Step>(
     requires there { AreSeats S.step_of S.depth nodes.now job.now }
     requires few { count ≤ 1000000 }
     ensures same { seats.new.items ≡ seats.old.items }
-    ensures own { IfOk result (λ r. r.0 ≡ made (true_family S.step_of S.depth job.now.rule job.now.task)) }
+    ensures own { IfOk result (λ r. r.0.view ≡ made (true_family S.step_of S.depth job.now.rule job.now.task)) }
     ensures rows { IfOk result (λ r. (n : Node S.Task) → slice_get (nodes_of S.step_of S.depth nodes.now) job.now.node ≡ Some n → AreRows seats.old.items n.path job.now.node r.0 r.1.items) }
     ensures long { IfOk result (λ r. length r.1.items ≡ count) }
     ensures room { IfOk result (λ r. length seats.new.items + count ≤ vec_capacity seats.new) }
@@ -118,7 +118,7 @@ impl<S: Step> TableState<S> {
     ghost use Rattle.ap_walk.specs.Visits.{out_children};
     ghost use Rattle.ap_walk.specs.Walks.{full};
     ghost use Rattle.ap_table.specs.Calls.{IsRootDone};
-    ghost use Rattle.ap_table.specs.Steps.{Claims, Grows, Puts, Drops};
+    ghost use Rattle.ap_table.specs.Steps.{Claims, ClaimsAt, Grows, Puts, Drops};
     ghost use Rattle.ap_list.specs.Lists.{Each};
     ghost use Rattle.ap_table.specs.Seated.{HasLooked};
     ghost use Rattle.ap_table.specs.Ended.{HasEnded, Ends};
@@ -129,6 +129,19 @@ impl<S: Step> TableState<S> {
         ensures { Claims S.step_of S.depth self.old self.new result }
     {
         match self.nodes.claim_step() {
+            NodeClaim::Nothing => Claim::Nothing,
+            NodeClaim::Found(job) => {
+                let seats = take_seats(&mut self.seats, job.node as usize);
+                Claim::Found(with_seats(job, seats))
+            }
+        }
+    }
+
+    /// Claims this node, or it isn't there or isn't free. It looks at one node.
+    pub fn claim_node_step(&mut self, node: u32) -> Claim<S::Task>
+        ensures { ClaimsAt S.step_of S.depth self.old self.new node result }
+    {
+        match self.nodes.claim_node_step(node) {
             NodeClaim::Nothing => Claim::Nothing,
             NodeClaim::Found(job) => {
                 let seats = take_seats(&mut self.seats, job.node as usize);

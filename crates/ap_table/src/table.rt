@@ -5,7 +5,7 @@
 ghost use Rattle.std.specs.Prelude.{◌≡◌, ◌≤◌, true, false, length, IsTrue, ◌↔◌};
 ghost use Rattle.ap_walk.specs.Visits.{out_children};
 ghost use Rattle.ap_walk.specs.Walks.{full};
-ghost use Rattle.ap_table.specs.Steps.{Claims, Grows, Puts, Drops};
+ghost use Rattle.ap_table.specs.Steps.{Claims, ClaimsAt, Grows, Puts, Drops};
 ghost use Rattle.ap_list.specs.Lists.{Each};
 ghost use Rattle.ap_table.specs.Seated.{HasLooked};
 ghost use Rattle.ap_table.specs.Locked.{OneStep, OneLook, Waits, WasAllowed};
@@ -99,6 +99,20 @@ impl<S: Step> GoalTable<S> {
         let mut guard = self.held.lock(rt);
         let state = &mut guard.state;
         let claim = state.claim_step();
+        state.were_allowed();
+        if let Claim::Found(_) = &claim {
+            self.moved.notify_all();
+        }
+        claim
+    }
+
+    /// Claims this node, and wakes all who wait; or it isn't there or isn't free.
+    pub fn claim_node(&self, rt: &impl Wait, node: u32) -> Claim<S::Task>
+        ensures { OneStep S.step_of S.depth (λ old new. ClaimsAt S.step_of S.depth old new node result) }
+    {
+        let mut guard = self.held.lock(rt);
+        let state = &mut guard.state;
+        let claim = state.claim_node_step(node);
         state.were_allowed();
         if let Claim::Found(_) = &claim {
             self.moved.notify_all();

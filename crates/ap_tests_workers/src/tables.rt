@@ -74,9 +74,9 @@ pub(crate) fn look(seat: &mut AncestorSeat, times: usize) -> u64
     ensures low { (seat_view seat.new.seat).low ≡ result }
     ensures same { seat.new.place ≡ seat.old.place }
 {
-    let mut found = seat.word.look(&mut seat.seat);
+    let mut found = seat.look();
     for i in 0..times {
-        found = seat.word.look(&mut seat.seat);
+        found = seat.look();
     }
     found
 }
@@ -94,7 +94,7 @@ pub(crate) fn looked(job: Job<Tree>, times: usize) -> Result<Option<Job<Tree>>, 
     } = job;
     if let Some(mut seat) = seats.pop() {
         let found = look(&mut seat, times);
-        if found < seat.place as u64 {
+        if found < seat.place() as u64 {
             return Ok(None);
         }
         if !seats.is_empty() {
@@ -173,7 +173,7 @@ fn seen(job: &mut Job<Tree>) -> Result<u64, NoMemory> {
 /// Whether a job is that of this node, and its one seat that of this family and this place.
 fn is_seated(job: &Job<Tree>, node: u32, family: u32, place: u32) -> bool {
     match job.seats.as_slice() {
-        [seat] => (job.node, seat.family, seat.place) == (node, family, place),
+        [seat] => (job.node, seat.family(), seat.place()) == (node, family, place),
         _ => false,
     }
 }

@@ -1,5 +1,5 @@
 -- What contracts see of a word and of its seats: which word it is, and what a seat knows.
-use Rattle.atomic_table.specs.Seated.{TableId}
+pub use Rattle.atomic_table.specs.Seated.{TableId}
 use Rattle.ap_word.specs.declared.family.View.{View}
 use Rattle.ap_word.specs.declared.word.FamilyWord.{FamilyWord}
 use Rattle.ap_word.specs.declared.word.WordSeat.{WordSeat}

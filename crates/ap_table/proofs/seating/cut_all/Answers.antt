@@ -1,5 +1,5 @@
 use Rattle.std.proofs.Common.{◌≡◌, sym, subst, ◌∙◌, arith, List, Some}
-use Rattle.ap_word.specs.declared.family.View.{View}
+use Rattle.ap_table.specs.Kept.{Kept}
 use Rattle.ap_table.specs.declared.seats.Beside.{Beside}
 use Rattle.ap_table.specs.Seated.{IsCut, kept_at, HasSeat}
 use Rattle.ap_table.proofs.Finding.{each_there}
@@ -15,8 +15,8 @@ pub loop-at-preserved : goal.loop-at-preserved
 loop-at-preserved c =
     let same = c.loop-at.invariant.same in
     let l = c.link_at.result in
-    let cut : (v : View) × (kept_at c.args.seats.now.items l.family ≡ Some v) × IsCut v l c.in_ok-seat.seat =
-    subst (λ (bs : List Beside). (v : View) × (kept_at bs l.family ≡ Some v) × IsCut v l c.in_ok-seat.seat) same c.in_ok-seat.ensures.seat in
+    let cut : (v : Kept) × (kept_at c.args.seats.now.items l.family ≡ Some v) × IsCut v l c.in_ok-seat.seat =
+    subst (λ (bs : List Beside). (v : Kept) × (kept_at bs l.family ≡ Some v) × IsCut v l c.in_ok-seat.seat) same c.in_ok-seat.ensures.seat in
     record {
       same = c.in_ok-seat.ensures.same ∙ same;
       cut = cut_next c.args.seats.now.items c.loop-at.at c.args.path.now l c.args.first c.loop-at.cut c.push-in-loop-at.new.self c.in_ok-seat.seat c.link_at.ensures cut c.loop-at.invariant.cut c.in_ok-push-2.ensures.ok;

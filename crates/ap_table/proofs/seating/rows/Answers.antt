@@ -1,5 +1,5 @@
 use Rattle.std.proofs.Common.{◌≡◌, ◌∷◌, [], refl, ap, subst, ◌∙◌, arith, List, Some, None, length, length-append}
-use Rattle.ap_word.specs.declared.family.View.{View}
+use Rattle.ap_table.specs.Kept.{Kept}
 use Rattle.ap_table.specs.declared.seats.AncestorSeat.{AncestorSeat}
 use Rattle.ap_table.specs.declared.seats.Beside.{Beside}
 use Rattle.ap_table.specs.Seated.{IsCut, AreCut}
@@ -14,7 +14,7 @@ loop-place-preserved c =
     let job : (rest : List AncestorSeat) × (c.in_ok-job.job ≡ first ∷ rest) × AreCut old c.args.path.now rest =
     subst (λ (bs : List Beside). (rest : List AncestorSeat) × (c.in_ok-job.job ≡ first ∷ rest) × AreCut bs c.args.path.now rest) same c.in_ok-job.ensures.seats in
     let cut : IsCut c.args.own.now (record { family = c.args.family; place = c.loop-place.place }) first =
-    subst (λ (v : View). IsCut v (record { family = c.args.family; place = c.loop-place.place }) first) c.loop-place.invariant.own c.in_ok-first.ensures.seat in
+    subst (λ (v : Kept). IsCut v (record { family = c.args.family; place = c.loop-place.place }) first) c.loop-place.invariant.own c.in_ok-first.ensures.seat in
     let more = c.in_ok-push.ensures.items in
     let b : Beside = record { job = Some c.in_ok-job.job; kept = None } in
     record {
