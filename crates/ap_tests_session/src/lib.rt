@@ -5,6 +5,8 @@
 #[cfg(test)]
 mod books;
 #[cfg(test)]
+mod hostile;
+#[cfg(test)]
 mod reverts;
 #[cfg(test)]
 mod running;

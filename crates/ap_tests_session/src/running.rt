@@ -2,6 +2,7 @@
 use ap_outside::{MemoryLibrary, MemorySink};
 use ap_session::{Bytes, Gate, NoGate, Seq, Status, certify};
 use std::alloc::Global;
+use std::num::NonZeroUsize;
 use std::process::Abort;
 use std::sync::Wait;
 use std::test::Fail;
@@ -50,12 +51,17 @@ impl Ended {
     }
 }
 
-/// A library and a sink, of which these calls fail.
-fn outside_of(alloc: Global, files: Files, failing: (u32, u32)) -> Result<Outside, Fail> {
+/// A library and a sink, of which these calls fail. The sink takes at most so many bytes at a call.
+fn outside_of(
+    alloc: Global,
+    files: Files,
+    failing: (u32, u32),
+    most: NonZeroUsize,
+) -> Result<Outside, Fail> {
     let library = MemoryLibrary::new(files, Seq::from_slice(alloc, &[failing.0])?);
     Ok(Outside {
         library,
-        sink: MemorySink::new(alloc, Seq::from_slice(alloc, &[failing.1])?),
+        sink: MemorySink::short(alloc, most, Seq::from_slice(alloc, &[failing.1])?),
     })
 }
 
@@ -103,9 +109,24 @@ pub(crate) fn run<R: Threads + Wait + Sync, G: Gate + Sync>(
     failing: (u32, u32),
     gate: &G,
 ) -> Result<Ended, Fail> {
-    let outside = outside_of(alloc, files, failing)?;
+    let outside = outside_of(alloc, files, failing, NonZeroUsize::MAX)?;
     let words = words_of(alloc, line)?;
     Ok(ended_of(rt, alloc, words.as_slice(), outside, gate))
+}
+
+/// Certifies what a line's words name of these files, into a sink that takes at most so many bytes at a call and fails at
+/// one.
+pub(crate) fn run_short<R: Threads + Wait + Sync>(
+    rt: &R,
+    alloc: Global,
+    line: &str,
+    files: Files,
+    most: NonZeroUsize,
+    failing: u32,
+) -> Result<Ended, Fail> {
+    let outside = outside_of(alloc, files, (0, failing), most)?;
+    let words = words_of(alloc, line)?;
+    Ok(ended_of(rt, alloc, words.as_slice(), outside, &NoGate))
 }
 
 /// Asserts the status and what is put.
