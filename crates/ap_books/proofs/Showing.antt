@@ -4,7 +4,7 @@ use Rattle.std.proofs.lemmas.List.{append-nil}
 use Rattle.ap_outside.specs.Gains.{Gained, GainedPart}
 use Rattle.ap_outside.proofs.Gains.{gained_more, gained_to, part_next, part_first, part_to}
 use Rattle.ap_reader.specs.declared.form.Form.{Form}
-use Rattle.ap_books.specs.Bodies.{Turn, Body, before, go_on, certified, Onward, Reached}
+use Rattle.ap_books.specs.Bodies.{Turn, Body, before, go_on, certified, Onward, Ran, Reached}
 
 -- so far: some text was gained, and behind it stands what is left
 pub record SoFar (S X : Type 0) (from now : Option (List ℕ)) (all left : Body S X) : Type 0 where
@@ -82,31 +82,30 @@ ended_text S X from mid now all t so gained =
     alone false = append-nil t.text
 
 -- how an admitter is led
-module _ (A S X : Type 0) (state : A → S) (admits : S → Form → Turn S X) (links : A → Form → A → Type 0) (rests : A → A → Type 0) where
+module _ (A S X : Type 0) (state : A → S) (admits : S → Form → Turn S X) (ends : S → Turn S X) (links : A → Form → A → Type 0) (rests : A → A → Type 0) where
   -- by no call
-  pub reached_same : (fs : List Form) (a b : A) → a ≡ b → Reached state admits links rests fs a b
+  pub reached_same : (fs : List Form) (a b : A) → a ≡ b → Reached state admits ends links rests fs a b
   reached_same [] a b e = inl e
   reached_same (f ∷ fs) a b e = inl e
 
-  -- by one that worked no form
-  pub reached_rest : (fs : List Form) (a b : A) → rests a b → Reached state admits links rests fs a b
-  reached_rest [] a b r = inr r
-  reached_rest (f ∷ fs) a b r = inr (inl r)
+  -- by the book's end, behind all forms
+  pub reached_end : (a b : A) → rests a b → (state b ≡ state a) ⊎ ((ends (state a)).next ≡ state b) → Reached state admits ends links rests [] a b
+  reached_end a b r e = inr (r, e)
 
   -- by one that worked the first
-  pub reached_first : (f : Form) (fs : List Form) (a b : A) → links a f b → Reached state admits links rests (f ∷ fs) a b
-  reached_first f fs a b l = inr (inr (b, l, onward (admits (state a) f).refused))
+  pub reached_first : (f : Form) (fs : List Form) (a b : A) → links a f b → (admits (state a) f).next ≡ state b → Reached state admits ends links rests (f ∷ fs) a b
+  reached_first f fs a b l e = inr (inr (b, l, e, onward (admits (state a) f).refused))
     where
-      onward : (t : Bool) → Onward t (Reached state admits links rests fs) b b
+      onward : (t : Bool) → Onward t (Reached state admits ends links rests fs) b b
       onward true = refl
       onward false = reached_same fs b b refl
 
-  pub reached_ran : (f : Form) (fs : List Form) (a b : A) → links a f b ⊎ rests a b → Reached state admits links rests (f ∷ fs) a b
-  reached_ran f fs a b (inl l) = reached_first f fs a b l
+  pub reached_ran : (f : Form) (fs : List Form) (a b : A) → Ran state admits links rests f a b → Reached state admits ends links rests (f ∷ fs) a b
+  reached_ran f fs a b (inl l) = reached_first f fs a b l.0 l.1
   reached_ran f fs a b (inr r) = inr (inl r)
 
   -- by one that admitted the first, and by those that follow
-  pub reached_more : (f : Form) (fs : List Form) (a b c : A) → links a f c → (admits (state a) f).refused ≡ false → Reached state admits links rests fs c b
-      → Reached state admits links rests (f ∷ fs) a b
-  reached_more f fs a b c l went more =
-      inr (inr (c, l, subst (λ t. Onward t (Reached state admits links rests fs) c b) (sym went) more))
+  pub reached_more : (f : Form) (fs : List Form) (a b c : A) → links a f c → (admits (state a) f).next ≡ state c → (admits (state a) f).refused ≡ false → Reached state admits ends links rests fs c b
+      → Reached state admits ends links rests (f ∷ fs) a b
+  reached_more f fs a b c l e went more =
+      inr (inr (c, l, e, subst (λ t. Onward t (Reached state admits ends links rests fs) c b) (sym went) more))

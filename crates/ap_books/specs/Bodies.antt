@@ -95,12 +95,19 @@ abbrev pub Onward : {A : Type 0} → Bool → (A → A → Type 0) → A → A �
 Onward true more a b = a ≡ b
 Onward false more a b = more a b
 
--- The admitter after a prefix of the calls, of which none but the last refused: `links` holds over each form that was
--- worked, and `rests` over a call that worked none.
-abbrev pub Reached : {A S X : Type 0} → (A → S) → (S → Form → Turn S X) → (A → Form → A → Type 0) → (A → A → Type 0) → List Form → A → A → Type 0
-Reached state admits links rests [] a b = (a ≡ b) ⊎ rests a b
-Reached {A} state admits links rests (f ∷ fs) a b =
-    (a ≡ b) ⊎ (rests a b ⊎ ((c : A) × links a f c × Onward (admits (state a) f).refused (Reached state admits links rests fs) c b))
+-- a call that worked a form, or none
+abbrev pub Ran : {A S X : Type 0} → (A → S) → (S → Form → Turn S X) → (A → Form → A → Type 0) → (A → A → Type 0) → Form → A → A → Type 0
+Ran state admits links rests f a b = (links a f b × ((admits (state a) f).next ≡ state b)) ⊎ (rests a b × (state b ≡ state a))
+
+-- The admitter after a prefix of the calls, of which none but the last refused. Where a form was worked `links` holds over it
+-- and the state is the next one; where none was, `rests` holds and the state is as it was, or behind the forms as the book's
+-- end leaves it.
+abbrev pub Reached : {A S X : Type 0} → (A → S) → (S → Form → Turn S X) → (S → Turn S X) → (A → Form → A → Type 0) → (A → A → Type 0) → List Form → A → A → Type 0
+Reached state admits ends links rests [] a b = (a ≡ b) ⊎ (rests a b × ((state b ≡ state a) ⊎ ((ends (state a)).next ≡ state b)))
+Reached {A} state admits ends links rests (f ∷ fs) a b =
+    (a ≡ b)
+    ⊎ ((rests a b × (state b ≡ state a))
+    ⊎ ((c : A) × links a f c × ((admits (state a) f).next ≡ state c) × Onward (admits (state a) f).refused (Reached state admits ends links rests fs) c b))
 
 -- the forms of a book that are worked
 abbrev pub forms_by : Result (List Form) (List ℕ) → List Form

@@ -1,7 +1,7 @@
 ghost use Rattle.std.specs.Prelude.{◌≡◌, ◌≤◌, ◌⊎◌, false, Err, IfOk, OnOk, OnErr};
 ghost use Rattle.ap_outside.specs.Faults.{Rose};
 ghost use Rattle.ap_outside.specs.Gains.{Gained, GainedPart};
-ghost use Rattle.ap_books.specs.Bodies.{worked, body_by, body_of, forms_by, forms_of, opened, Reached};
+ghost use Rattle.ap_books.specs.Bodies.{worked, body_by, body_of, forms_by, forms_of, opened, Ran, Reached};
 
 use crate::admitter::{Admitter, BookFault, BookSeen};
 use crate::events::{Events, events_in};
@@ -26,7 +26,7 @@ fn show_form<R: Threads + Wait + Sync, A: Admitter, S: Sink>(
     ensures next { OnOk result ((A.admits (A.state admitter.old) form.now).next ≡ A.state admitter.new) }
     ensures part { OnErr result (GainedPart (S.content sink.old) (S.content sink.new) (A.admits (A.state admitter.old) form.now).text) }
     ensures links { OnOk result (A.links admitter.old form.now admitter.new) }
-    ensures ran { OnErr result (A.links admitter.old form.now admitter.new ⊎ A.rests admitter.old admitter.new) }
+    ensures ran { OnErr result (Ran A.state A.admits A.links A.rests form.now admitter.old admitter.new) }
     ensures later { S.faults sink.old ≤ S.faults sink.new }
     ensures failed { result ≡ Err WriteFault.Failed → Rose (S.faults sink.old) (S.faults sink.new) }
 {
@@ -46,6 +46,7 @@ fn show_end<R: Threads + Wait + Sync, A: Admitter, S: Sink>(
     ensures refused { IfOk result (λ b. (A.ends (A.state admitter.old)).refused ≡ b) }
     ensures next { OnOk result ((A.ends (A.state admitter.old)).next ≡ A.state admitter.new) }
     ensures rests { A.rests admitter.old admitter.new }
+    ensures ran { OnErr result ((A.state admitter.new ≡ A.state admitter.old) ⊎ ((A.ends (A.state admitter.old)).next ≡ A.state admitter.new)) }
     ensures part { OnErr result (GainedPart (S.content sink.old) (S.content sink.new) (A.ends (A.state admitter.old)).text) }
     ensures later { S.faults sink.old ≤ S.faults sink.new }
     ensures failed { result ≡ Err WriteFault.Failed → Rose (S.faults sink.old) (S.faults sink.new) }
@@ -66,7 +67,7 @@ fn show_events<R: Threads + Wait + Sync, A: Admitter, S: Sink>(
 ) -> Result<bool, WriteFault>
     ensures text { OnOk result (Gained (S.content sink.old) (S.content sink.new) (worked A.admits A.ends forms.now (A.state admitter.old)).text) }
     ensures certified { IfOk result (λ b. (worked A.admits A.ends forms.now (A.state admitter.old)).certified ≡ b) }
-    ensures reached { Reached A.state A.admits A.links A.rests forms.now admitter.old admitter.new }
+    ensures reached { Reached A.state A.admits A.ends A.links A.rests forms.now admitter.old admitter.new }
     ensures state { OnOk result ((worked A.admits A.ends forms.now (A.state admitter.old)).state ≡ A.state admitter.new) }
     ensures part { OnErr result (GainedPart (S.content sink.old) (S.content sink.new) (worked A.admits A.ends forms.now (A.state admitter.old)).text) }
     ensures later { S.faults sink.old ≤ S.faults sink.new }
@@ -102,7 +103,7 @@ fn show_body<R: Threads + Wait + Sync, A: Admitter, S: Sink>(
 ) -> Result<bool, WriteFault>
     ensures text { OnOk result (Gained (S.content sink.old) (S.content sink.new) (body_by A.admits A.ends events.now (A.state admitter.old)).text) }
     ensures certified { IfOk result (λ b. (body_by A.admits A.ends events.now (A.state admitter.old)).certified ≡ b) }
-    ensures reached { Reached A.state A.admits A.links A.rests (forms_by events.now) admitter.old admitter.new }
+    ensures reached { Reached A.state A.admits A.ends A.links A.rests (forms_by events.now) admitter.old admitter.new }
     ensures state { OnOk result ((body_by A.admits A.ends events.now (A.state admitter.old)).state ≡ A.state admitter.new) }
     ensures part { OnErr result (GainedPart (S.content sink.old) (S.content sink.new) (body_by A.admits A.ends events.now (A.state admitter.old)).text) }
     ensures later { S.faults sink.old ≤ S.faults sink.new }
@@ -125,7 +126,7 @@ fn show_book<R: Threads + Wait + Sync, A: Admitter, S: Sink>(
 ) -> Result<bool, WriteFault>
     ensures text { OnOk result (Gained (S.content sink.old) (S.content sink.new) (opened book.now.name.0 (body_of A.admits A.ends book.now.read (A.state admitter.old)))) }
     ensures certified { IfOk result (λ b. (body_of A.admits A.ends book.now.read (A.state admitter.old)).certified ≡ b) }
-    ensures reached { Reached A.state A.admits A.links A.rests (forms_of book.now.read) admitter.old admitter.new }
+    ensures reached { Reached A.state A.admits A.ends A.links A.rests (forms_of book.now.read) admitter.old admitter.new }
     ensures state { OnOk result ((body_of A.admits A.ends book.now.read (A.state admitter.old)).state ≡ A.state admitter.new) }
     ensures part { OnErr result (GainedPart (S.content sink.old) (S.content sink.new) (opened book.now.name.0 (body_of A.admits A.ends book.now.read (A.state admitter.old)))) }
     ensures later { S.faults sink.old ≤ S.faults sink.new }
@@ -144,7 +145,7 @@ fn show_book<R: Threads + Wait + Sync, A: Admitter, S: Sink>(
 ///
 /// `Write` comes only where the sink failed and counted it, `NoMemory` is want of memory; then the sink gained a prefix
 /// of that text. In every case the admitter was led by a prefix of the book's forms, in order, of which none
-/// but the last was refused.
+/// but the last was refused, and its state is what these leave, or what the book's end leaves behind all of them.
 pub fn certify_book<R: Threads + Wait + Sync, A: Admitter, S: Sink>(
     rt: &R,
     alloc: Global,
@@ -156,7 +157,7 @@ pub fn certify_book<R: Threads + Wait + Sync, A: Admitter, S: Sink>(
     ensures certified { IfOk result (λ b. (body_of A.admits A.ends book.now.read (A.state admitter.old)).certified ≡ b) }
     ensures state { OnOk result ((body_of A.admits A.ends book.now.read (A.state admitter.old)).state ≡ A.state admitter.new) }
     ensures part { OnErr result (GainedPart (S.content sink.old) (S.content sink.new) (opened book.now.name.0 (body_of A.admits A.ends book.now.read (A.state admitter.old)))) }
-    ensures reached { Reached A.state A.admits A.links A.rests (forms_of book.now.read) admitter.old admitter.new }
+    ensures reached { Reached A.state A.admits A.ends A.links A.rests (forms_of book.now.read) admitter.old admitter.new }
     ensures later { S.faults sink.old ≤ S.faults sink.new }
     ensures failed { result ≡ Err BookFault.Write → Rose (S.faults sink.old) (S.faults sink.new) }
 {
