@@ -11,6 +11,8 @@ mod reverts;
 #[cfg(test)]
 mod running;
 #[cfg(test)]
+mod schedules;
+#[cfg(test)]
 mod sizes;
 #[cfg(test)]
 mod stores;

@@ -188,7 +188,7 @@ pub(crate) fn books_of(alloc: Global, books: &str) -> Result<Files, Fail> {
 }
 
 /// What stands before and behind a mark in a row, or the row and what stands for the rest where it has no mark.
-fn parted<'a>(row: &'a str, mark: &str, rest: &'a str) -> (&'a str, &'a str) {
+pub(crate) fn parted<'a>(row: &'a str, mark: &str, rest: &'a str) -> (&'a str, &'a str) {
     match row.split_once(mark) {
         Some(parts) => parts,
         None => (row, rest),
@@ -222,22 +222,23 @@ pub(crate) fn sessions_print<R: Abort + Threads + Wait + Sync>(
     for row in table.lines() {
         count = count.saturating_add(1);
         let (asked, lines) = parted(row, " => ", lines);
-        session_prints(rt, alloc, asked, status, lines)?;
+        session_prints(rt, alloc, asked, status, lines, &NoGate)?;
     }
     assert_eq!(rt; count, rows);
     Ok(())
 }
 
 /// Certifies what a row asks for, and asserts the status and the lines that are put.
-fn session_prints<R: Abort + Threads + Wait + Sync>(
+pub(crate) fn session_prints<R: Abort + Threads + Wait + Sync, G: Gate + Sync>(
     rt: &R,
     alloc: Global,
     asked: &str,
     status: Status,
     lines: &str,
+    gate: &G,
 ) -> Result<(), Fail> {
     let text = text_of(alloc, lines)?;
-    let ended = session(rt, alloc, asked, NONE, &NoGate)?;
+    let ended = session(rt, alloc, asked, NONE, gate)?;
     sees(rt, &ended, status, text.as_slice())
 }
 

@@ -1,5 +1,5 @@
 //! What is stored of a book that is certified, by whom and when.
-use crate::running::{Ended, NONE, session};
+use crate::running::{Ended, NONE, sees, session, text_of};
 use ap_session::{NoGate, Status};
 use std::alloc::Global;
 use std::process::Abort;
@@ -86,48 +86,75 @@ fn a_certificate_counts_more_events_than_a_byte(rt: HostRuntime) -> Result<(), F
     has(&rt, &ended, "many.cert", text)
 }
 
-/// Two books, which put three pieces each: their first line, their event's text, and their last line.
-const TWO: &str = "refl a | refl: (defthm refl (equal x x) :rule-classes nil) | a: (defun f (x) x)";
+/// Two books, the first of one event and the second of two.
+const TWO: &str =
+    "refl app | refl: (defthm refl (equal x x) :rule-classes nil) | app: (defun app (x y) (if (consp x) (cons (car x) (app (cdr x) y)) y)) (defthm app-assoc (equal (app (app x y) z) (app x (app y z))))";
 
-/// Which call of the library and which of the sink fails, the status, how many lines are put, and whether the first book's
+/// What they put, piece by piece: each book's first line, its events' texts, and its last line.
+const PIECES: [&str; 7] = [
+    "Book refl",
+    "DEFTHM REFL / Goal simplify 0 / DEFTHM REFL proved",
+    "Book refl certified",
+    "Book app",
+    "DEFUN APP / Measure (ACL2-COUNT X) / Obligation 1 / Goal simplify 0 / DEFUN APP admitted",
+    "DEFTHM APP-ASSOC / Goal push *1 / *1 induct 2 (APP X Y) / Subgoal *1/2 simplify 0 / Subgoal *1/1 simplify 0 / DEFTHM APP-ASSOC proved",
+    "Book app certified",
+];
+
+/// Which call of the library and which of the sink fails, the status, how many pieces are put, and whether the first book's
 /// certificate is stored, and the second one's.
 type Cut = ((u32, u32), Status, usize, (bool, bool));
 
-const CUTS: [Cut; 11] = [
-    (NONE, Status::Certified, 9, (true, true)),
+const CUTS: [Cut; 12] = [
+    (NONE, Status::Certified, 7, (true, true)),
     ((0, 1), Status::WriteFault, 0, (false, false)),
     ((0, 2), Status::WriteFault, 1, (false, false)),
-    ((0, 3), Status::WriteFault, 4, (true, false)),
-    ((0, 4), Status::WriteFault, 5, (true, false)),
-    ((0, 5), Status::WriteFault, 6, (true, false)),
-    ((0, 6), Status::WriteFault, 8, (true, true)),
+    ((0, 3), Status::WriteFault, 2, (true, false)),
+    ((0, 4), Status::WriteFault, 3, (true, false)),
+    ((0, 5), Status::WriteFault, 4, (true, false)),
+    ((0, 6), Status::WriteFault, 5, (true, false)),
+    ((0, 7), Status::WriteFault, 6, (true, true)),
     ((1, 0), Status::ReadFault, 0, (false, false)),
-    ((2, 0), Status::WriteFault, 4, (false, false)),
-    ((3, 0), Status::ReadFault, 5, (true, false)),
-    ((4, 0), Status::WriteFault, 8, (true, false)),
+    ((2, 0), Status::WriteFault, 2, (false, false)),
+    ((3, 0), Status::ReadFault, 3, (true, false)),
+    ((4, 0), Status::WriteFault, 6, (true, false)),
 ];
 
-/// Asserts the status, how many lines are put, and which certificates are stored.
-fn is_cut<R: Abort>(rt: &R, ended: &Ended, cut: &Cut) -> Result<(), Fail> {
-    let (_, status, lines, stored) = *cut;
-    assert_eq!(rt; ended.status, status);
-    assert_eq!(rt; ended.lines(), lines);
-    let first = ended.stored("refl.cert").is_some();
-    let second = ended.stored("a.cert").is_some();
-    assert_eq!(rt; (first, second), stored);
-    Ok(())
+/// The first pieces as one text.
+fn first_pieces(alloc: Global, count: usize) -> Result<Vec<u8>, Fail> {
+    let mut text = Vec::new(alloc);
+    for piece in PIECES.iter().take(count) {
+        text.extend_from_slice(text_of(alloc, piece)?.as_slice())?;
+    }
+    Ok(text)
 }
 
-/// Asserts what is put and stored where these calls fail.
-fn cuts<R: Abort + Threads + Wait + Sync>(rt: &R, alloc: Global, cut: &Cut) -> Result<(), Fail> {
-    let ended = session(rt, alloc, TWO, cut.0, &NoGate)?;
-    is_cut(rt, &ended, cut)
+/// Asserts the status, what is put, and which certificates are stored.
+fn is_cut<R: Abort>(rt: &R, alloc: Global, ended: &Ended, cut: &Cut) -> Result<(), Fail> {
+    let (_, status, pieces, stored) = *cut;
+    let first = ended.stored("refl.cert").is_some();
+    let second = ended.stored("app.cert").is_some();
+    assert_eq!(rt; (first, second), stored);
+    sees(rt, ended, status, first_pieces(alloc, pieces)?.as_slice())
+}
+
+/// Asserts what is put and stored under these options where these calls fail.
+fn cuts<R: Abort + Threads + Wait + Sync>(
+    rt: &R,
+    alloc: Global,
+    options: &str,
+    cut: &Cut,
+) -> Result<(), Fail> {
+    let asked = format!(in alloc; "{options}{TWO}")?;
+    let ended = session(rt, alloc, asked.as_str(), cut.0, &NoGate)?;
+    is_cut(rt, alloc, &ended, cut)
 }
 
 #[test]
 fn a_certificate_is_stored_before_the_last_line(rt: HostRuntime) -> Result<(), Fail> {
     for cut in &CUTS {
-        cuts(&rt, rt.alloc(), cut)?;
+        cuts(&rt, rt.alloc(), "", cut)?;
+        cuts(&rt, rt.alloc(), "--workers 4 ", cut)?;
     }
     Ok(())
 }

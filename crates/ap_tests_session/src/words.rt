@@ -23,11 +23,13 @@ const ENOUGH: &str = "refl
 const CERTIFIED: &str =
     "Book refl / DEFTHM REFL / Goal simplify 0 / DEFTHM REFL proved / Book refl certified";
 
-/// Words of which a book isn't certified.
+/// Words of which a book isn't certified: one that isn't there, and those of which a limit is reached, the last but one by a
+/// rule that leads from a call to the same call on a part of its argument.
 const SHORT: &str = "gone => Book gone / Absent / Book gone not certified
 gone refl => Book gone / Absent / Book gone not certified / Book refl / DEFTHM REFL / Goal simplify 0 / DEFTHM REFL proved / Book refl certified
 --goals 1 refl => Book refl / DEFTHM REFL / Goal simplify 0 / Goal limit / DEFTHM REFL refused 8.3 GoalLimit / Book refl not certified
 --steps 2 refl => Book refl / DEFTHM REFL / Goal steplimit / Goal push *1 / *1 noscheme / Checkpoints before induction / Goal: (EQUAL X X) / DEFTHM REFL refused 8.1 NoScheme / Book refl not certified
+--steps 50 loop | loop: (defun g (x) (equal x x)) (defthm g1 (equal (g x) (g (car x)))) (defthm g2 (equal (g x) t)) => Book loop / DEFUN G / DEFUN G admitted / DEFTHM G1 / Goal simplify 0 / DEFTHM G1 proved / DEFTHM G2 / Goal steplimit / Goal push *1 / *1 noscheme / Checkpoints before induction / Goal: (EQUAL (G X) 'T) / DEFTHM G2 refused 8.1 NoScheme / Book loop not certified
 --goals 1 --steps 1000000 refl => Book refl / DEFTHM REFL / Goal simplify 0 / Goal limit / DEFTHM REFL refused 8.3 GoalLimit / Book refl not certified";
 
 /// Words that are no command: none at all in the first line, and in the last ones those of the demo.
@@ -70,7 +72,7 @@ const DEMO: &str = "--demo 150 => Demo 150 events 300 goals 1200 certified
 fn the_words_say_what_is_worked(rt: HostRuntime) -> Result<(), Fail> {
     let alloc = rt.alloc();
     sessions_print(&rt, alloc, ENOUGH, Status::Certified, CERTIFIED, 6)?;
-    sessions_print(&rt, alloc, SHORT, Status::NotCertified, "", 5)?;
+    sessions_print(&rt, alloc, SHORT, Status::NotCertified, "", 6)?;
     sessions_print(&rt, alloc, NO_COMMAND, Status::Usage, USAGE, 28)
 }
 
