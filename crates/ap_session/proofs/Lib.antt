@@ -1,8 +1,10 @@
+pub mod Acting
 pub mod Commanding
 pub mod Demoing
 pub mod Leading
 pub mod Numbers
 pub mod Passing
+pub mod Seconds
 pub mod Sessions
 pub mod Soundness
 pub mod Starting

@@ -1,14 +1,17 @@
 -- The books of a session, one after another.
-use Rattle.std.proofs.Common.{◌≡◌, ◌∙◌, ◌⊎◌, ◌≤◌, ◌<◌, ℕ, zero, suc, Bool, true, false, ◌&&◌, List, [], ◌∷◌, ◌++◌, length, get_or, take, map, Option, Some, refl, ap, sym, subst, inl, inr, arith}
+use Rattle.std.proofs.Common.{◌≡◌, ◌∙◌, ◌⊎◌, ◌≤◌, ◌<◌, ℕ, zero, suc, Bool, true, false, ◌&&◌, List, [], ◌∷◌, ◌++◌, length, get_or, take, map, Option, Some, None, refl, ap, sym, subst, inl, inr, arith}
 use Rattle.std.proofs.Math.Seq.{take-append_seam}
+use Rattle.std.proofs.lemmas.List.{append-nil}
 use Rattle.std.specs.Prelude.{IfSome}
 use Rattle.ap_outside.specs.declared.library.BookRead.{BookRead}
 use Rattle.ap_outside.specs.Files.{Files, told_at}
 use Rattle.ap_outside.specs.Books.{answer_of}
 use Rattle.ap_outside.specs.Gains.{Gained, GainedPart}
-use Rattle.ap_outside.proofs.Gains.{gained_nothing, gained_more, part_first, part_next, part_all}
+use Rattle.ap_outside.proofs.Gains.{gained_nothing, gained_more, gained_to, part_first, part_next, part_all, part_to}
+use Rattle.ap_outside.specs.Faults.{Rose}
 use Rattle.ap_books.specs.declared.admitter.BookSeen.{BookSeen}
 use Rattle.ap_books.specs.Bodies.{Body}
+use Rattle.ap_books.specs.Texts.{closing}
 use Rattle.ap_plain.specs.declared.limits.Limits.{Limits}
 use Rattle.ap_table.specs.declared.link.DropNote.{DropNote}
 use Rattle.ap_plain.specs.Ends.{Told, walks_in}
@@ -17,13 +20,16 @@ use Rattle.ap_world.specs.World.{Shown}
 use Rattle.ap_session.specs.declared.fault.Fault.{Fault}
 use Rattle.ap_session.specs.declared.fault.Fault.TheVariants as faults
 use Rattle.ap_session.specs.declared.report.Status.TheVariants.{ReadFault, WriteFault}
+use Rattle.ap_session.specs.Acts.{put, put_by, stored_by, Outside, Acted, Tied}
 use Rattle.ap_session.specs.Certs.{Seen, seen_in, files_by}
-use Rattle.ap_session.specs.Command.{Order, of_books}
+use Rattle.ap_session.specs.Command.{Command, Order, of_books, of_demo}
 use Rattle.ap_session.specs.Storing.{Stored, StoredPart}
 use Rattle.ap_session.proofs.Storing.{stored_none, stored_more, part_all as files_all, part_next as files_next, AreCerts, book_stays}
 use Rattle.ap_session.specs.Working.{Working, start}
 use Rattle.ap_session.specs.Admitting.{AdmittingSeen, notes_in, left_in, IsTold, Led}
-use Rattle.ap_session.specs.Session.{Session, begun, read_body, book_text, kept_more, last_of, with_body, then_book, books_of, reads_in, worked_books, Worked, Kept, Passed, IsNext, Listed, file_name, session, traced, output, fault_status, is_done}
+use Rattle.ap_session.proofs.Acting.{put_more, stored_by_more, stored_end, book_puts, Later, tied_first, tied_next, tied_all, tied_by, tied_put}
+use Rattle.ap_session.specs.Texts.{usage_text}
+use Rattle.ap_session.specs.Session.{Session, ActsAgree, acts_of, begun, read_body, book_text, book_acts, demo_session, kept_more, last_of, with_body, then_book, books_of, reads_in, worked_books, Worked, Kept, Passed, IsNext, Listed, file_name, session, traced, output, fault_status, is_done}
 use Rattle.ap_plain.proofs.Telling.{notes_more, notes_none, told_left, told_right}
 
 none_read : (limits : Limits) (s : Session) (names : List (List ℕ)) → books_of limits s names [] ≡ s
@@ -98,6 +104,39 @@ books_certs limits s (n ∷ ns) (r ∷ rs) h =
 
 pub worked_certs : (a : AdmittingSeen) (names : List (List ℕ)) (books : List BookSeen) → AreCerts (worked_books a names books).files
 worked_certs a names books = books_certs a.working.limits begun names (reads_in books) tt
+
+-- what a session's acts put is its text, and what they store are its certificates
+
+acts_then : (s : Session) (name : List ℕ) (read : BookRead) (b : Body Working Told) → ActsAgree s → ActsAgree (with_body s name read b)
+acts_then s name read b h =
+    let acts = book_acts s.seen name read b in
+    let files = files_by s.seen name read b.certified in (
+      put_more s.acts acts ∙ ap (λ t. t ++ put_by acts) h.0 ∙ ap (λ t. s.text ++ t) (book_puts s.seen name read b),
+      stored_by_more s.acts acts ∙ ap (λ fs. fs ++ stored_by acts) h.1 ∙ ap (λ fs. s.files ++ fs) (stored_end files (closing name b.certified)),
+    )
+
+books_agree : (limits : Limits) (s : Session) (names : List (List ℕ)) (reads : List BookRead) → ActsAgree s → ActsAgree (books_of limits s names reads)
+books_agree limits s [] reads h = h
+books_agree limits s (n ∷ ns) [] h = h
+books_agree limits s (n ∷ ns) (r ∷ rs) h =
+    let body = read_body limits s.earlier r in
+    books_agree limits (with_body s n r body) ns rs (acts_then s n r body h)
+
+pub session_agrees : (c : Option Command) (reads : List BookRead) → ActsAgree (session c reads)
+session_agrees None reads = (append-nil usage_text, refl)
+session_agrees (Some (of_books o)) reads = books_agree o.limits begun o.books reads (refl, refl)
+session_agrees (Some (of_demo d)) reads = (append-nil (demo_session d).text, refl)
+
+-- so books that were worked were acted
+pub worked_acted : (from now : Outside) (lib : Option Files) (names : List (List ℕ)) (a b : AdmittingSeen) (books : List BookSeen) (all : Bool)
+    → Worked from.content now.content from.files lib (worked_books a names books) all b → now.files ≡ lib → Acted from now (worked_books a names books).acts
+worked_acted from now lib names a b books all w same =
+    let s = worked_books a names books in
+    let k = books_agree a.working.limits begun names (reads_in books) (refl, refl) in
+    record {
+      text = gained_to from.content now.content s.text (put_by s.acts) w.text (sym k.0);
+      files = subst (λ fs. Stored from.files now.files fs) (sym k.1) (subst (λ o. Stored from.files o s.files) (sym same) w.files);
+    }
 
 -- the books so far
 pub record SoFar (from now : Option (List ℕ)) (files lib : Option Files) (names : List (List ℕ)) (a b : AdmittingSeen) (books : List BookSeen) (all : Bool) : Type 0 where
@@ -237,6 +276,29 @@ cut_between from now files lib end names a b books new all e f so =
       listed = so.listed;
     })
 
+-- and its acts with it: within a book
+pub tied_within : (from mid now : Outside) (lib : Option Files) (names : List (List ℕ)) (a b : AdmittingSeen) (books new : List BookSeen) (all : Bool) (name : List ℕ) (book : BookSeen) (failed : Type 0)
+    → length books < length names → name ≡ get_or names (length books) name → (next : IsNext lib name books new) → book ≡ next.book
+    → SoFar from.content mid.content from.files lib names a b books all → mid.files ≡ lib → Later from mid → Later mid now
+    → Tied mid now failed (book_acts (seen_in books) book.name.0 book.read (read_body b.working.limits b.working.earlier book.read)) → Tied from now failed (worked_books a names new).acts
+tied_within from mid now lib names a b books new all name book failed h is next same so stay before after tied =
+    let named = ap (λ (k : BookSeen). k.name.0) same ∙ next.named in
+    let s = worked_books a names books in
+    let body = read_body b.working.limits b.working.earlier book.read in
+    let list : new ≡ books ++ book ∷ [] = next.listed ∙ ap (λ k. books ++ k ∷ []) (sym same) in
+    let to : worked_books a names new ≡ with_body s book.name.0 book.read body =
+    ap (worked_books a names) list ∙ then_listed a names books name book h is named ∙ ap (with_body s book.name.0 book.read) (sym (body_same s a b book.read so.limits so.worked.earlier)) in
+    subst (λ (t : Session). Tied from now failed t.acts) (sym to)
+    (tied_next from mid now failed s.acts (book_acts s.seen book.name.0 book.read body) before after (worked_acted from mid lib names a b books all so.worked stay)
+    (subst (λ (ks : Seen). Tied mid now failed (book_acts ks book.name.0 book.read body)) (sym so.seen) tied))
+
+-- between two books
+pub tied_between : (from now : Outside) (lib : Option Files) (names : List (List ℕ)) (a b : AdmittingSeen) (books new : List BookSeen) (all : Bool) (failed : Type 0)
+    → ¬ failed → new ≡ books → SoFar from.content now.content from.files lib names a b books all → now.files ≡ lib → Tied from now failed (worked_books a names new).acts
+tied_between from now lib names a b books new all failed none e so stay =
+    subst (λ l. Tied from now failed (worked_books a names l).acts) (sym e)
+    (tied_all from now failed (worked_books a names books).acts none (worked_acted from now lib names a b books all so.worked stay))
+
 -- the session of a command, by what was worked
 command_session : (c : Order) (a : AdmittingSeen) (books new : List BookSeen) → a.working.limits ≡ c.limits → new ≡ books
     → worked_books a c.books books ≡ session (Some (of_books c)) (reads_in new)
@@ -307,3 +369,27 @@ pub command_stored : (files lib end : Option Files) (c : Order) (a : AdmittingSe
     → StoredPart files lib (worked_books a c.books books).files → StoredPart files end (session (Some (of_books c)) (reads_in new)).files
 command_stored files lib end c a books new l e f h =
     subst (λ (s : Session). StoredPart files end s.files) (command_session c a books new l e) (subst (λ fs. StoredPart files fs (worked_books a c.books books).files) (sym f) h)
+
+-- its acts, cut off within the books
+pub command_tied : (from now : Outside) (failed other : Type 0) (c : Order) (a : AdmittingSeen) (books new : List BookSeen) (drops : List DropNote) → a.working.limits ≡ c.limits → new ≡ books
+    → (other → failed) → Tied from now failed (worked_books a c.books books).acts → Tied from now other (acts_of (Some (of_books c)) (session (Some (of_books c)) (reads_in new)) drops)
+command_tied from now failed other c a books new drops l e to h =
+    subst (λ (s : Session). Tied from now other (acts_of (Some (of_books c)) s drops)) (command_session c a books new l e)
+    (tied_first from now other (worked_books a c.books books).acts (put (traced (Some (of_books c)) drops) ∷ []) (tied_by from now failed other (worked_books a c.books books).acts to h))
+
+-- and behind them, at what tells of drops
+pub command_traced : (from mid now : Outside) (failed : Type 0) (c : Order) (a b : AdmittingSeen) (books new : List BookSeen) (drops : List DropNote) (all : Bool) → a.working.limits ≡ c.limits → new ≡ books
+    → Later from mid → Later mid now → Worked from.content mid.content from.files mid.files (worked_books a c.books books) all b
+    → (failed → Rose mid.puts now.puts) → GainedPart mid.content now.content (traced (Some (of_books c)) drops) → now.files ≡ mid.files
+    → Tied from now failed (acts_of (Some (of_books c)) (session (Some (of_books c)) (reads_in new)) drops)
+command_traced from mid now failed c a b books new drops all l e before after worked rose part stay =
+    subst (λ (s : Session). Tied from now failed (acts_of (Some (of_books c)) s drops)) (command_session c a books new l e)
+    (tied_next from mid now failed (worked_books a c.books books).acts (put (traced (Some (of_books c)) drops) ∷ []) before after
+    (worked_acted from mid mid.files c.books a b books all worked refl)
+    (tied_put mid now failed (traced (Some (of_books c)) drops) [] rose part stay))
+
+-- one text, and no more
+pub text_tied : (from now : Outside) (failed : Type 0) (text : List ℕ) → (failed → Rose from.puts now.puts) → GainedPart from.content now.content (text ++ []) → now.files ≡ from.files
+    → Tied from now failed (put text ∷ put [] ∷ [])
+text_tied from now failed text rose part stay =
+    tied_put from now failed text (put [] ∷ []) rose (part_to from.content now.content (text ++ []) text part (append-nil text)) stay

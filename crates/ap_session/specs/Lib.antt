@@ -1,7 +1,9 @@
+pub mod Acts
 pub mod Admitting
 pub mod Certs
 pub mod Command
 pub mod Demo
+pub mod Laws
 pub mod Session
 pub mod Storing
 pub mod Texts

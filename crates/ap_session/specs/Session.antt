@@ -21,6 +21,7 @@ use Rattle.ap_session.specs.declared.fault.Fault.TheVariants as faults
 use Rattle.ap_session.specs.declared.second.Second.{Second}
 use Rattle.ap_session.specs.declared.second.Second.TheVariants.{SoFar, Failed}
 use Rattle.ap_session.specs.Admitting.{AdmittingSeen, notes_in, left_in, IsTold}
+use Rattle.ap_session.specs.Acts.{Act, put, store, put_by, stored_by}
 use Rattle.ap_session.specs.Certs.{Seen, files_by}
 use Rattle.ap_session.specs.Command.{Command, Demo, of_books, of_demo}
 use Rattle.ap_session.specs.Demo.{demo_read, admitted_of, demo_line}
@@ -35,6 +36,14 @@ read_body limits earlier read = body_of admits ends read (begin limits earlier)
 -- a book's text, from its first line to its last
 unfoldable pub book_text : List ℕ → Body Working Told → List ℕ
 book_text name b = opened name b ++ closing name b.certified
+
+-- what a book does to the outside, in order: its text before the last line, its certificate where it is certified, and then
+-- its last line
+abbrev pub end_acts : Seen → List ℕ → BookRead → Bool → List Act
+end_acts seen name read certified = map store (files_by seen name read certified) ++ put (closing name certified) ∷ []
+
+abbrev pub book_acts : Seen → List ℕ → BookRead → Body Working Told → List Act
+book_acts seen name read b = put (opened name b) ∷ end_acts seen name read b.certified
 
 -- the world that a certified book keeps, which later books may include: that of its second pass
 abbrev pub kept_by : Second → Shown → Shown
@@ -53,18 +62,20 @@ abbrev pub last_of : Body Working Told → Shown
 last_of b = cond b.certified (kept_of b) b.state.world
 
 -- a session so far: its text, whether each of its books is certified, the books as they were read, the certificates that
--- were stored, what was told on the way, the kept worlds of the certified books, by their names, and the last world
+-- were stored, in which order these and the text's parts were, what was told on the way, the kept worlds of the certified
+-- books, by their names, and the last world
 pub record Session : Type 0 where
   pub text : List ℕ
   pub certified : Bool
   pub seen : Seen
   pub files : Files
+  pub acts : List Act
   pub told : List Told
   pub earlier : Earlier
   pub last : Shown
 
 abbrev pub begun : Session
-begun = record { text = []; certified = true; seen = []; files = []; told = []; earlier = []; last = start }
+begun = record { text = []; certified = true; seen = []; files = []; acts = []; told = []; earlier = []; last = start }
 
 -- one book more
 abbrev pub with_body : Session → List ℕ → BookRead → Body Working Told → Session
@@ -73,6 +84,7 @@ with_body s name read b = record {
   certified = s.certified && b.certified;
   seen = s.seen ++ (name, read) ∷ [];
   files = s.files ++ files_by s.seen name read b.certified;
+  acts = s.acts ++ book_acts s.seen name read b;
   told = s.told ++ b.log;
   earlier = kept_more s.earlier name b;
   last = last_of b;
@@ -89,15 +101,28 @@ books_of limits s (name ∷ names) (read ∷ reads) = books_of limits (then_book
 
 -- the session that words which are no command give
 abbrev pub usage : Session
-usage = record { text = usage_text; certified = false; seen = []; files = []; told = []; earlier = []; last = start }
+usage = record {
+  text = usage_text;
+  certified = false;
+  seen = [];
+  files = [];
+  acts = put usage_text ∷ [];
+  told = [];
+  earlier = [];
+  last = start;
+}
 
 -- the demo: its book is worked as any other is behind none, and of all that it prints one line tells
+abbrev pub line_of : Demo → List Form → Body Working Told → List ℕ
+line_of d fs b = demo_line d.number (admitted_of fs (begin d.limits [])) (goals_in b.log) b.certified
+
 abbrev pub demo_worked : Demo → List Form → Body Working Told → Session
 demo_worked d fs b = record {
-  text = demo_line d.number (admitted_of fs (begin d.limits [])) (goals_in b.log) b.certified;
+  text = line_of d fs b;
   certified = b.certified;
   seen = [];
   files = [];
+  acts = put (line_of d fs b) ∷ [];
   told = b.log;
   earlier = [];
   last = last_of b;
@@ -125,6 +150,14 @@ traced (Some (of_demo d)) drops = []
 -- all that is printed
 abbrev pub output : Option Command → Session → List DropNote → List ℕ
 output command s drops = s.text ++ traced command drops
+
+-- and all that is done to the outside
+abbrev pub acts_of : Option Command → Session → List DropNote → List Act
+acts_of command s drops = s.acts ++ put (traced command drops) ∷ []
+
+-- what a session's acts put is its text, and what they store are its certificates
+abbrev pub ActsAgree : Session → Type 0
+ActsAgree s = (put_by s.acts ≡ s.text) × (stored_by s.acts ≡ s.files)
 
 -- the session passed through this world
 abbrev pub Passed : Session → Shown → Type 0

@@ -1,6 +1,6 @@
 -- How the events of a book are worked, one after another: in a first pass, and in a second one beside it, from which what
 -- is local is left out.
-use Rattle.std.specs.Prelude.{◌≡◌, ℕ, Bool, true, false, List, [], ◌∷◌, ◌++◌, Option, Some, None, codes}
+use Rattle.std.specs.Prelude.{◌≡◌, ℕ, Bool, true, false, List, [], ◌∷◌, Option, Some, None}
 use Rattle.ap_list.specs.Lists.{Each}
 use Rattle.ap_world.specs.Alike.{Covers}
 use Rattle.ap_world.specs.Ground.{ground}
@@ -8,10 +8,10 @@ use Rattle.ap_world.specs.Sound.{HasFunctions}
 use Rattle.ap_world.specs.World.{Shown, function_of, are_distinct}
 use Rattle.ap_reader.specs.declared.form.Form.{Form}
 use Rattle.ap_books.specs.Bodies.{Turn}
-use Rattle.ap_books.specs.Texts.{line}
 use Rattle.ap_plain.specs.declared.limits.Limits.{Limits}
 use Rattle.ap_plain.specs.Ends.{Done, Told, passed}
 use Rattle.ap_events.specs.Books.{Earlier, worked, worked_again}
+use Rattle.ap_events.specs.Nested.{second_by as ended_by}
 use Rattle.ap_session.specs.declared.second.Second.{Second}
 use Rattle.ap_session.specs.declared.second.Second.TheVariants.{SoFar, Failed}
 
@@ -63,10 +63,10 @@ turn_of s f d = record { text = d.text; refused = is_refused d.next; next = afte
 abbrev pub admits : Working → Form → Turn Working Told
 admits s f = turn_of s f (worked s.limits s.earlier s.world f)
 
--- at a book's end: the second pass prints what it refused, or tells the world that it gave
+-- at a book's end, as at that of an `encapsulate`: the second pass prints what it refused, or tells the world that it gave
 abbrev pub end_text : Second → List ℕ
 end_text (SoFar v) = []
-end_text (Failed text) = line (codes "Second pass") ++ text
+end_text (Failed text) = (ended_by (record { text = text; next = None; told = [] }) None).text
 
 abbrev pub has_failed : Second → Bool
 has_failed (SoFar v) = false

@@ -1,14 +1,15 @@
-ghost use Rattle.std.specs.Prelude.{◌≡◌, ◌≢◌, ◌≤◌, ◌⊎◌, ◌++◌, ◌∷◌, [], false, is_some, string_bytes, IfOk, IfErr, IfSome, OnOk, OnErr};
+ghost use Rattle.std.specs.Prelude.{◌≡◌, ◌≢◌, ◌≤◌, ◌⊎◌, ◌++◌, ◌∷◌, [], true, false, is_some, string_bytes, IfOk, IfErr, IfSome, OnOk, OnErr};
 ghost use Rattle.ap_outside.specs.Faults.{Rose};
 ghost use Rattle.ap_outside.specs.Gains.{Gained, GainedPart};
 ghost use Rattle.ap_books.specs.Bodies.{worked, body_by, body_of, forms_by, forms_of, opened};
 ghost use Rattle.ap_books.specs.Texts.{closing};
 ghost use Rattle.ap_events.specs.Held.{held_in};
+ghost use Rattle.ap_session.specs.Acts.{outside, Tied};
 ghost use Rattle.ap_session.specs.Certs.{seen_in, cert_name, files_by};
 ghost use Rattle.ap_session.specs.Storing.{Stored, StoredPart};
 ghost use Rattle.ap_session.specs.Working.{start, admits, ends, has_failed};
 ghost use Rattle.ap_session.specs.Admitting.{notes_in, left_in, Behind, Led};
-ghost use Rattle.ap_session.specs.Session.{read_body, kept_by, kept_more, last_of, book_text};
+ghost use Rattle.ap_session.specs.Session.{read_body, kept_by, kept_more, last_of, book_text, end_acts, book_acts};
 
 use crate::admitting::Admitting;
 use crate::certs::{cert_text, held_of};
@@ -120,22 +121,6 @@ fn show_body<R: Threads + Wait + Sync, G: Gate + Sync, S: Sink>(
     }
 }
 
-/// Puts a book's last line.
-fn put_closing<S: Sink>(
-    alloc: Global,
-    book: &BookSeen,
-    certified: bool,
-    sink: &mut S,
-) -> Result<(), WriteFault>
-    ensures text { OnOk result (Gained (S.content sink.old) (S.content sink.new) (closing book.now.name.0 certified)) }
-    ensures part { OnErr result (GainedPart (S.content sink.old) (S.content sink.new) (closing book.now.name.0 certified)) }
-    ensures later { S.faults sink.old ≤ S.faults sink.new }
-    ensures failed { result ≡ Err WriteFault.Failed → Rose (S.faults sink.old) (S.faults sink.new) }
-{
-    let last = closing(alloc, book.name.0.as_slice(), certified)?;
-    put_all(sink, last.as_slice())
-}
-
 /// Puts the text between a book's first and last lines. Answers what the book's events hold, where it is certified.
 #[tactic(auto, using(ap_outside::proofs::Gains::part_all))]
 fn show_held<R: Threads + Wait + Sync, G: Gate + Sync, S: Sink>(
@@ -203,7 +188,7 @@ fn store_text<L: Library>(
     library.store(alloc, file.as_str(), text)
 }
 
-/// Stores the certificate of a book that is certified, by what its events hold. Answers whether it is.
+/// Stores the certificate of a book that is certified, by what its events hold. For another book it does nothing.
 #[tactic(auto, using(crate::proofs::Storing::stored_none, crate::proofs::Storing::part_none))]
 fn store_cert<L: Library>(
     alloc: Global,
@@ -217,6 +202,7 @@ fn store_cert<L: Library>(
     requires held { IfSome held (λ h. h.now ≡ held_in (forms_of book.now.read)) }
     ensures files { OnOk result (Stored (L.files library.old) (L.files library.new) (files_by (seen_in before.now) book.now.name.0 book.now.read (is_some held.entry))) }
     ensures part { OnErr result (StoredPart (L.files library.old) (L.files library.new) (files_by (seen_in before.now) book.now.name.0 book.now.read (is_some held.entry))) }
+    ensures certified { OnErr result (is_some held.entry ≡ true) }
     ensures reads { L.read_faults library.new ≡ L.read_faults library.old }
     ensures later { L.store_faults library.old ≤ L.store_faults library.new }
     ensures failed { result ≡ Err WriteFault.Failed → Rose (L.store_faults library.old) (L.store_faults library.new) }
@@ -226,6 +212,35 @@ fn store_cert<L: Library>(
     };
     let text = cert_text(alloc, before, book, held)?;
     store_text(alloc, name, text.as_slice(), library)
+}
+
+/// Ends a book by what its events hold: stores its certificate where it is certified, and puts its last line, for which
+/// memory is taken before.
+#[tactic(auto, using(ap_outside::proofs::Gains::gains, crate::proofs::Storing::part_none, crate::proofs::Storing::part_all))]
+fn end_book<L: Library, S: Sink>(
+    alloc: Global,
+    name: &String,
+    before: &[BookSeen],
+    book: &BookSeen,
+    held: Option<&Held>,
+    library: &mut L,
+    sink: &mut S,
+) -> Result<(), WriteFault>
+    requires named { string_bytes name.now ≡ book.now.name.0 }
+    requires held { IfSome held (λ h. h.now ≡ held_in (forms_of book.now.read)) }
+    ensures text { OnOk result (Gained (S.content sink.old) (S.content sink.new) (closing book.now.name.0 (is_some held.entry))) }
+    ensures files { OnOk result (Stored (L.files library.old) (L.files library.new) (files_by (seen_in before.now) book.now.name.0 book.now.read (is_some held.entry))) }
+    ensures part { OnErr result (GainedPart (S.content sink.old) (S.content sink.new) (closing book.now.name.0 (is_some held.entry))) }
+    ensures stored { OnErr result (StoredPart (L.files library.old) (L.files library.new) (files_by (seen_in before.now) book.now.name.0 book.now.read (is_some held.entry))) }
+    ensures tied { IfErr result (λ e. Tied (outside (S.content sink.old) (S.faults sink.old) (L.files library.old) (L.store_faults library.old)) (outside (S.content sink.new) (S.faults sink.new) (L.files library.new) (L.store_faults library.new)) (e ≡ WriteFault.Failed) (end_acts (seen_in before.now) book.now.name.0 book.now.read (is_some held.entry))) }
+    ensures reads { L.read_faults library.new ≡ L.read_faults library.old }
+    ensures stores { L.store_faults library.old ≤ L.store_faults library.new }
+    ensures later { S.faults sink.old ≤ S.faults sink.new }
+    ensures failed { result ≡ Err WriteFault.Failed → Rose (L.store_faults library.old) (L.store_faults library.new) ⊎ Rose (S.faults sink.old) (S.faults sink.new) }
+{
+    let last = closing(alloc, book.name.0.as_slice(), held.is_some())?;
+    store_cert(alloc, name, before, book, held, library)?;
+    put_all(sink, last.as_slice())
 }
 
 /// Puts a book's text, from its first line to its last, and stores its certificate before the last line where it is
@@ -248,6 +263,7 @@ fn show_book<R: Threads + Wait + Sync, L: Library, G: Gate + Sync, S: Sink>(
     ensures files { OnOk result (Stored (L.files library.old) (L.files library.new) (files_by (seen_in before.now) book.now.name.0 book.now.read (body_of admits ends book.now.read admitting.old.working).certified)) }
     ensures part { OnErr result (GainedPart (S.content sink.old) (S.content sink.new) (book_text book.now.name.0 (body_of admits ends book.now.read admitting.old.working))) }
     ensures stored { OnErr result (StoredPart (L.files library.old) (L.files library.new) (files_by (seen_in before.now) book.now.name.0 book.now.read (body_of admits ends book.now.read admitting.old.working).certified)) }
+    ensures tied { IfErr result (λ e. Tied (outside (S.content sink.old) (S.faults sink.old) (L.files library.old) (L.store_faults library.old)) (outside (S.content sink.new) (S.faults sink.new) (L.files library.new) (L.store_faults library.new)) (e ≡ WriteFault.Failed) (book_acts (seen_in before.now) book.now.name.0 book.now.read (body_of admits ends book.now.read admitting.old.working))) }
     ensures behind { Behind admitting.old admitting.new (body_of admits ends book.now.read admitting.old.working).log }
     ensures reads { L.read_faults library.new ≡ L.read_faults library.old }
     ensures stores { L.store_faults library.old ≤ L.store_faults library.new }
@@ -255,10 +271,8 @@ fn show_book<R: Threads + Wait + Sync, L: Library, G: Gate + Sync, S: Sink>(
     ensures failed { result ≡ Err WriteFault.Failed → Rose (L.store_faults library.old) (L.store_faults library.new) ⊎ Rose (S.faults sink.old) (S.faults sink.new) }
 {
     let held = show_opened(rt, alloc, book, admitting, sink)?;
-    store_cert(alloc, name, before, book, held.as_ref(), library)?;
-    let certified = held.is_some();
-    put_closing(alloc, book, certified, sink)?;
-    Ok(certified)
+    end_book(alloc, name, before, book, held.as_ref(), library, sink)?;
+    Ok(held.is_some())
 }
 
 /// The same, with the fault as the session's.
@@ -280,6 +294,7 @@ fn show_whole<R: Threads + Wait + Sync, L: Library, G: Gate + Sync, S: Sink>(
     ensures part { OnErr result (GainedPart (S.content sink.old) (S.content sink.new) (book_text book.now.name.0 (body_of admits ends book.now.read admitting.old.working))) }
     ensures behind { Behind admitting.old admitting.new (body_of admits ends book.now.read admitting.old.working).log }
     ensures stored { OnErr result (StoredPart (L.files library.old) (L.files library.new) (files_by (seen_in before.now) book.now.name.0 book.now.read (body_of admits ends book.now.read admitting.old.working).certified)) }
+    ensures tied { IfErr result (λ e. Tied (outside (S.content sink.old) (S.faults sink.old) (L.files library.old) (L.store_faults library.old)) (outside (S.content sink.new) (S.faults sink.new) (L.files library.new) (L.store_faults library.new)) (e ≡ Fault.Write) (book_acts (seen_in before.now) book.now.name.0 book.now.read (body_of admits ends book.now.read admitting.old.working))) }
     ensures reads { L.read_faults library.new ≡ L.read_faults library.old }
     ensures stores { L.store_faults library.old ≤ L.store_faults library.new }
     ensures later { S.faults sink.old ≤ S.faults sink.new }
@@ -332,6 +347,7 @@ fn work_begun<R: Threads + Wait + Sync, L: Library, G: Gate + Sync, S: Sink>(
     ensures part { OnErr result (GainedPart (S.content sink.old) (S.content sink.new) (book_text book.now.name.0 (body_of admits ends book.now.read admitting.old.working))) }
     ensures led { Led admitting.old admitting.new (body_of admits ends book.now.read admitting.old.working).log }
     ensures stored { OnErr result (StoredPart (L.files library.old) (L.files library.new) (files_by (seen_in before.now) book.now.name.0 book.now.read (body_of admits ends book.now.read admitting.old.working).certified)) }
+    ensures tied { IfErr result (λ e. Tied (outside (S.content sink.old) (S.faults sink.old) (L.files library.old) (L.store_faults library.old)) (outside (S.content sink.new) (S.faults sink.new) (L.files library.new) (L.store_faults library.new)) (e ≡ Fault.Write) (book_acts (seen_in before.now) book.now.name.0 book.now.read (body_of admits ends book.now.read admitting.old.working))) }
     ensures reads { L.read_faults library.new ≡ L.read_faults library.old }
     ensures stores { L.store_faults library.old ≤ L.store_faults library.new }
     ensures later { S.faults sink.old ≤ S.faults sink.new }
@@ -368,6 +384,7 @@ pub(crate) fn work_book<R: Threads + Wait + Sync, L: Library, G: Gate + Sync, S:
     ensures part { OnErr result (GainedPart (S.content sink.old) (S.content sink.new) (book_text book.now.name.0 (read_body admitting.old.working.limits admitting.old.working.earlier book.now.read))) }
     ensures led { Led admitting.old admitting.new (read_body admitting.old.working.limits admitting.old.working.earlier book.now.read).log }
     ensures stored { OnErr result (StoredPart (L.files library.old) (L.files library.new) (files_by (seen_in before.now) book.now.name.0 book.now.read (read_body admitting.old.working.limits admitting.old.working.earlier book.now.read).certified)) }
+    ensures tied { IfErr result (λ e. Tied (outside (S.content sink.old) (S.faults sink.old) (L.files library.old) (L.store_faults library.old)) (outside (S.content sink.new) (S.faults sink.new) (L.files library.new) (L.store_faults library.new)) (e ≡ Fault.Write) (book_acts (seen_in before.now) book.now.name.0 book.now.read (read_body admitting.old.working.limits admitting.old.working.earlier book.now.read))) }
     ensures reads { L.read_faults library.new ≡ L.read_faults library.old }
     ensures stores { L.store_faults library.old ≤ L.store_faults library.new }
     ensures later { S.faults sink.old ≤ S.faults sink.new }

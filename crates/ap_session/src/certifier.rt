@@ -15,11 +15,12 @@ ghost use Rattle.ap_books.specs.Bodies.{forms_in};
 ghost use Rattle.ap_plain.specs.Ends.{worlds_in, walks_in};
 ghost use Rattle.ap_plain.specs.Drops.{DividedWalks};
 ghost use Rattle.ap_session.specs.Texts.{usage_text, trace_text};
+ghost use Rattle.ap_session.specs.Acts.{outside, Tied};
 ghost use Rattle.ap_session.specs.Certs.{EndsOtherwise};
 ghost use Rattle.ap_session.specs.Storing.{Stored, StoredPart};
 ghost use Rattle.ap_session.specs.Working.{start, bare};
 ghost use Rattle.ap_session.specs.Admitting.{notes_in, left_in};
-ghost use Rattle.ap_session.specs.Session.{session, worked_books, Worked, Kept, status_of, fault_status, usage, output, Passed, reads_in, file_name, IsNext, Listed, is_done, EndsItself};
+ghost use Rattle.ap_session.specs.Session.{session, worked_books, Worked, Kept, status_of, fault_status, usage, output, acts_of, ActsAgree, Passed, reads_in, file_name, IsNext, Listed, is_done, EndsItself};
 ghost use Rattle.ap_session.specs.Command.{command_of, books_in, workers_in, of_books, of_demo, shown_order, shown_demo};
 
 use crate::admitting::Admitting;
@@ -123,6 +124,8 @@ fn work_books<R: Threads + Wait + Sync, L: Library, S: Sink, G: Gate + Sync>(
     ensures kept { Kept (worked_books admitting.old (map string_bytes names.now) books.new) admitting.old admitting.new }
     ensures books { Listed (L.files library.old) (map string_bytes names.now) books.new }
     ensures stored { OnErr result (StoredPart (L.files library.old) (L.files library.new) (worked_books admitting.old (map string_bytes names.now) books.new).files) }
+    ensures stored_whole { result ≡ Err Fault.Read → Stored (L.files library.old) (L.files library.new) (worked_books admitting.old (map string_bytes names.now) books.new).files }
+    ensures tied { IfErr result (λ e. Tied (outside (S.content sink.old) (S.faults sink.old) (L.files library.old) (L.store_faults library.old)) (outside (S.content sink.new) (S.faults sink.new) (L.files library.new) (L.store_faults library.new)) (e ≡ Fault.Write) (worked_books admitting.old (map string_bytes names.now) books.new).acts) }
     ensures reads { L.read_faults library.old ≤ L.read_faults library.new }
     ensures stores { L.store_faults library.old ≤ L.store_faults library.new }
     ensures puts { S.faults sink.old ≤ S.faults sink.new }
@@ -287,6 +290,8 @@ fn certify_books<R: Threads + Wait + Sync, L: Library, S: Sink, G: Gate + Sync>(
     ensures all { is_done result.status ≡ true → map (λ b. b.name.0) result.books ≡ books_in (Some (of_books (shown_order order.entry))) }
     ensures files { let c = Some (of_books (shown_order order.entry)) in is_done result.status ≡ true → Stored (L.files library.old) (L.files library.new) (session c (reads_in result.books)).files }
     ensures stored { let c = Some (of_books (shown_order order.entry)) in is_done result.status ≡ false → StoredPart (L.files library.old) (L.files library.new) (session c (reads_in result.books)).files }
+    ensures stored_whole { let c = Some (of_books (shown_order order.entry)) in result.status ≡ Status.ReadFault → Stored (L.files library.old) (L.files library.new) (session c (reads_in result.books)).files }
+    ensures tied { let c = Some (of_books (shown_order order.entry)) in is_done result.status ≡ false → Tied (outside (S.content sink.old) (S.faults sink.old) (L.files library.old) (L.store_faults library.old)) (outside (S.content sink.new) (S.faults sink.new) (L.files library.new) (L.store_faults library.new)) (result.status ≡ Status.WriteFault) (acts_of c (session c (reads_in result.books)) result.drops) }
     ensures others { (name : List ℕ) → EndsOtherwise name → told_at (L.files library.new) name ≡ told_at (L.files library.old) name }
     ensures reads { L.read_faults library.old ≤ L.read_faults library.new }
     ensures stores { L.store_faults library.old ≤ L.store_faults library.new }
@@ -461,7 +466,13 @@ pub fn certify<R: Threads + Wait + Sync, L: Library, S: Sink, G: Gate + Sync>(
     // behind these nothing is said; a file whose name doesn't end in `.cert` is as it was
     ensures files { let c = command_of (map string_bytes words.now) in is_done result.status ≡ true → Stored (L.files library.old) (L.files library.new) (session c (reads_in result.books)).files }
     ensures stored { let c = command_of (map string_bytes words.now) in is_done result.status ≡ false → StoredPart (L.files library.old) (L.files library.new) (session c (reads_in result.books)).files }
+    ensures stored_whole { let c = command_of (map string_bytes words.now) in result.status ≡ Status.ReadFault → Stored (L.files library.old) (L.files library.new) (session c (reads_in result.books)).files }
     ensures others { (name : List ℕ) → EndsOtherwise name → told_at (L.files library.new) name ≡ told_at (L.files library.old) name }
+
+    // text and certificates are put and stored in the session's order: where a fault ended it, the first of its acts were
+    // done, and of the one behind them at most a part; where a put or a store failed it is that one
+    ensures tied { let c = command_of (map string_bytes words.now) in is_done result.status ≡ false → Tied (outside (S.content sink.old) (S.faults sink.old) (L.files library.old) (L.store_faults library.old)) (outside (S.content sink.new) (S.faults sink.new) (L.files library.new) (L.store_faults library.new)) (result.status ≡ Status.WriteFault) (acts_of c (session c (reads_in result.books)) result.drops) }
+    ensures acts { let c = command_of (map string_bytes words.now) in ActsAgree (session c (reads_in result.books)) }
 
     // no count of faults falls
     ensures reads { L.read_faults library.old ≤ L.read_faults library.new }

@@ -1,7 +1,12 @@
-use Rattle.std.proofs.Common.{◌∙◌}
+use Rattle.std.proofs.Common.{◌≡◌, ◌∙◌}
+use Rattle.std.proofs.lemmas.Result.{err_from_is_err_and}
 use Rattle.ap_books.specs.Bodies.{body_of}
+use Rattle.ap_session.specs.declared.fault.Fault.TheVariants as faults
+use Rattle.ap_session.specs.Acts.{outside}
+use Rattle.ap_session.specs.Certs.{seen_in}
 use Rattle.ap_session.specs.Working.{admits, ends}
-use Rattle.ap_session.specs.Session.{kept_by}
+use Rattle.ap_session.specs.Session.{kept_by, book_acts}
+use Rattle.ap_session.proofs.Acting.{tied_all, tied_same, acted_book}
 use Rattle.ap_session.proofs.Leading.{kept_passed, kept_told, led_none, led_kept}
 use Rattle.ap_session.proofs.book.work_begun.Goals as goal
 
@@ -19,3 +24,24 @@ returns-clause-led g c =
     let b = c.show_whole.new.admitting in
     led_kept a b c.keep.new.admitting (body_of admits ends c.args.book.now.read a.working).log (kept_by b.working.second b.working.world) c.in_ok-certified.ensures.behind c.in_ok-keep.ensures.left
     (kept_told c.args.book.now.read a.working b.working (c.in_ok-certified.ensures.certified ∙ c.if-not-certified.false) c.in_ok-certified.ensures.state) c.in_ok-keep.ensures.limits c.in_ok-keep.ensures.notes c.in_ok-keep.ensures.workers
+
+pub returns-in_err-certified-clause-tied : goal.returns-in_err-certified-clause-tied
+returns-in_err-certified-clause-tied g c =
+    let p = err_from_is_err_and c.from_residual.result c.from_residual.ensures.1 in
+    rw p.1 (tied_same _ _ faults.Write _ p.0 _ p.2 c.in_err-certified.ensures.tied)
+
+pub returns-in_err-keep-clause-tied : goal.returns-in_err-keep-clause-tied
+returns-in_err-keep-clause-tied g c =
+    let content = g.S.Sink.content in
+    let puts = g.S.Sink.faults in
+    let files = g.L.Library.files in
+    let stores = g.L.Library.store_faults in
+    let name = c.args.book.now.name.0 in
+    let read = c.args.book.now.read in
+    let seen = seen_in c.args.before.now in
+    let body = body_of admits ends read c.args.admitting.now.working in
+    let a = outside (content c.args.sink.now) (puts c.args.sink.now) (files c.args.library.now) (stores c.args.library.now) in
+    let b = outside (content c.show_whole.new.sink) (puts c.show_whole.new.sink) (files c.show_whole.new.library) (stores c.show_whole.new.library) in
+    let p = err_from_is_err_and c.from_residual-in_err-keep.result c.from_residual-in_err-keep.ensures.1 in
+    rw p.1 (tied_all a b (p.0 ≡ faults.Write) (book_acts seen name read body) (λ failed. absurd (cc (p.2, failed, c.in_err-keep.ensures.memory)))
+    (acted_book a b seen name read body c.in_ok-certified.ensures.text c.in_ok-certified.ensures.files))

@@ -1,0 +1,9 @@
+//! What is so of every session. Each law is the contract of a function that does nothing.
+ghost use Rattle.ap_session.specs.Laws.{KeepsDoneAgain};
+
+/// The world that a certified book keeps is the one behind its events when they are done again, one after another, from the
+/// world that each book begins with: so the pass that goes beside the first one is what a second pass of an `encapsulate`
+/// is.
+pub fn certified_books_are_done_again()
+    ensures { KeepsDoneAgain }
+{}
