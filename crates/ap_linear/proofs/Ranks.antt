@@ -1,27 +1,23 @@
 -- The search over ranks is the search.
-use Rattle.std.proofs.Common.{◌≡◌, ℕ, zero, suc, ◌<◌, ◌≤◌, ◌/◌, Bool, true, false, cond, ◌&&◌, ℤ, pos, ◌+ℤ◌, ◌*ℤ◌, int_lt, unsigned_abs, List, [], ◌∷◌, ◌++◌, map, take, length, get_or, slice_get, unwrap_or, append_assoc, Option, Some, None, Result, Ok, Err, IfOk, refl, ap, sym, subst, ◌∙◌, arith}
+use Rattle.std.proofs.Common.{◌≡◌, inl, inr, ℕ, zero, suc, ◌<◌, ◌≤◌, ◌/◌, Bool, true, false, cond, ◌&&◌, ℤ, pos, ◌+ℤ◌, ◌*ℤ◌, int_lt, unsigned_abs, List, [], ◌∷◌, ◌++◌, map, take, length, get_or, slice_get, unwrap_or, append_assoc, Option, Some, None, Result, Ok, Err, IfOk, refl, ap, sym, subst, ◌∙◌, true≢false, arith}
 use Rattle.std.proofs.Math.Seq.{take-length}
 use Rattle.std.proofs.lemmas.Option.{unwrap_or-slice_get}
-use Rattle.ap_list.specs.Lists.{Each}
+use Rattle.ap_list.specs.Lists.{Each, AnyOf}
 use Rattle.ap_value.specs.Values.{int_eq}
-use Rattle.ap_value.proofs.Equals.{both, int_eq-true, int_eq-same}
+use Rattle.ap_value.proofs.Equals.{int_eq-true, int_eq-same}
 use Rattle.ap_term.specs.declared.term.Term.{Term}
 use Rattle.ap_term.specs.Equal.{term_eq}
 use Rattle.ap_term.specs.Order.{term_less}
 use Rattle.ap_term.proofs.Equals.{term_eq-true, term_eq-same}
 use Rattle.ap_term.proofs.StrictOrder.{less-same, less-transitive}
-use Rattle.ap_poly.specs.Polynomials.{Parts, Polynomial, and_then, narrow, with_part, after, put, add_parts, add, scale_parts, Ordered, IsPoly}
+use Rattle.ap_poly.specs.Polynomials.{Parts, Polynomial, and_then, narrow, with_part, after, put, add_parts, add, scale_parts, Later, Ordered, IsPoly}
 use Rattle.ap_poly.specs.Elimination as search
 use Rattle.ap_poly.specs.Elimination.{Row, coefficient_in, no_parts, gcd, multiplier, mixed, lin}
 use Rattle.ap_poly.proofs.Ordering.{Atoms, add_parts_keep, scale_parts_keep}
 use Rattle.ap_linear.specs.declared.rows.Ranked.{Ranked}
 use Rattle.ap_linear.specs.Steps as steps
-use Rattle.ap_linear.specs.Ranked.{is_before_all, rising, head, tail, parts_of, row_in, sum_of, times, sum_of_two, sums_of, no_ranks, stands_first, first_if, behind_if, spread, or_fewer, summed, combined, meeting, first_negative, coefficient, without, with_negative, with_positive, eliminated, left_after}
+use Rattle.ap_linear.specs.Ranked.{Above, Rising, Listed, head, tail, parts_of, row_in, sum_of, times, sum_of_two, sums_of, no_ranks, first_if, behind_if, spread, or_fewer, summed, combined, meeting, first_negative, coefficient, without, with_negative, with_positive, eliminated, left_after}
 use Rattle.ap_linear.proofs.Walks.{left-turn, onto_all, shifted, rows-next}
-
--- what stands behind a term
-abbrev Above : Term → Term → Type 0
-Above t u = term_less t u ≡ true
 
 is_false : (b : Bool) → (b ≡ true → ⊥) → b ≡ false
 is_false true h = absurd (h refl)
@@ -35,23 +31,6 @@ not_same_back t u h = is_false (term_eq u t) (λ e. less-same t (subst (λ x. te
 
 not_back : (t u : Term) → Above t u → term_less u t ≡ false
 not_back t u h = is_false (term_less u t) (λ e. less-same t (less-transitive t u t h e))
-
--- each stands behind all before it
-abbrev Rising : List Term → Type 0
-Rising [] = Unit {0}
-Rising (u ∷ us) = Each (Above u) us × Rising us
-
-more_above : (t u : Term) (us : List Term) → Above t u → Each (Above u) us → Each (Above t) us
-more_above t u [] h hs = tt
-more_above t u (v ∷ us) h hs = (less-transitive t u v h hs.0, more_above t u us h hs.1)
-
-rises : (us : List Term) → rising us ≡ true → Rising us
-rises [] h = tt
-rises (u ∷ us) h = let (first, rest) = both (is_before_all u us) (rising us) h in (go us first (rises us rest), rises us rest)
-  where
-    go : (us : List Term) → is_before_all u us ≡ true → Rising us → Each (Above u) us
-    go [] k r = tt
-    go (v ∷ vs) k r = (k, more_above u v vs k r.0)
 
 -- the parts are behind what is before all atoms
 above_parts : (t : Term) (us : List Term) (cs : List ℤ) → Each (Above t) us → Atoms (Above t) (parts_of us cs)
@@ -384,60 +363,60 @@ left_right us h (suc i) k rs =
     ∙ left_right us h i (omega arith) (eliminated (length us) i rs)
 
 -- the whole search
-pub search_right : (us : List Term) (ps : List Polynomial) (rs : List Ranked) → rising us ≡ true → us ≡ search.atoms_of ps → map (row_in us) rs ≡ search.rows_of ps
+pub search_right : (us : List Term) (ps : List Polynomial) (rs : List Ranked) → Rising us → us ≡ search.atoms_of ps → map (row_in us) rs ≡ search.rows_of ps
     → first_negative (length us) (left_after (length us) (length us) rs) ≡ lin ps
 search_right us ps rs h e k =
-    let up : Rising us = rises us h in
-    sym (first_right us up (left_after (length us) (length us) rs))
-    ∙ ap search.first_negative (sym (left_right us up (length us) (omega arith) rs))
+    sym (first_right us h (left_after (length us) (length us) rs))
+    ∙ ap search.first_negative (sym (left_right us h (length us) (omega arith) rs))
     ∙ ap (λ vs. search.first_negative (search.left_after vs (map (row_in us) rs))) (take-length us)
     ∙ ap (λ vs. search.first_negative (search.left_after vs (map (row_in us) rs))) e
     ∙ ap (λ ws. search.first_negative (search.left_after (search.atoms_of ps) ws)) k
 
--- coefficients that parts in order are spread to stand for these parts
--- what coefficients stand for, where parts are spread to them
-abbrev Spread : List Term → Parts → Type 0
-Spread us ps = (ds : List ℤ) → spread us ps ≡ Some ds → parts_of us ds ≡ ps
+-- what is among others and isn't the first is among the rest
+among_rest : (u x : Term) (us : List Term) → AnyOf (λ y. y ≡ x) (u ∷ us) → term_eq u x ≡ false → AnyOf (λ y. y ≡ x) us
+among_rest u x us (inl e) n = absurd (true≢false (sym (subst (λ y. term_eq u y ≡ true) e (term_eq-same u)) ∙ n))
+among_rest u x us (inr h) n = h
 
-some_here : (c : ℤ) (ds cs : List ℤ) → Some (c ∷ ds) ≡ Some cs → c ∷ ds ≡ cs
-some_here c ds cs k = cc
+above_among : (u x : Term) (us : List Term) → Each (Above u) us → AnyOf (λ y. y ≡ x) us → Above u x
+above_among u x [] hs h = absurd h
+above_among u x (v ∷ us) hs (inl e) = subst (Above u) e hs.0
+above_among u x (v ∷ us) hs (inr h) = above_among u x us hs.1 h
 
-zero_first : (u : Term) (us : List Term) (ps : Parts) (cs : List ℤ) → Spread us ps → (o : Option (List ℤ)) → spread us ps ≡ o → and_then o (λ ds. Some (pos 0 ∷ ds)) ≡ Some cs → parts_of (u ∷ us) cs ≡ ps
-zero_first u us ps cs h None f k = cc
-zero_first u us ps cs h (Some ds) f k = ap (parts_of (u ∷ us)) (sym (some_here (pos 0) ds cs k)) ∙ zero_part u (parts_of us ds) ∙ h ds f
+-- behind a part of the first atom that one stands no more, and behind a part of a later one not either
+past_first : (u t : Term) (us : List Term) (ps : Parts) → term_eq u t ≡ true → Each (Later t) ps → Listed (u ∷ us) ps → Listed us ps
+past_first u t us [] e h k = tt
+past_first u t us (q ∷ ps) e h k = (among_rest u q.0 us k.0 (subst (λ x. term_eq x q.0 ≡ false) (sym (term_eq-true u t e)) h.0.1), past_first u t us ps e h.1 k.1)
 
-one_first : (u : Term) (us : List Term) (t : Term) (c : ℤ) (ps : Parts) (cs : List ℤ) → int_eq c (pos 0) ≡ false → u ≡ t → Spread us ps → (o : Option (List ℤ)) → spread us ps ≡ o
-    → and_then o (λ ds. Some (c ∷ ds)) ≡ Some cs → parts_of (u ∷ us) cs ≡ (t, c) ∷ ps
-one_first u us t c ps cs n s h None f k = cc
-one_first u us t c ps cs n s h (Some ds) f k =
-    ap (parts_of (u ∷ us)) (sym (some_here c ds cs k)) ∙ ap (λ b. cond b (parts_of us ds) ((u, c) ∷ parts_of us ds)) n
-    ∙ ap (λ (x : Term). (x, c) ∷ parts_of us ds) s ∙ ap (λ qs. (t, c) ∷ qs) (h ds f)
-
-spread_right : (us : List Term) (ps : Parts) → Ordered ps → Spread us ps
-spread_right [] [] h cs e = refl
-spread_right [] (p ∷ ps) h cs e = cc
-spread_right (u ∷ us) [] h cs e = zero_first u us [] cs (spread_right us [] tt) (spread us []) refl e
-spread_right (u ∷ us) ((t, c) ∷ ps) h cs e = go (term_eq u t) refl (spread_right us ps h.2) (spread_right us ((t, c) ∷ ps) h) e
+past_later : (u t : Term) (us : List Term) (ps : Parts) → Above u t → Each (Later t) ps → Listed (u ∷ us) ps → Listed us ps
+past_later u t us [] a h k = tt
+past_later u t us (q ∷ ps) a h k = (among_rest u q.0 us k.0 (is_false (term_eq u q.0) other), past_later u t us ps a h.1 k.1)
   where
-    go : (b : Bool) → term_eq u t ≡ b → Spread us ps → Spread us ((t, c) ∷ ps)
-        → and_then (spread us (behind_if b ((t, c) ∷ ps))) (λ ds. Some (first_if b ((t, c) ∷ ps) ∷ ds)) ≡ Some cs → parts_of (u ∷ us) cs ≡ (t, c) ∷ ps
-    go true f here later k = one_first u us t c ps cs h.1 (term_eq-true u t f) here (spread us ps) refl k
-    go false f here later k = zero_first u us ((t, c) ∷ ps) cs later (spread us ((t, c) ∷ ps)) refl k
+    other : term_eq u q.0 ≡ true → ⊥
+    other e = true≢false (sym (subst (λ x. term_less x t ≡ true) (term_eq-true u q.0 e) a) ∙ h.0.0)
 
-pub row_right : (us : List Term) (p : Polynomial) (n : ℤ) (cs : List ℤ) (by ks : List ℕ) → IsPoly p → n ≡ p.constant → spread us p.parts ≡ Some cs → by ≡ ks
+-- the coefficients of listed parts in order stand for these parts
+spread_right : (us : List Term) (ps : Parts) → Rising us → Ordered ps → Listed us ps → parts_of us (spread us ps) ≡ ps
+spread_right [] [] r h k = refl
+spread_right [] (p ∷ ps) r h k = absurd k.0
+spread_right (u ∷ us) [] r h k = zero_part u (parts_of us (spread us [])) ∙ spread_right us [] r.1 tt tt
+spread_right (u ∷ us) ((t, c) ∷ ps) r h k = go (term_eq u t) refl (spread_right us ps r.1 h.2) (spread_right us ((t, c) ∷ ps) r.1 h)
+  where
+    later : term_eq u t ≡ false → Listed us ((t, c) ∷ ps)
+    later e = let here = among_rest u t us k.0 e in (here, past_later u t us ps (above_among u t us r.0 here) h.0 k.1)
+
+    go : (b : Bool) → term_eq u t ≡ b → (Listed us ps → parts_of us (spread us ps) ≡ ps) → (Listed us ((t, c) ∷ ps) → parts_of us (spread us ((t, c) ∷ ps)) ≡ (t, c) ∷ ps)
+        → with_part u (first_if b ((t, c) ∷ ps)) (parts_of us (spread us (behind_if b ((t, c) ∷ ps)))) ≡ (t, c) ∷ ps
+    go true e here rest =
+        ap (λ b. cond b (parts_of us (spread us ps)) ((u, c) ∷ parts_of us (spread us ps))) h.1
+        ∙ ap (λ (x : Term). (x, c) ∷ parts_of us (spread us ps)) (term_eq-true u t e) ∙ ap (λ qs. (t, c) ∷ qs) (here (past_first u t us ps e h.0 k.1))
+    go false e here rest = zero_part u (parts_of us (spread us ((t, c) ∷ ps))) ∙ rest (later e)
+
+pub row_right : (us : List Term) (p : Polynomial) (n : ℤ) (cs : List ℤ) (by ks : List ℕ) → Rising us → IsPoly p → Listed us p.parts → n ≡ p.constant → cs ≡ spread us p.parts → by ≡ ks
     → row_in us (record { constant = n; coefficients = cs; by = by }) ≡ record { poly = p; by = ks }
-row_right us p n cs by ks h m e f =
+row_right us p n cs by ks r h k m e f =
     ap (λ (z : ℤ). record { poly = record { constant = z; parts = parts_of us cs }; by = by }) m
-    ∙ ap (λ (ps : Parts). record { poly = record { constant = p.constant; parts = ps }; by = by }) (spread_right us p.parts h cs e) ∙ ap (λ (ks : List ℕ). record { poly = p; by = ks }) f
-
--- a step of the walk over atoms
-pub spread_next : (us : List Term) (u : Term) (rest : List Term) (ps : Parts) (out : List ℤ) (o : Option (List ℤ)) → us ≡ u ∷ rest
-    → onto_all out (spread us ps) ≡ o → onto_all (out ++ first_if (stands_first u ps) ps ∷ []) (spread rest (behind_if (stands_first u ps) ps)) ≡ o
-spread_next us u rest ps out o e h = go (spread rest (behind_if (stands_first u ps) ps)) ∙ sym (ap (λ vs. onto_all out (spread vs ps)) e) ∙ h
-  where
-    go : (o : Option (List ℤ)) → onto_all (out ++ first_if (stands_first u ps) ps ∷ []) o ≡ onto_all out (and_then o (λ cs. Some (first_if (stands_first u ps) ps ∷ cs)))
-    go None = refl
-    go (Some cs) = ap Some (append_assoc out (first_if (stands_first u ps) ps ∷ []) cs)
+    ∙ ap (λ (ds : List ℤ). record { poly = record { constant = p.constant; parts = parts_of us ds }; by = by }) e
+    ∙ ap (λ (ps : Parts). record { poly = record { constant = p.constant; parts = ps }; by = by }) (spread_right us p.parts r h k) ∙ ap (λ (ks : List ℕ). record { poly = p; by = ks }) f
 
 -- a row more
 pub ranked-next : (us : List Term) (rows new : List Ranked) (r : Ranked) (n m : ℕ) (p : Polynomial) (ps left : List Polynomial) (g : List Row) → p ∷ ps ≡ left → m ≡ suc n

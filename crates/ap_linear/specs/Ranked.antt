@@ -1,21 +1,28 @@
 -- The search over ranks: a row has the coefficients of atoms by their places in the order of terms, 0 where one isn't there.
-use Rattle.std.specs.Prelude.{ℕ, zero, suc, ◌/◌, Bool, true, false, cond, ◌&&◌, ℤ, pos, ◌+ℤ◌, ◌*ℤ◌, int_lt, unsigned_abs, List, [], ◌∷◌, ◌++◌, take, get_or, Option, Some, None}
+use Rattle.std.specs.Prelude.{◌≡◌, ℕ, zero, suc, ◌/◌, Bool, true, false, cond, ◌&&◌, ℤ, pos, ◌+ℤ◌, ◌*ℤ◌, int_lt, unsigned_abs, List, [], ◌∷◌, ◌++◌, take, get_or, Option, Some, None}
+use Rattle.ap_list.specs.Lists.{Each, AnyOf}
 use Rattle.ap_value.specs.Values.{int_eq}
 use Rattle.ap_term.specs.declared.term.Term.{Term}
 use Rattle.ap_term.specs.Equal.{term_eq}
 use Rattle.ap_term.specs.Order.{term_less}
-use Rattle.ap_poly.specs.Polynomials.{Parts, and_then, narrow, with_part}
+use Rattle.ap_poly.specs.Polynomials.{Parts, Polynomial, and_then, narrow, with_part}
 use Rattle.ap_poly.specs.Elimination.{Row, gcd, multiplier, mixed}
 use Rattle.ap_linear.specs.declared.rows.Ranked.{Ranked}
 
--- each term stands before the next
-abbrev pub is_before_all : Term → List Term → Bool
-is_before_all t [] = true
-is_before_all t (u ∷ us) = term_less t u
+-- a term comes before another, and each before all that stand behind it
+abbrev pub Above : Term → Term → Type 0
+Above t u = term_less t u ≡ true
 
-abbrev pub rising : List Term → Bool
-rising [] = true
-rising (u ∷ us) = is_before_all u us && rising us
+abbrev pub Rising : List Term → Type 0
+Rising [] = Unit {0}
+Rising (u ∷ us) = Each (Above u) us × Rising us
+
+-- the atom of each part is among the terms, and so of each polynomial
+abbrev pub Listed : List Term → Parts → Type 0
+Listed us ps = Each (λ (q : Term × ℤ). AnyOf (λ x. x ≡ q.0) us) ps
+
+abbrev pub AllListed : List Term → List Polynomial → Type 0
+AllListed us ps = Each (λ (p : Polynomial). Listed us p.parts) ps
 
 -- what a list begins with, 0 where nothing is left, and the rest
 abbrev pub head : List ℤ → ℤ
@@ -54,7 +61,7 @@ sums_of (suc n) k xs l ys = and_then (sum_of_two k (head xs) l (head ys)) (λ c.
 abbrev pub constant_of : ℕ → ℤ → ℕ → ℤ → Option ℤ
 constant_of k a l b = and_then (narrow (pos k *ℤ a)) (λ x. and_then (narrow (pos l *ℤ b)) (λ y. narrow (x +ℤ y)))
 
--- the coefficients of atoms, of parts in their order; none where a part is of another atom
+-- the coefficients of atoms, of parts in their order
 abbrev pub stands_first : Term → Parts → Bool
 stands_first u [] = false
 stands_first u (p ∷ ps) = term_eq u p.0
@@ -67,10 +74,9 @@ abbrev pub behind_if : Bool → Parts → Parts
 behind_if true (p ∷ ps) = ps
 behind_if here ps = ps
 
-abbrev pub spread : List Term → Parts → Option (List ℤ)
-spread [] [] = Some []
-spread [] (p ∷ ps) = None
-spread (u ∷ us) ps = and_then (spread us (behind_if (stands_first u ps) ps)) (λ cs. Some (first_if (stands_first u ps) ps ∷ cs))
+abbrev pub spread : List Term → Parts → List ℤ
+spread [] ps = []
+spread (u ∷ us) ps = first_if (stands_first u ps) ps ∷ spread us (behind_if (stands_first u ps) ps)
 
 -- no coefficient of so many is another than 0
 abbrev pub no_ranks : ℕ → List ℤ → Bool

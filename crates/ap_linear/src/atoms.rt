@@ -2,7 +2,6 @@
 ghost use Rattle.std.specs.Prelude.{◌≡◌, ◌++◌, ◌∷◌, IfOk};
 ghost use Rattle.ap_poly.specs.Elimination.{with_atom, with_atoms, atoms_of};
 ghost use Rattle.ap_linear.specs.Steps.{is_placed};
-ghost use Rattle.ap_linear.specs.Ranked.{is_before_all, rising};
 
 use ap_kernel::is_same;
 use ap_list::{NoMemory, Seq};
@@ -96,28 +95,4 @@ pub(crate) fn atoms_of(alloc: Global, polys: &[Poly]) -> Result<Seq<Term>, NoMem
         out = with_atoms(alloc, p.parts.as_slice(), out)?;
     }
     Ok(out)
-}
-
-/// Whether a term comes before the first of others, if there is one.
-fn is_before_all(t: &Term, atoms: &[Term]) -> Result<bool, NoMemory>
-    ensures { IfOk result (λ b. b ≡ is_before_all t.now atoms.now) }
-{
-    match atoms {
-        [u, ..] => is_before(t, u),
-        [] => Ok(true),
-    }
-}
-
-/// Whether each atom comes before the next.
-pub(crate) fn are_rising(atoms: &[Term]) -> Result<bool, NoMemory>
-    ensures { IfOk result (λ b. b ≡ rising atoms.now) }
-{
-    let mut left = atoms;
-    while let [t, rest @ ..] = left {
-        if !is_before_all(t, rest)? {
-            return Ok(false);
-        }
-        left = rest;
-    }
-    Ok(true)
 }

@@ -3,6 +3,7 @@
 
 mod atoms;
 mod eliminating;
+mod fitting;
 pub mod laws;
 mod marks;
 mod mixing;

@@ -2,25 +2,23 @@ ghost use Rattle.std.specs.Prelude.{◌≡◌, IfOk, IfSome};
 ghost use Rattle.ap_poly.specs.Elimination.{lin, atoms_of};
 ghost use Rattle.ap_poly.specs.Holding.{IsCertificate};
 
-use crate::atoms::{are_rising, atoms_of};
+use crate::atoms::atoms_of;
 use crate::eliminating::left_after;
+use crate::fitting::terms_fit;
 use crate::marks::is_hopeless;
 use crate::rows::{first_negative, rows_of};
 use ap_kernel::{LinearOracle, World};
 use ap_list::{NoMemory, Seq};
 use ap_poly::Poly;
 use ap_term::Term;
-use std::alloc::{AllocError, Global};
+use std::alloc::Global;
 
-/// The search by elimination over the ranks of the atoms. Where an atom doesn't come before the next, as never of terms
-/// in memory, which print differently, it is answered as want of memory.
+/// The search by elimination over the ranks of the atoms, each of which comes before the next.
 fn search(alloc: Global, atoms: &[Term], polys: &[Poly]) -> Result<Option<Seq<u64>>, NoMemory>
     requires { atoms.now ≡ atoms_of polys.now }
     ensures { IfOk result (λ o. o ≡ lin polys.now) }
 {
-    if !are_rising(atoms)? {
-        return Err(AllocError);
-    }
+    terms_fit(atoms);
     let rows = rows_of(alloc, atoms, polys)?;
     let left = left_after(alloc, atoms.len(), rows)?;
     first_negative(alloc, atoms.len(), left.as_slice())

@@ -1,15 +1,15 @@
 // Polynomials over ranks of atoms, each with how often the given ones stand in it.
-ghost use Rattle.std.specs.Prelude.{◌≡◌, ◌++◌, Some, map, pos, get_or, IfOk, OnOk};
+ghost use Rattle.std.specs.Prelude.{◌≡◌, ◌++◌, map, pos, get_or, IfOk, OnOk};
 ghost use Rattle.ap_value.specs.Values.{int_eq};
 ghost use Rattle.ap_poly.specs.Elimination.{rows_of};
 ghost use Rattle.ap_linear.specs.Steps.{zeros, unit};
-ghost use Rattle.ap_linear.specs.Ranked.{head, tail, no_ranks, is_negative, first_negative, stands_first, first_if, behind_if, spread, row_in};
+ghost use Rattle.ap_linear.specs.Ranked.{Rising, Listed, AllListed, head, tail, no_ranks, is_negative, first_negative, stands_first, first_if, behind_if, spread, row_in};
 
 use ap_kernel::is_same;
 use ap_list::{NoMemory, Seq};
 use ap_poly::Poly;
 use ap_term::Term;
-use std::alloc::{AllocError, Global};
+use std::alloc::Global;
 
 /// A polynomial by its coefficients of atoms in their order, and how often each given one stands in it.
 #[derive(Drop)]
@@ -161,10 +161,9 @@ fn behind_if(here: bool, parts: &[(Term, i128)]) -> &[(Term, i128)]
     }
 }
 
-/// The coefficients of atoms, of parts in their order. A part of another atom, which no caller has, is answered as want
-/// of memory.
+/// The coefficients of atoms, of parts in their order.
 fn spread(alloc: Global, atoms: &[Term], parts: &[(Term, i128)]) -> Result<Seq<i128>, NoMemory>
-    ensures { IfOk result (λ cs. spread atoms.now parts.now ≡ Some cs) }
+    ensures { IfOk result (λ cs. cs ≡ spread atoms.now parts.now) }
 {
     let mut out = Seq::with_capacity(alloc, atoms.len())?;
     let mut left = parts;
@@ -173,11 +172,7 @@ fn spread(alloc: Global, atoms: &[Term], parts: &[(Term, i128)]) -> Result<Seq<i
         out.push(first_if(here, left))?;
         left = behind_if(here, left);
     }
-    if left.is_empty() {
-        Ok(out)
-    } else {
-        Err(AllocError)
-    }
+    Ok(out)
 }
 
 /// The constant of a polynomial. Takes no memory.
@@ -187,7 +182,7 @@ fn constant_in(p: &Poly) -> i128
     p.constant
 }
 
-/// A polynomial, once itself.
+/// A polynomial of listed atoms, once itself.
 fn row_of(
     alloc: Global,
     atoms: &[Term],
@@ -195,6 +190,8 @@ fn row_of(
     before: usize,
     after: usize,
 ) -> Result<Ranked, NoMemory>
+    requires rising { Rising atoms.now }
+    requires listed { Listed atoms.now p.now.parts }
     ensures { IfOk result (λ row. row_in atoms.now row ≡ record { poly = p.now; by = unit before after }) }
 {
     p.is_poly();
@@ -208,12 +205,14 @@ fn row_of(
     })
 }
 
-/// Each polynomial, once itself.
+/// Each polynomial of listed atoms, once itself.
 pub(crate) fn rows_of(
     alloc: Global,
     atoms: &[Term],
     polys: &[Poly],
 ) -> Result<Seq<Ranked>, NoMemory>
+    requires rising { Rising atoms.now }
+    requires listed { AllListed atoms.now polys.now }
     ensures { IfOk result (λ rows. map (row_in atoms.now) rows ≡ rows_of polys.now) }
 {
     let mut rows = Seq::new(alloc);
