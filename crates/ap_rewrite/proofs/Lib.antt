@@ -14,7 +14,6 @@ pub mod SimplifyingReduces
 pub mod ArithmeticSound
 pub mod InWorldStands
 pub mod Samples
-pub mod Renamed
 pub mod Settled
 pub mod Negated
 pub mod FactsRelieve
