@@ -5,3 +5,4 @@ pub mod Putting
 pub mod Handing
 pub mod Turning
 pub mod Crossing
+pub mod Holding

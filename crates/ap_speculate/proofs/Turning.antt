@@ -6,9 +6,9 @@ use Rattle.ap_table.specs.declared.stored.Claim.TheVariants as claim
 use Rattle.ap_table.specs.declared.stored.Job.{Job}
 use Rattle.ap_table.specs.Locked.{OneStep}
 use Rattle.ap_table.specs.Shown.{Run}
-use Rattle.ap_table.specs.Steps.{Claims}
+use Rattle.ap_table.specs.Steps.{Claims, ClaimsAt}
 use Rattle.ap_speculate.specs.Boards.{IsPut, IsPutDrop, IsGrown, IsRefused, IsEnded, IsWalked, IsHandedBack}
-use Rattle.ap_speculate.specs.Turns.{DidShared}
+use Rattle.ap_speculate.specs.Turns.{DidShared, WasClaimed}
 
 module _ {T B : Type 0} (step : T → Stepped T) (depth : T → ℕ) where
   -- at whatever a worker has of the table
@@ -41,10 +41,13 @@ module _ {T B : Type 0} (step : T → Stepped T) (depth : T → ℕ) where
 
 module _ {T : Type 0} (step : T → Stepped T) (depth : T → ℕ) where
   -- the job that a claim found
-  pub found_one : (r : Claim T) (job : Job T) → r ≡ claim.Found job → OneStep step depth (λ old new. Claims step depth old new r) → OneStep step depth (λ old new. Claims step depth old new (claim.Found job))
-  found_one r job is h = subst (λ r. OneStep step depth (λ old new. Claims step depth old new r)) is h
+  pub found_one : (r : Claim T) (job : Job T) → r ≡ claim.Found job → OneStep step depth (λ old new. Claims step depth old new r) → WasClaimed step depth job
+  found_one r job is h = inl (subst (λ r. OneStep step depth (λ old new. Claims step depth old new r)) is h)
+
+  -- and one by a node's number
+  pub found_at : (r : Claim T) (job : Job T) (k : ℕ) → r ≡ claim.Found job → OneStep step depth (λ old new. ClaimsAt step depth old new k r) → WasClaimed step depth job
+  found_at r job k is h = inr (k, subst (λ r. OneStep step depth (λ old new. ClaimsAt step depth old new k r)) is h)
 
   -- a claim that found no job
-  pub none_free : (r : Claim T) → ((job : Job T) → r ≡ claim.Found job → ⊥) → OneStep step depth (λ old new. Claims step depth old new r) → OneStep step depth (λ old new. Claims step depth old new claim.Nothing)
-  none_free (claim.Found job) other h = absurd (other job refl)
-  none_free claim.Nothing other h = h
+  pub none_free : (r : Claim T) → r ≡ claim.Nothing → OneStep step depth (λ old new. Claims step depth old new r) → OneStep step depth (λ old new. Claims step depth old new claim.Nothing)
+  none_free r is h = subst (λ r. OneStep step depth (λ old new. Claims step depth old new r)) is h

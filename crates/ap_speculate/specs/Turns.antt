@@ -5,7 +5,7 @@ use Rattle.ap_table.specs.declared.stored.Job.{Job}
 use Rattle.ap_table.specs.declared.stored.Claim.TheVariants as claim
 use Rattle.ap_table.specs.Locked.{OneStep, OneLook}
 use Rattle.ap_table.specs.Shown.{Run}
-use Rattle.ap_table.specs.Steps.{Claims}
+use Rattle.ap_table.specs.Steps.{Claims, ClaimsAt}
 use Rattle.ap_speculate.specs.Boards.{IsHandedBack}
 
 module _ {T : Type 0} (step : T → Stepped T) (depth : T → ℕ) where
@@ -13,10 +13,14 @@ module _ {T : Type 0} (step : T → Stepped T) (depth : T → ℕ) where
   abbrev pub DidShared : Unit {0} → (Run T → Run T → Type 0) → Unit {0} → Type 0
   DidShared old does new = OneStep step depth does
 
+  -- the table handed the job out: that of the first free node, or of a node whose number the worker had
+  abbrev pub WasClaimed : Job T → Type 0
+  WasClaimed job = OneStep step depth (λ old new. Claims step depth old new (claim.Found job)) ⊎ ((k : ℕ) × OneStep step depth (λ old new. ClaimsAt step depth old new k (claim.Found job)))
+
   -- a job was claimed, and dropped, expanded or walked
   pub record IsWorked : Type 0 where
     pub job : Job T
-    pub claimed : OneStep step depth (λ old new. Claims step depth old new (claim.Found job))
+    pub claimed : WasClaimed job
     pub back : IsHandedBack step depth DidShared tt tt job
 
   -- the history's length was seen, then no node was free, and then the worker waited; there is more where the history is longer then

@@ -4,6 +4,7 @@ ghost use denote.Param.Send.{IsSend, IsSync};
 ghost use Rattle.ap_table.specs.Calls.{IsRootDone};
 
 use crate::gate::Gate;
+use crate::hands::{Hands, deal_in};
 use crate::turn::{work, work_claimed};
 use ap_table::{Claim, GoalTable, TableState, begin, first};
 use ap_walk::{NoMemory, Rule, Step};
@@ -27,7 +28,7 @@ fn may_be_shared<T: Sync>()
 {}
 
 /// Works at a table by so many workers: the caller is the first, and each other one has a thread. Where no thread can
-/// be made the workers that are there do the work. Every thread is joined.
+/// be made the workers that are there do the work, and where their deques can't, nobody does. Every thread is joined.
 fn work_together<S: Step + Sync, G: Gate + Sync, R: Threads + Wait + Sync>(
     rt: &R,
     alloc: Global,
@@ -43,17 +44,29 @@ where
         may_cross::<FamilyWord>();
         may_be_shared::<FamilyWord>();
         may_cross::<WordSeat>();
+        may_cross::<Hands>();
+        let Ok(all) = deal_in(alloc, workers.clamp(1, MOST_WORKERS)) else {
+            return;
+        };
+        let mut all = all.into_iter();
+        let Some(own) = all.next() else {
+            return;
+        };
         let mut threads = Vec::new(alloc);
         for worker in 1..workers.min(MOST_WORKERS) {
             if threads.reserve(1).is_err() {
                 break;
             }
-            let Ok(thread) = scope.spawn(move || work(rt, alloc, step, table, worker, gate)) else {
+            let Some(hands) = all.next() else {
+                break;
+            };
+            let Ok(thread) = scope.spawn(move || work(rt, alloc, step, table, hands, worker, gate))
+            else {
                 break;
             };
             threads.push_reserved(thread);
         }
-        work(rt, alloc, step, table, 0, gate);
+        work(rt, alloc, step, table, own, 0, gate);
         for thread in threads {
             thread.join(rt);
         }

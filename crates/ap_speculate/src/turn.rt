@@ -6,8 +6,10 @@ ghost use Rattle.ap_speculate.specs.Turns.{IsTurn};
 
 use crate::board::{Board, Shared};
 use crate::gate::Gate;
+use crate::hands::Hands;
 use crate::job::{JobEnd, look_at_job, run_stepped};
-use ap_table::{Claim, GoalTable, Grown, Job};
+use crate::supply::{Children, Supply};
+use ap_table::{GoalTable, Grown, Job};
 use ap_walk::{NoMemory, Out, Step, Stepped};
 use std::alloc::{AllocError, Global};
 use std::sync::Wait;
@@ -34,7 +36,7 @@ fn expands<T>(job: &Job<T>, stepped: &Stepped<T>) -> bool
 }
 
 /// Walks a claimed job, whose task's step may have been taken before, and puts the walk or drops the job. A job that the
-/// table refuses is given up.
+/// table refuses is given up. Answers no children.
 fn walk_claimed<S: Step, B: Board<S>, G: Gate, R: Wait>(
     rt: &R,
     alloc: Global,
@@ -44,7 +46,7 @@ fn walk_claimed<S: Step, B: Board<S>, G: Gate, R: Wait>(
     first: Option<Stepped<S::Task>>,
     worker: u32,
     gate: &G,
-) -> Result<(), NoMemory>
+) -> Result<Option<Children>, NoMemory>
     requires { IfSome first (λ s. s ≡ S.step_of job.task) }
     ensures { OnOk result (IsEnded S.step_of S.depth B.did board.old board.new job) }
 {
@@ -53,11 +55,12 @@ fn walk_claimed<S: Step, B: Board<S>, G: Gate, R: Wait>(
         JobEnd::Done(walked) => board.put(step, job, walked),
         JobEnd::Dropped(license) => board.put_drop(step, job, license),
     };
-    Ok(())
+    Ok(None)
 }
 
 /// Works a claimed job: drops it where a family above it is known to stop before it; expands it where its task splits
-/// into two or more and fewer than three families are above it; or else walks it. The only error is want of memory.
+/// into two or more and fewer than three families are above it; or else walks it. Answers the children that are in the
+/// table then. The only error is want of memory.
 pub(crate) fn work_claimed<S: Step, B: Board<S>, G: Gate, R: Wait>(
     rt: &R,
     alloc: Global,
@@ -66,50 +69,45 @@ pub(crate) fn work_claimed<S: Step, B: Board<S>, G: Gate, R: Wait>(
     job: Job<S::Task>,
     worker: u32,
     gate: &G,
-) -> Result<(), NoMemory>
+) -> Result<Option<Children>, NoMemory>
     ensures { OnOk result (IsHandedBack S.step_of S.depth B.did board.old board.new job) }
 {
     let mut job = job;
     if let Some(license) = look_at_job(alloc, &mut job) {
         board.put_drop(step, job, license);
-        return Ok(());
+        return Ok(None);
     }
     let stepped = step.step(alloc, &job.task)?;
     if !expands(&job, &stepped) {
         return walk_claimed(rt, alloc, step, board, job, Some(stepped), worker, gate);
     }
     match board.expand(alloc, step, job, stepped) {
-        Grown::Family { .. } => Ok(()),
+        Grown::Family { first, count, .. } => Ok(Some(Children { first, count })),
         Grown::Stranger(job, _) => walk_claimed(rt, alloc, step, board, job, None, worker, gate),
         Grown::NoMemory(..) => Err(AllocError),
     }
 }
 
-/// One turn at a table: works the first free node, or waits until there is more. Answers whether there may be another
-/// turn: not where the root is done.
+/// One turn at a table: works the next job and deals its children, or waits until there is more. Answers whether there
+/// may be another turn: not where the root is done.
 fn turn<S: Step, G: Gate, R: Wait>(
     rt: &R,
     alloc: Global,
     step: &S,
     table: &GoalTable<S>,
+    supply: &mut Supply<S>,
     worker: u32,
     gate: &G,
 ) -> Result<bool, NoMemory>
     ensures { IfOk result (IsTurn S.step_of S.depth) }
 {
     let seen = table.length(rt);
-    let Claim::Found(job) = table.claim(rt) else {
+    let Some(job) = supply.next_job(rt, table) else {
         return Ok(table.wait_more(rt, seen) > seen);
     };
-    work_claimed(
-        rt,
-        alloc,
-        step,
-        &mut Shared { rt, table },
-        job,
-        worker,
-        gate,
-    )?;
+    let mut board = Shared { rt, table };
+    let children = work_claimed(rt, alloc, step, &mut board, job, worker, gate)?;
+    supply.deal(rt, table, children)?;
     Ok(true)
 }
 
@@ -119,14 +117,16 @@ pub(crate) fn work<S: Step, G: Gate, R: Wait>(
     alloc: Global,
     step: &S,
     table: &GoalTable<S>,
+    hands: Hands,
     worker: u32,
     gate: &G,
 ) {
+    let mut supply = Supply::new(alloc, hands);
     for _ in rt.forever() {
         if table.halted(rt) {
             return;
         }
-        match turn(rt, alloc, step, table, worker, gate) {
+        match turn(rt, alloc, step, table, &mut supply, worker, gate) {
             Ok(true) => {}
             Ok(false) => return,
             Err(_) => table.halt(rt),

@@ -6,7 +6,7 @@ use Rattle.ap_walk.proofs.Bounds.{zero_open}
 use Rattle.ap_speculate.specs.Jobs.{Both, Stays, LookedOn}
 use Rattle.ap_speculate.proofs.Pairs.{both_same, both_as}
 use Rattle.ap_speculate.proofs.Seats.{LookedBy, stays_same, no_look, by_stays, by_on, looked_more, looked_less}
-use Rattle.ap_speculate.proofs.Walking.{IsFirst, Visited, first_of_one, first_is_next, all_to_come, goes_on, ends_there, ends_all, one_less, one_longer}
+use Rattle.ap_speculate.proofs.Walking.{IsFirst, Visited, first_of_one, all_to_come, goes_on, ends_there, ends_all, one_less, one_longer}
 use Rattle.ap_speculate.proofs.job.walk.Given.{Over}
 use Rattle.ap_speculate.proofs.job.walk.Goals as goal
 use Rattle.ap_speculate.proofs.job.walk.Goals.{After-look_at_all, In_ok-visit}

@@ -1,7 +1,7 @@
 -- A job that was claimed is worked; where no node was free the worker waited.
 use Rattle.std.proofs.Common.{refl, inl, inr}
 use Rattle.std.proofs.lemmas.Bool.{ltb-true, lt-ltb}
-use Rattle.ap_speculate.proofs.Turning.{back_shared, found_one, none_free}
+use Rattle.ap_speculate.proofs.Turning.{back_shared}
 use Rattle.ap_speculate.proofs.turn.turn.Goals as goal
 
 pub returns-in_default : goal.returns-in_default
@@ -9,7 +9,7 @@ returns-in_default g c =
     inr (record {
       seen = c.length-seen.result;
       before = c.length-seen.ensures;
-      none = none_free g.S.Step.step_of g.S.Step.depth c.claim.result c.in_default.not-Found c.claim.ensures;
+      none = c.in_default.ensures.none;
       now = c.wait_more.result;
       after = c.wait_more.ensures;
       is = (ltb-true c.length-seen.result c.wait_more.result, lt-ltb c.length-seen.result c.wait_more.result);
@@ -20,8 +20,8 @@ returns g c =
     inl (
       refl,
       record {
-        job = c.in-Found.job;
-        claimed = found_one g.S.Step.step_of g.S.Step.depth c.claim.result c.in-Found.job c.in-Found.is c.claim.ensures;
-        back = back_shared g.S.Step.step_of g.S.Step.depth _ _ c.in-Found.job c.in_ok-work_claimed.ensures;
+        job = c.in-Some.job;
+        claimed = c.in-Some.ensures.found;
+        back = back_shared g.S.Step.step_of g.S.Step.depth _ _ c.in-Some.job c.in_ok-children.ensures;
       },
     )

@@ -5,6 +5,7 @@ use Rattle.std.proofs.Crossing.{crosses}
 use Rattle.ap_word.specs.contracts.word.FamilyWord as word
 use Rattle.ap_word.specs.contracts.word.WordSeat as seat
 use Rattle.ap_table.specs.contracts.table.GoalTable as table
+use Rattle.ap_speculate.specs.contracts.hands.Hands as hands
 use Rattle.ap_speculate.proofs.Crossing.{table_sync}
 use Rattle.ap_speculate.proofs.sharing.fn.work_together.scope.Goals as goal
 
@@ -15,6 +16,7 @@ spawn-requires-send-F g c κs within =
     let word_send : IsSend word.the_row = record { owned = c.may_cross.ensures.owned; leaving = λ k. c.may_cross.ensures.leaving yes } in
     let word_sync : IsSync word.the_row = record { shared = c.may_be_shared.ensures.shared } in
     let seat_send : IsSend seat.the_row = record { owned = c.may_cross-2.ensures.owned; leaving = λ k. c.may_cross-2.ensures.leaving yes } in
+    let hands_send : IsSend hands.the_row = record { owned = c.may_cross-3.ensures.owned; leaving = λ k. c.may_cross-3.ensures.leaving yes } in
     let handle : IsSync (param 2 g.row.R) = param_sync 2 g.row.R bounds.3 in
     let step : IsSync (param 0 g.row.S) = param_sync 0 g.row.S bounds.1 in
     let gate : IsSync (param 1 g.row.G) = param_sync 1 g.row.G bounds.2 in
