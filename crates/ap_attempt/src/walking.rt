@@ -7,7 +7,7 @@ ghost use Rattle.ap_walk.specs.Walks.{cut, full, walk};
 ghost use Rattle.ap_attempt.specs.Drops.{IsLicensed};
 
 use ap_list::{NoMemory, Seq};
-use ap_speculate::{Gate, speculate};
+use ap_speculate::{Gate, speculate_from};
 use ap_table::DropNote;
 use ap_walk::{Mark, Out, Rule, Step, Stepped, Tally, Walked, cut_from, serial};
 use std::alloc::Global;
@@ -66,22 +66,24 @@ fn walked<T: Drop>(marks: Seq<Mark<T>>, rule: Rule) -> Walked<T>
     cut_from(start, marks, rule)
 }
 
-/// The walk of a task by workers that share a goal table, and the notes of what they dropped.
+/// The walk of a task, whose step was taken, by workers that share a goal table, and the notes of what they dropped.
 fn walk_together<S: Step + Sync, G: Gate + Sync, R: Threads + Wait + Sync>(
     rt: &R,
     alloc: Global,
     step: &S,
     task: &S::Task,
+    stepped: Stepped<S::Task>,
     rule: Rule,
     workers: u32,
     gate: &G,
 ) -> Result<(Walked<S::Task>, Seq<DropNote>), NoMemory>
 where
     S::Task: Send,
+    requires stepped { stepped ≡ S.step_of task.now }
     ensures walked { IfOk result (λ end. end.0 ≡ full S.step_of S.depth rule task.now) }
     ensures licensed { IfOk result (λ end. Each (IsLicensed S.step_of S.depth S.name (record { root = task.now; rule = rule; walked = end.0 })) end.1) }
 {
-    let state = speculate(rt, alloc, step, task, rule, workers, gate)?;
+    let state = speculate_from(rt, alloc, step, task, stepped, rule, workers, gate)?;
     state.were_allowed();
     state.finish(alloc, step)
 }
@@ -105,7 +107,7 @@ where
 {
     let stepped = step.step(alloc, &task)?;
     if splits(&stepped) {
-        return walk_together(rt, alloc, step, &task, rule, workers, gate);
+        return walk_together(rt, alloc, step, &task, stepped, rule, workers, gate);
     }
     follow(rt, alloc, step, task, stepped, rule, workers, gate)
 }

@@ -20,7 +20,7 @@ pub enum JobEnd<T> {
 }
 
 /// A task's step: the one that was taken before, or else a new one.
-fn step_of<S: Step>(
+pub(crate) fn step_of<S: Step>(
     alloc: Global,
     step: &S,
     task: &S::Task,

@@ -17,4 +17,4 @@ mod visiting;
 
 pub use gate::{Gate, NoGate, Place};
 pub use job::{JobEnd, run_job};
-pub use sharing::speculate;
+pub use sharing::{speculate, speculate_from};

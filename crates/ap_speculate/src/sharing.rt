@@ -1,16 +1,19 @@
 //! Workers that share a goal table.
-ghost use Rattle.std.specs.Prelude.{IfOk};
+ghost use Rattle.std.specs.Prelude.{◌≡◌, IfOk, IfSome};
 ghost use denote.Param.Send.{IsSend, IsSync};
 ghost use Rattle.ap_table.specs.Calls.{IsRootDone};
 
 use crate::gate::Gate;
 use crate::hands::{Hands, deal_in};
-use crate::turn::{work, work_claimed};
+use crate::supply::Supply;
+use crate::turn::{goes_on, work, work_claimed};
 use ap_table::{Claim, GoalTable, TableState, begin, first};
-use ap_walk::{NoMemory, Rule, Step};
+use ap_walk::{NoMemory, Rule, Step, Stepped};
 use ap_word::{FamilyWord, WordSeat};
 use std::alloc::Global;
 use std::sync::Wait;
+use std::sync::atomic::AtomicU64;
+use std::sync::atomic::Ordering::SeqCst;
 use std::thread::Threads;
 use std::{mem, thread};
 
@@ -27,14 +30,17 @@ fn may_be_shared<T: Sync>()
     ensures { IsSync T.row }
 {}
 
-/// Works at a table by so many workers: the caller is the first, and each other one has a thread. Where no thread can
-/// be made the workers that are there do the work, and where their deques can't, nobody does. Every thread is joined.
-fn work_together<S: Step + Sync, G: Gate + Sync, R: Threads + Wait + Sync>(
+/// Works at a table with other workers, once the caller took the first turn. There are at most as many workers as goals
+/// were made to be worked: the caller, before each turn, starts a thread for each one that is missing. Where no thread can
+/// be made the workers that are there do the work. Every thread is joined.
+fn work_with_others<S: Step + Sync, G: Gate + Sync, R: Threads + Wait + Sync>(
     rt: &R,
     alloc: Global,
     step: &S,
     table: &GoalTable<S>,
-    workers: u32,
+    supply: Supply<S>,
+    spare: Vec<Hands>,
+    goals: &AtomicU64,
     gate: &G,
 )
 where
@@ -45,32 +51,62 @@ where
         may_be_shared::<FamilyWord>();
         may_cross::<WordSeat>();
         may_cross::<Hands>();
-        let Ok(all) = deal_in(alloc, workers.clamp(1, MOST_WORKERS)) else {
-            return;
-        };
-        let mut all = all.into_iter();
-        let Some(own) = all.next() else {
-            return;
-        };
+        let mut supply = supply;
+        let mut spare = spare;
         let mut threads = Vec::new(alloc);
-        for worker in 1..workers.min(MOST_WORKERS) {
-            if threads.reserve(1).is_err() {
+        let mut next = 1u32;
+        for _ in rt.forever() {
+            if goals.load(SeqCst) > next as u64
+                && let Some(hands) = spare.pop()
+                && threads.reserve(1).is_ok()
+            {
+                let worker = next;
+                let started = scope.spawn(move || work(
+                    rt, alloc, step, table, hands, goals, worker, gate,
+                ));
+                if let Ok(thread) = started {
+                    threads.push_reserved(thread);
+                }
+                next = next.saturating_add(1);
+                continue;
+            }
+            if !goes_on(rt, alloc, step, table, &mut supply, goals, None, 0, gate) {
                 break;
             }
-            let Some(hands) = all.next() else {
-                break;
-            };
-            let Ok(thread) = scope.spawn(move || work(rt, alloc, step, table, hands, worker, gate))
-            else {
-                break;
-            };
-            threads.push_reserved(thread);
         }
-        work(rt, alloc, step, table, own, 0, gate);
         for thread in threads {
             thread.join(rt);
         }
     })
+}
+
+/// Works at a table by so many workers, of which the caller is the first. It takes the first turn alone, by the root's
+/// step where that is known. Where the workers' deques can't be made nobody works.
+fn work_together<S: Step + Sync, G: Gate + Sync, R: Threads + Wait + Sync>(
+    rt: &R,
+    alloc: Global,
+    step: &S,
+    table: &GoalTable<S>,
+    known: Option<(S::Task, Stepped<S::Task>)>,
+    workers: u32,
+    gate: &G,
+)
+where
+    S::Task: Send,
+    requires { IfSome known (λ k. k.1 ≡ S.step_of k.0) }
+{
+    let Ok(mut spare) = deal_in(alloc, workers.clamp(1, MOST_WORKERS)) else {
+        return;
+    };
+    spare.reverse();
+    let Some(own) = spare.pop() else {
+        return;
+    };
+    let mut supply = Supply::new(alloc, own);
+    let goals = AtomicU64::new(1);
+    if goes_on(rt, alloc, step, table, &mut supply, &goals, known, 0, gate) {
+        work_with_others(rt, alloc, step, table, supply, spare, &goals, gate);
+    }
 }
 
 /// Works at a table of one's own until its root is done.
@@ -91,10 +127,37 @@ fn work_alone<S: Step, G: Gate, R: Wait>(
             return Ok(state);
         }
         if let Claim::Found(job) = state.claim_step() {
-            work_claimed(rt, alloc, step, &mut state, job, 0, gate)?;
+            work_claimed(rt, alloc, step, &mut state, job, None, 0, gate)?;
         }
     }
     unreachable!()
+}
+
+/// The goal table of a task, whose step may be known, worked by up to 64 workers until its root is done.
+fn speculate_by<S: Step + Sync, G: Gate + Sync, R: Threads + Wait + Sync>(
+    rt: &R,
+    alloc: Global,
+    step: &S,
+    task: &S::Task,
+    known: Option<(S::Task, Stepped<S::Task>)>,
+    rule: Rule,
+    workers: u32,
+    gate: &G,
+) -> Result<TableState<S>, NoMemory>
+where
+    S::Task: Send,
+    requires { IfSome known (λ k. k.1 ≡ S.step_of k.0) }
+    ensures done { IfOk result (λ s. IsRootDone S.step_of S.depth s task.now rule) }
+{
+    let root = step.copy_task(alloc, task)?;
+    let table = begin(alloc, step, root, rule)?;
+    work_together(rt, alloc, step, &table, known, workers, gate);
+    let shared = table.into_state();
+    if shared.root_done(step, task, rule) {
+        return Ok(shared);
+    }
+    mem::drop(shared);
+    work_alone(rt, alloc, step, task, rule, gate)
 }
 
 /// The goal table of a task, worked by up to 64 workers until its root is done. The caller is worker 0, and each other
@@ -113,13 +176,26 @@ where
     S::Task: Send,
     ensures done { IfOk result (λ s. IsRootDone S.step_of S.depth s task.now rule) }
 {
+    speculate_by(rt, alloc, step, task, None, rule, workers, gate)
+}
+
+/// The same by the task's step, which isn't taken again.
+pub fn speculate_from<S: Step + Sync, G: Gate + Sync, R: Threads + Wait + Sync>(
+    rt: &R,
+    alloc: Global,
+    step: &S,
+    task: &S::Task,
+    stepped: Stepped<S::Task>,
+    rule: Rule,
+    workers: u32,
+    gate: &G,
+) -> Result<TableState<S>, NoMemory>
+where
+    S::Task: Send,
+    requires stepped { stepped ≡ S.step_of task.now }
+    ensures done { IfOk result (λ s. IsRootDone S.step_of S.depth s task.now rule) }
+{
     let root = step.copy_task(alloc, task)?;
-    let table = begin(alloc, step, root, rule)?;
-    work_together(rt, alloc, step, &table, workers, gate);
-    let shared = table.into_state();
-    if shared.root_done(step, task, rule) {
-        return Ok(shared);
-    }
-    mem::drop(shared);
-    work_alone(rt, alloc, step, task, rule, gate)
+    let known = Some((root, stepped));
+    speculate_by(rt, alloc, step, task, known, rule, workers, gate)
 }

@@ -7,12 +7,14 @@ ghost use Rattle.ap_speculate.specs.Turns.{IsTurn};
 use crate::board::{Board, Shared};
 use crate::gate::Gate;
 use crate::hands::Hands;
-use crate::job::{JobEnd, look_at_job, run_stepped};
+use crate::job::{JobEnd, look_at_job, run_stepped, step_of};
 use crate::supply::{Children, Supply};
 use ap_table::{GoalTable, Grown, Job};
 use ap_walk::{NoMemory, Out, Step, Stepped};
 use std::alloc::{AllocError, Global};
 use std::sync::Wait;
+use std::sync::atomic::AtomicU64;
+use std::sync::atomic::Ordering::SeqCst;
 
 /// A node with so many families above it isn't expanded.
 const MOST_FAMILIES: usize = 3;
@@ -58,7 +60,7 @@ fn walk_claimed<S: Step, B: Board<S>, G: Gate, R: Wait>(
     Ok(None)
 }
 
-/// Works a claimed job: drops it where a family above it is known to stop before it; expands it where its task splits
+/// Works a claimed job, whose task's step may have been taken before: drops it where a family above it is known to stop before it; expands it where its task splits
 /// into two or more and fewer than three families are above it; or else walks it. Answers the children that are in the
 /// table then. The only error is want of memory.
 pub(crate) fn work_claimed<S: Step, B: Board<S>, G: Gate, R: Wait>(
@@ -67,9 +69,11 @@ pub(crate) fn work_claimed<S: Step, B: Board<S>, G: Gate, R: Wait>(
     step: &S,
     board: &mut B,
     job: Job<S::Task>,
+    first: Option<Stepped<S::Task>>,
     worker: u32,
     gate: &G,
 ) -> Result<Option<Children>, NoMemory>
+    requires { IfSome first (λ s. s ≡ S.step_of job.task) }
     ensures { OnOk result (IsHandedBack S.step_of S.depth B.did board.old board.new job) }
 {
     let mut job = job;
@@ -77,7 +81,7 @@ pub(crate) fn work_claimed<S: Step, B: Board<S>, G: Gate, R: Wait>(
         board.put_drop(step, job, license);
         return Ok(None);
     }
-    let stepped = step.step(alloc, &job.task)?;
+    let stepped = step_of(alloc, step, &job.task, first)?;
     if !expands(&job, &stepped) {
         return walk_claimed(rt, alloc, step, board, job, Some(stepped), worker, gate);
     }
@@ -88,48 +92,109 @@ pub(crate) fn work_claimed<S: Step, B: Board<S>, G: Gate, R: Wait>(
     }
 }
 
-/// One turn at a table: works the next job and deals its children, or waits until there is more. Answers whether there
-/// may be another turn: not where the root is done.
+/// A task's step, where that was taken of an equal task.
+fn known_step<S: Step>(
+    step: &S,
+    known: Option<(S::Task, Stepped<S::Task>)>,
+    task: &S::Task,
+) -> Option<Stepped<S::Task>>
+    requires { IfSome known (λ k. k.1 ≡ S.step_of k.0) }
+    ensures { IfSome result (λ s. s ≡ S.step_of task.now) }
+{
+    let (other, stepped) = known?;
+    if step.same_task(&other, task) {
+        return Some(stepped);
+    }
+    None
+}
+
+/// Adds a node's children to the number of goals that there are to be worked, in place of the node.
+fn add_goals(goals: &AtomicU64, children: Option<Children>) {
+    if let Some(Children { count, .. }) = children {
+        goals.fetch_add((count as u64).saturating_sub(1), SeqCst);
+    }
+}
+
+/// One turn at a table: works the next job, by its task's step where that is known, and deals its children, or waits
+/// until there is more. Answers whether there may be another turn: not where the root is done.
 fn turn<S: Step, G: Gate, R: Wait>(
     rt: &R,
     alloc: Global,
     step: &S,
     table: &GoalTable<S>,
     supply: &mut Supply<S>,
+    goals: &AtomicU64,
+    known: Option<(S::Task, Stepped<S::Task>)>,
     worker: u32,
     gate: &G,
 ) -> Result<bool, NoMemory>
+    requires { IfSome known (λ k. k.1 ≡ S.step_of k.0) }
     ensures { IfOk result (IsTurn S.step_of S.depth) }
 {
     let seen = table.length(rt);
     let Some(job) = supply.next_job(rt, table) else {
         return Ok(table.wait_more(rt, seen) > seen);
     };
+    let first = known_step(step, known, &job.task);
     let mut board = Shared { rt, table };
-    let children = work_claimed(rt, alloc, step, &mut board, job, worker, gate)?;
+    let children = work_claimed(rt, alloc, step, &mut board, job, first, worker, gate)?;
+    add_goals(goals, children);
     supply.deal(rt, table, children)?;
     Ok(true)
 }
 
-/// Takes turns at a table until the root is done or the table is halted. A worker that is refused memory halts it.
+/// Takes one turn, unless the table is halted. Answers whether there may be another one. A worker that is refused memory
+/// halts the table.
+pub(crate) fn goes_on<S: Step, G: Gate, R: Wait>(
+    rt: &R,
+    alloc: Global,
+    step: &S,
+    table: &GoalTable<S>,
+    supply: &mut Supply<S>,
+    goals: &AtomicU64,
+    known: Option<(S::Task, Stepped<S::Task>)>,
+    worker: u32,
+    gate: &G,
+) -> bool
+    requires { IfSome known (λ k. k.1 ≡ S.step_of k.0) }
+{
+    if table.halted(rt) {
+        return false;
+    }
+    match turn(rt, alloc, step, table, supply, goals, known, worker, gate) {
+        Ok(more) => more,
+        Err(_) => {
+            table.halt(rt);
+            false
+        }
+    }
+}
+
+/// Takes turns at a table until the root is done or the table is halted.
 pub(crate) fn work<S: Step, G: Gate, R: Wait>(
     rt: &R,
     alloc: Global,
     step: &S,
     table: &GoalTable<S>,
     hands: Hands,
+    goals: &AtomicU64,
     worker: u32,
     gate: &G,
 ) {
     let mut supply = Supply::new(alloc, hands);
     for _ in rt.forever() {
-        if table.halted(rt) {
+        if !goes_on(
+            rt,
+            alloc,
+            step,
+            table,
+            &mut supply,
+            goals,
+            None,
+            worker,
+            gate,
+        ) {
             return;
-        }
-        match turn(rt, alloc, step, table, &mut supply, worker, gate) {
-            Ok(true) => {}
-            Ok(false) => return,
-            Err(_) => table.halt(rt),
         }
     }
 }
