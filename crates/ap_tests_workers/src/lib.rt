@@ -2,6 +2,8 @@
 #![tactic(auto)]
 
 #[cfg(test)]
+mod deals;
+#[cfg(test)]
 mod drops;
 mod gates;
 #[cfg(test)]

@@ -21,6 +21,8 @@ pub(crate) enum Tree {
     Three,
     /// Splits into `Over`, `Empty` and `Left`.
     Deep,
+    /// Splits into `Pair` and `Empty`.
+    Uneven,
 }
 
 pub(crate) struct Trees;
@@ -30,7 +32,7 @@ impl Step for Trees {
     ghost use Rattle.std.proofs.Common.{rules, arith};
     ghost use Rattle.ap_walk.specs.declared.act.Process.{Process};
     ghost use Rattle.ap_walk.specs.declared.act.Out.{Out};
-    ghost use Rattle.ap_tests_workers.specs.declared.trees.Tree.TheVariants.{Empty, Left, Right, Pair, Over, Three, Deep};
+    ghost use Rattle.ap_tests_workers.specs.declared.trees.Tree.TheVariants.{Empty, Left, Right, Pair, Over, Three, Deep, Uneven};
 
     type Task = Tree;
 
@@ -42,6 +44,7 @@ impl Step for Trees {
       | Over ↦ record { act = record { process = Process.Simplify; missed = false; limited = false }; out = Out.Split (Pair ∷ []) }
       | Three ↦ record { act = record { process = Process.Simplify; missed = false; limited = false }; out = Out.Split (Left ∷ Empty ∷ Right ∷ []) }
       | Deep ↦ record { act = record { process = Process.Simplify; missed = false; limited = false }; out = Out.Split (Over ∷ Empty ∷ Left ∷ []) }
+      | Uneven ↦ record { act = record { process = Process.Simplify; missed = false; limited = false }; out = Out.Split (Pair ∷ Empty ∷ []) }
     ] };
 
     ghost good = { λ _. Unit {0} };
@@ -54,9 +57,10 @@ impl Step for Trees {
       | Over ↦ record { induction = []; case = None; path = []; primes = 5 }
       | Three ↦ record { induction = []; case = None; path = []; primes = 6 }
       | Deep ↦ record { induction = []; case = None; path = []; primes = 7 }
+      | Uneven ↦ record { induction = []; case = None; path = []; primes = 8 }
     ] };
 
-    ghost depth = { elim [ Empty ↦ 0 | Left ↦ 0 | Right ↦ 0 | Pair ↦ 1 | Over ↦ 2 | Three ↦ 1 | Deep ↦ 3 ] };
+    ghost depth = { elim [ Empty ↦ 0 | Left ↦ 0 | Right ↦ 0 | Pair ↦ 1 | Over ↦ 2 | Three ↦ 1 | Deep ↦ 3 | Uneven ↦ 2 ] };
 
     ghost tells = { elim [
       | Empty ↦ ((λ e. Prim.cc), (λ e. Prim.cc))
@@ -66,6 +70,7 @@ impl Step for Trees {
       | Over ↦ ((λ e. Prim.cc), (λ e. Prim.cc))
       | Three ↦ ((λ e. Prim.cc), (λ e. Prim.cc))
       | Deep ↦ ((λ e. Prim.cc), (λ e. Prim.cc))
+      | Uneven ↦ ((λ e. Prim.cc), (λ e. Prim.cc))
     ] };
 
     ghost deeper = { elim [
@@ -76,6 +81,7 @@ impl Step for Trees {
       | Over ↦ (Prim.omega arith, tt)
       | Three ↦ (Prim.omega arith, (Prim.omega arith, (Prim.omega arith, tt)))
       | Deep ↦ (Prim.omega arith, (Prim.omega arith, (Prim.omega arith, tt)))
+      | Uneven ↦ (Prim.omega arith, (Prim.omega arith, tt))
     ] };
 
     ghost whole = { λ _ _ _. tt };
@@ -88,6 +94,7 @@ impl Step for Trees {
             Tree::Over => split(alloc, &[Tree::Pair]),
             Tree::Three => split(alloc, &[Tree::Left, Tree::Empty, Tree::Right]),
             Tree::Deep => split(alloc, &[Tree::Over, Tree::Empty, Tree::Left]),
+            Tree::Uneven => split(alloc, &[Tree::Pair, Tree::Empty]),
         }
     }
 
@@ -112,6 +119,7 @@ impl Step for Trees {
                 Tree::Over => 5,
                 Tree::Three => 6,
                 Tree::Deep => 7,
+                Tree::Uneven => 8,
             },
         })
     }
