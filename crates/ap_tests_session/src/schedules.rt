@@ -1,6 +1,7 @@
 //! Four workers under many schedules: what is put is what the rows say.
 use crate::running::{parted, session_prints};
 use ap_session::{Gate, Place, Status};
+use ap_tests_workers::Holding;
 use std::alloc::Global;
 use std::process::Abort;
 use std::sync::Wait;
@@ -60,6 +61,22 @@ const ROWS: &str =
 --workers 4 s8 | s8: (defund p (x) x) (defund q (x) (equal x x)) (defthm b8 (and (p x) (p y) (q v) (q u) (p z)) :hints (("Subgoal 4" :in-theory (enable q)) ("Subgoal 3" :in-theory (enable q)))) => Book s8 / DEFUN P / DEFUN P admitted / DEFUN Q / DEFUN Q admitted / DEFTHM B8 / Goal simplify 5 / Subgoal 5 push *1 / Subgoal 4 simplify 0 / Subgoal 3 simplify 0 / Subgoal 2 push *2 / Revert 2 / *1 noscheme / Checkpoints before induction / Subgoal 5: (OR (NOT (P X)) (NOT (P Y)) (NOT (Q V)) (NOT (Q U)) (P Z)) / Subgoal 2: (OR (NOT (P X)) (P Y)) / DEFTHM B8 refused 8.1 NoScheme / Book s8 not certified
 --workers 4 s19 | s19: (defund q (x) (equal x x)) (defund n0 (x) (not (equal x x))) (defthm b19 (and (q x) (n0 y)) :hints (("Subgoal 2" :in-theory (enable q n0)))) => Book s19 / DEFUN Q / DEFUN Q admitted / DEFUN N0 / DEFUN N0 admitted / DEFTHM B19 / Goal simplify 2 / Subgoal 2 simplify 1 / Subgoal 2' empty / Checkpoints before induction / Subgoal 2': NIL / DEFTHM B19 refused 8.2 EmptyClause / Book s19 not certified"##;
 
+/// Asserts what a row puts by workers that pass a gate.
+fn puts_under<R: Abort + Threads + Wait + Sync, G: Gate + Sync>(
+    rt: &R,
+    alloc: Global,
+    row: &str,
+    gate: &G,
+) -> Result<(), Fail> {
+    let (asked, lines) = parted(row, " => ", "");
+    let status = if lines.ends_with("not certified") {
+        Status::NotCertified
+    } else {
+        Status::Certified
+    };
+    session_prints(rt, alloc, asked, status, lines, gate)
+}
+
 /// Asserts what each row puts under a schedule.
 fn all_put<R: Abort + Threads + Wait + Sync>(
     rt: &R,
@@ -67,20 +84,7 @@ fn all_put<R: Abort + Threads + Wait + Sync>(
     schedule: u64,
 ) -> Result<(), Fail> {
     for row in ROWS.lines() {
-        let (asked, lines) = parted(row, " => ", "");
-        let status = if lines.ends_with("not certified") {
-            Status::NotCertified
-        } else {
-            Status::Certified
-        };
-        session_prints(
-            rt,
-            alloc,
-            asked,
-            status,
-            lines,
-            &ScheduledGate::new(schedule),
-        )?;
+        puts_under(rt, alloc, row, &ScheduledGate::new(schedule))?;
     }
     Ok(())
 }
@@ -107,4 +111,32 @@ fn four_workers_put_what_the_rows_say_under_schedules_100_to_199(
     rt: HostRuntime,
 ) -> Result<(), Fail> {
     all_put_under(&rt, rt.alloc(), 100)
+}
+
+/// Asserts what a row puts with so many workers, which pass a gate that holds `Subgoal 3` until `Subgoal 2` is done: one
+/// passes none, and several come to it where the goal is walked.
+fn puts_by<R: Abort + Threads + Wait + Sync>(
+    rt: &R,
+    alloc: Global,
+    row: &str,
+    workers: u32,
+) -> Result<(), Fail> {
+    let (_, rest) = parted(row, "--workers 4 ", row);
+    let row = format!(in alloc; "--workers {workers} {rest}")?;
+    let gate = Holding::new();
+    puts_under(rt, alloc, row.as_str(), &gate)?;
+    let is_held = workers > 1 && (rest.starts_with("s6") || rest.starts_with("s8"));
+    assert_eq!(rt; gate.has_held(), is_held);
+    assert!(rt; !gate.is_used_up());
+    Ok(())
+}
+
+#[test]
+fn any_workers_put_what_the_rows_say(rt: HostRuntime) -> Result<(), Fail> {
+    for workers in [1, 2, 8, 64] {
+        for row in ROWS.lines() {
+            puts_by(&rt, rt.alloc(), row, workers)?;
+        }
+    }
+    Ok(())
 }
