@@ -17,7 +17,7 @@ use Rattle.ap_kernel.specs.declared.reductions.Reduction.{Reduction}
 use Rattle.ap_kernel.specs.Standing.{Stands}
 use Rattle.ap_kernel.specs.Reductions.{KnownClause, Reduces, put_at, others, all_false, to_one}
 use Rattle.ap_kernel.specs.Tidying.{tidied, holds_by_itself, tidy_goals, tidy_made}
-use Rattle.ap_clausify.specs.Splitting.{settled_left}
+use Rattle.ap_clausify.specs.Splitting.{steps_left, settled_left}
 use Rattle.ap_rewrite.specs.Settings.{Setting}
 use Rattle.ap_rewrite.specs.Rewriting.{rewrite_of}
 use Rattle.ap_rewrite.specs.Literals.{rewrite_literal, rewrite_literals, left_of, rewritten_to, split_left}
@@ -285,3 +285,15 @@ pub left_out : (c : Clause) (g : Got (Option (List Term))) (m : ℕ) → got_red
     → ◌≡◌ {A = Option Inference} None (option_map (λ (p : List Clause × ℕ). record { from = c; to = p.0 }) (settled_left (after g split_left)))
 left_out c None m e = refl
 left_out c (Some p) m e = cc
+
+-- the steps that are left: by the clause that is left, and none where they ran out
+pub left_steps : (c : Clause) (g : Got (Option (List Term))) (q : Reduction) (m k : ℕ) → got_reduced (Some q) m ≡ mapped (rewritten_to c) g
+    → k ≡ steps_left (split_left (literals_left q.says.to) m) → k ≡ steps_left (after g split_left)
+left_steps c g q m k e is =
+    let (o, left, says) = left_says c g q m e in
+    let back : literals_left q.says.to ≡ o = ap (λ (y : Inference). literals_left y.to) says ∙ left_back o in
+    is ∙ ap (λ o. steps_left (split_left o m)) back ∙ ap (λ g. steps_left (after g split_left)) (sym left)
+
+pub out_steps : (c : Clause) (g : Got (Option (List Term))) → None ≡ mapped (rewritten_to c) g → 0 ≡ steps_left (after g split_left)
+out_steps c None e = refl
+out_steps c (Some p) e = cc

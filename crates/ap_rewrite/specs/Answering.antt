@@ -67,6 +67,11 @@ abbrev pub got : Option Equiv → ℕ → Got Term
 got None n = None
 got (Some q) n = Some (q.says.rhs, n)
 
+-- the steps that an answer leaves: none where they ran out
+abbrev pub steps_after : {A : Type 0} → Got A → ℕ
+steps_after None = 0
+steps_after (Some p) = p.1
+
 -- one that may not be there
 abbrev pub right_of : Option Equiv → Option Term
 right_of o = option_map (λ (q : Equiv). q.says.rhs) o

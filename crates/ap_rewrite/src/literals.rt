@@ -8,7 +8,7 @@ ghost use Rattle.ap_kernel.specs.Standing.{HasGround};
 ghost use Rattle.ap_kernel.specs.declared.objects.Mode.TheVariants.{Iff};
 ghost use Rattle.ap_rewrite.specs.InWorld.{world_setting};
 ghost use Rattle.ap_rewrite.specs.Rewriting.{rewrite_of};
-ghost use Rattle.ap_rewrite.specs.Answering.{got, From};
+ghost use Rattle.ap_rewrite.specs.Answering.{got, steps_after, From};
 
 use crate::rewriter::{Place, Rewriter, Run};
 use crate::rewriting::rewrite;
@@ -20,8 +20,9 @@ use std::alloc::Global;
 
 /// What a literal is rewritten to under facts, under `iff`: with the rules of the world that the theory enables, linear
 /// ones among them, the definitions that it enables, the calls that are to be opened, and the types and the
-/// certificates of linear arithmetic that the oracle tells. Each term that is rewritten spends a step, and none is 200 levels deep. `None` exactly where the steps run out. The only error is
-/// want of memory. See the manual's topic `rewrite`.
+/// certificates of linear arithmetic that the oracle tells. Each term that is rewritten spends a step; one at level 200
+/// stays as it is. `None` exactly where the steps run out, and then none is left. The only error is want of memory. See
+/// the manual's topic `rewrite`.
 pub fn literal<O: TypeOracle + LinearOracle>(
     alloc: Global,
     w: &World,
@@ -38,6 +39,7 @@ pub fn literal<O: TypeOracle + LinearOracle>(
     requires facts { KnownFacts (function_of w.now.entries) ctx.now.0 }
     requires term { IsTrue (known (function_of w.now.entries) t.now) }
     ensures is { IfOk result (λ o. got o steps.new.left ≡ rewrite_of (world_setting w.now theory.now expand.now) Iff (record { facts = ctx.now.0; closed = []; chain = 0 }) t.now steps.old.left) }
+    ensures steps { IfOk result (λ o. steps.new.left ≡ steps_after (rewrite_of (world_setting w.now theory.now expand.now) Iff (record { facts = ctx.now.0; closed = []; chain = 0 }) t.now steps.old.left)) }
     ensures from { IfOk result (λ o. IfSome o (From w.now Iff ctx.now t.now)) }
 {
     let r = Rewriter {

@@ -5,7 +5,7 @@ ghost use Rattle.ap_world.specs.Facts.{KnownFacts};
 ghost use Rattle.ap_world.specs.Shapes.{shape_of};
 ghost use Rattle.ap_world.specs.Sound.{known};
 ghost use Rattle.ap_rewrite.specs.Rewriting.{rewrite_parts, rewrite_shape};
-ghost use Rattle.ap_rewrite.specs.Answering.{defs_in, Ready, setting_of, inner_of, seen_at, got, From, IsLevel};
+ghost use Rattle.ap_rewrite.specs.Answering.{defs_in, Ready, setting_of, inner_of, seen_at, got, steps_after, From, IsLevel};
 
 use crate::branching::{rewrite_if, rewrite_not};
 use crate::calls::rewrite_call;
@@ -69,7 +69,7 @@ fn rewrite_shape<
 
 /// A term with so many levels left: a step is spent first. `None` where the steps run out.
 #[cycle(rewriting)]
-pub fn rewrite<O: TypeOracle + LinearOracle>(
+fn rewrite_levels<O: TypeOracle + LinearOracle>(
     r: &Rewriter<'_, O>,
     run: &mut Run,
     levels: u32,
@@ -101,11 +101,35 @@ pub fn rewrite<O: TypeOracle + LinearOracle>(
         requires term { IsTrue (known (defs_in r.now) t.now) }
         ensures is { IfOk result (λ o. got o run.new.left ≡ inner_of r.entry.now less mode (seen_at at.now) t.now run.old.left) }
         ensures from { IfOk result (λ o. IfSome o (From r.entry.now.w.now mode at.now.ctx.now t.now)) }
-    { rewrite(&*r, run, less, mode, &*at, &*t) };
+    { rewrite_levels(&*r, run, less, mode, &*at, &*t) };
     let l = Level {
         r: &*r,
         levels: less,
         below: &below,
     };
     rewrite_shape(&l, run, mode, &*at, &*t)
+}
+
+/// A term with so many levels left: each term that is rewritten spends a step first. `None` exactly where the steps run
+/// out, and then none is left. The only error is want of memory.
+pub fn rewrite<O: TypeOracle + LinearOracle>(
+    r: &Rewriter<'_, O>,
+    run: &mut Run,
+    levels: u32,
+    mode: Mode,
+    at: &Place<'_>,
+    t: &Term,
+) -> Result<Option<Equiv>, NoMemory>
+    requires ready { Ready r.now }
+    requires facts { KnownFacts (defs_in r.now) at.now.ctx.now.0 }
+    requires term { IsTrue (known (defs_in r.now) t.now) }
+    ensures is { IfOk result (λ o. got o run.new.left ≡ inner_of r.now levels mode (seen_at at.now) t.now run.old.left) }
+    ensures steps { IfOk result (λ o. run.new.left ≡ steps_after (inner_of r.now levels mode (seen_at at.now) t.now run.old.left)) }
+    ensures from { IfOk result (λ o. IfSome o (From r.now.w.now mode at.now.ctx.now t.now)) }
+{
+    let Some(q) = rewrite_levels(r, run, levels, mode, at, t)? else {
+        run.left = 0;
+        return Ok(None);
+    };
+    Ok(Some(q))
 }

@@ -7,7 +7,7 @@ ghost use Rattle.ap_world.specs.World.{function_of};
 ghost use Rattle.ap_world.specs.Shapes.{is_constant};
 ghost use Rattle.ap_kernel.specs.Standing.{HasGround, Stands};
 ghost use Rattle.ap_kernel.specs.Reductions.{KnownClause, Reduces, put_at, others, all_false, to_one, rewritten};
-ghost use Rattle.ap_clausify.specs.Splitting.{settled_left};
+ghost use Rattle.ap_clausify.specs.Splitting.{settled_left, steps_left};
 ghost use Rattle.ap_rewrite.specs.Literals.{rewrite_literal, rewrite_literals, rewritten_to, split_left, simplify_of};
 ghost use Rattle.ap_rewrite.specs.Answering.{defs_in, Ready, setting_of, got};
 ghost use Rattle.ap_rewrite.specs.Simplifying.{got_reduced, literals_left, HasPlace, FitsLiteral, LeavesTrue};
@@ -199,6 +199,7 @@ fn split_left(
     requires one { q.says ≡ rewritten_to q.says.from (literals_left q.says.to) }
     ensures stands { IfOk result (λ o. IfSome o (Reduces w.now)) }
     ensures made { IfOk result (λ o. option_map (λ p. p.says) o ≡ option_map (λ p. record { from = q.says.from; to = p.0 }) (settled_left (split_left (literals_left q.says.to) steps.old.left))) }
+    ensures steps { IfOk result (λ o. steps.new.left ≡ steps_left (split_left (literals_left q.says.to) steps.old.left)) }
 {
     if q.to().is_empty() {
         return Ok(Some(q));
@@ -212,8 +213,8 @@ fn split_left(
 }
 
 /// What the literals of a clause are rewritten to, from left to right, each while the others are assumed false; what
-/// is left is then split, by the steps that are left, and each clause tidied. `None` exactly where the steps run out. The only error is want
-/// of memory. See the manual's topic `rewrite`.
+/// is left is then split, by the steps that are left, and each clause tidied. `None` exactly where the steps run out, and
+/// then none is left. The only error is want of memory. See the manual's topic `rewrite`.
 pub fn simplify<O: TypeOracle + LinearOracle>(
     r: &Rewriter<'_, O>,
     steps: &mut Steps,
@@ -223,8 +224,10 @@ pub fn simplify<O: TypeOracle + LinearOracle>(
     requires clause { KnownClause (defs_in r.now) c }
     ensures stands { IfOk result (λ o. IfSome o (Reduces r.now.w.now)) }
     ensures made { IfOk result (λ o. option_map (λ q. q.says) o ≡ option_map (λ p. record { from = c; to = p.0 }) (settled_left (simplify_of (setting_of r.now) steps.old.left c))) }
+    ensures steps { IfOk result (λ o. steps.new.left ≡ steps_left (simplify_of (setting_of r.now) steps.old.left c)) }
 {
     let Some(q) = rewrite_literals(r, steps, c)? else {
+        steps.left = 0;
         return Ok(None);
     };
     let answer = split_left(r.alloc, r.w, q, steps)?;

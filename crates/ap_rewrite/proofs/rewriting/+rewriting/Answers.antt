@@ -27,8 +27,8 @@ rewrite_shape-requires-clause-level g t c = record {
 pub returns-clause-from : goal.returns-clause-from
 returns-clause-from g t c = c.rewrite_shape.ensures.from
 
-pub below-rewrite-requires : goal.below-rewrite-requires
-below-rewrite-requires g t c = λ κs within. (search rules, (within, (c.requires.ready, (c.requires.facts, c.requires.term))))
+pub below-rewrite_levels-requires : goal.below-rewrite_levels-requires
+below-rewrite_levels-requires g t c = λ κs within. (search rules, (within, (c.requires.ready, (c.requires.facts, c.requires.term))))
 
 pub below-returns : goal.below-returns
-below-returns g t c = record { is = c.rewrite.ensures.is; from = c.rewrite.ensures.from }
+below-returns g t c = record { is = c.rewrite_levels.ensures.is; from = c.rewrite_levels.ensures.from }
