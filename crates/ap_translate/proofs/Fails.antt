@@ -67,6 +67,10 @@ pub gives_err : {A : Type 0} (r : Result A TransError) (e : TransError) (s : Ans
 gives_err (Ok a) e s h k = absurd h
 gives_err (Err x) e s h k = subst (λ y. Fails y s) (sym h) k
 
+-- what is given is the same, said in another way
+pub gives_same : {A : Type 0} (r : Result A TransError) (x y : Answer A) → x ≡ y → Gives r y → Gives r x
+gives_same r x y same h = subst (Gives r) (sym same) h
+
 -- no more may be nested
 pub bad_fails : {A : Type 0} (cap : A → Option A) (e : TransError) (p : ℕ) (r : Answer A) → e ≡ error_of p kinds.BadForm → r ≡ refused p kinds.BadForm → Fails e (capped cap r)
 bad_fails cap e p r is h = subst (λ y. Fails y (capped cap r)) (sym is) (ap (capped cap) h)

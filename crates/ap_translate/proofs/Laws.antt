@@ -1,6 +1,6 @@
 -- What the terms of forms have in common: a property of terms that each line of the table keeps holds of
 -- each term that a form is.
-use Rattle.std.proofs.Common.{◌≡◌, ℕ, zero, suc, Bool, true, false, cond, ◌≤◌, nat_eq, nat_le, List, [], ◌∷◌, ◌++◌, map, zip, length, Option, Some, None, IfSome, option_map, Ok, Err, unwrap_or, refl, sym, ap, ◌∙◌, subst, append_assoc, arith}
+use Rattle.std.proofs.Common.{◌≡◌, ℕ, zero, suc, Bool, true, false, cond, ◌≤◌, nat_eq, nat_le, List, [], ◌∷◌, ◌++◌, map, zip, length, Option, Some, None, IfSome, option_map, Result, Ok, Err, IfOk, unwrap_or, refl, sym, ap, ◌∙◌, subst, append_assoc, arith}
 use Rattle.std.proofs.lemmas.Bool.Decides.{nat_tests}
 use Rattle.std.proofs.lemmas.List.{append-nil}
 use Rattle.std.proofs.Math.ListN.{length-map}
@@ -29,16 +29,17 @@ use Rattle.ap_translate.specs.declared.build.Maker.{Maker}
 use Rattle.ap_translate.specs.declared.build.Maker.TheVariants as makers
 use Rattle.ap_translate.specs.declared.build.Piece.{Piece}
 use Rattle.ap_translate.specs.declared.fault.TransKind.TheVariants as kinds
+use Rattle.ap_translate.specs.declared.fault.TransError.{TransError}
 use Rattle.ap_translate.specs.declared.macros.Macro.{Macro}
 use Rattle.ap_translate.specs.declared.macros.Macro.TheVariants as m
-use Rattle.ap_translate.specs.Answers.{Answer, refused, ◌>>=◌, shaped, each}
+use Rattle.ap_translate.specs.Answers.{Answer, refused, ◌>>=◌, shaped, each, Gives}
 use Rattle.ap_translate.specs.Names.{is_constant, is_starred}
 use Rattle.ap_translate.specs.Parts.{Layer, layer_of}
 use Rattle.ap_translate.specs.Quoted.{quote_name}
 use Rattle.ap_translate.specs.Rows.{nil_term, t_term, integer_term, call_1, call_2, if_term, and_term, or_term, chained, joined, summed, built_few, built, accessed, only, made, pieced, instances}
 use Rattle.ap_translate.specs.Shapes.{Arm, alone, pair, otherwise, arm_in, Bind, binding_in, Scope}
 use Rattle.ap_translate.specs.Plans.{Plan, empty, quotation, build, arms, bind, apply, arity_of, arity_in, plan_in}
-use Rattle.ap_translate.specs.Table.{Bound, with_bound, Readers, constant_term, variable_term, symbol_term, variable, variables, bindings, scope_of, body_of, let_term, lambda_term, arm_term, arms_term, quoted_term, plan_term, term_layer, part_layer, piece_layer, readers, term_in}
+use Rattle.ap_translate.specs.Table.{Bound, with_bound, Readers, constant_term, variable_term, symbol_term, variable, variables, bindings, scope_of, body_of, let_term, lambda_term, arm_term, arms_term, quoted_term, plan_term, term_layer, part_layer, piece_layer, readers, term_in, within}
 use Rattle.ap_translate.specs.Sizes.{small, capped}
 use Rattle.ap_translate.specs.Laws.{HasMacroFunctions}
 use Rattle.ap_translate.proofs.Makings.{each_length}
@@ -384,42 +385,38 @@ module _ (W : List Entry) (Takes : Symbol → ℕ → Type 0) (P : Bound → Ter
   pub in_holds : (n : ℕ) (b : Bound) (f : Form) → Holds (P b) (term_in W n b f)
   in_holds n b f = term_keeps (readers W n) (readers_good n) b f.place (layer_of f)
 
--- of what is kept of an answer
-pub kept_holds : (P : Term → Type 0) (r : Answer Term) (u : Term) → Holds P r → capped small r ≡ Ok (Some u) → P u
-kept_holds P (Err e) u h k = absurd (no k)
+-- what holds of a form's term holds of the term that is given
+pub given_holds : (P : Term → Type 0) (r : Answer Term) (p : ℕ) (x : Result Term TransError) → Gives x (r >>= within p) → Holds P r → IfOk x P
+given_holds P r p (Err e) g h = tt
+given_holds P (Err e) p (Ok u) g h = absurd (no g)
   where
-    no : Err e ≡ Ok (Some u) → ⊥
+    no : Err e ≡ Ok u → ⊥
     no q = cc
-kept_holds P (Ok t) u h k = by_size (nat_le (term_size t) 4096) some
+given_holds P (Ok t) p (Ok u) g h = by_size (nat_le (term_size t) 4096) g
   where
-    some : small t ≡ Some u
-    some = cc
-
-    by_size : (b : Bool) → cond b (Some t) None ≡ Some u → P u
+    by_size : (b : Bool) → cond b (Ok t) (refused p kinds.TermTooLarge) ≡ Ok u → P u
     by_size true q = let same : t ≡ u = cc in subst P same h
     by_size false q = absurd (no q)
       where
-        no : None ≡ Some u → ⊥
+        no : refused p kinds.TermTooLarge ≡ Ok u → ⊥
         no j = cc
 
-pub kept_small : (r : Answer Term) (u : Term) → capped small r ≡ Ok (Some u) → term_size u ≤ 4096
-kept_small (Err e) u k = absurd (no k)
+pub given_small : (r : Answer Term) (p : ℕ) (x : Result Term TransError) → Gives x (r >>= within p) → IfOk x (λ u. term_size u ≤ 4096)
+given_small r p (Err e) g = tt
+given_small (Err e) p (Ok u) g = absurd (no g)
   where
-    no : Err e ≡ Ok (Some u) → ⊥
+    no : Err e ≡ Ok u → ⊥
     no q = cc
-kept_small (Ok t) u k = by_size (nat_le (term_size t) 4096) refl some
+given_small (Ok t) p (Ok u) g = by_size (nat_le (term_size t) 4096) refl g
   where
-    some : small t ≡ Some u
-    some = cc
-
-    by_size : (b : Bool) → nat_le (term_size t) 4096 ≡ b → cond b (Some t) None ≡ Some u → term_size u ≤ 4096
+    by_size : (b : Bool) → nat_le (term_size t) 4096 ≡ b → cond b (Ok t) (refused p kinds.TermTooLarge) ≡ Ok u → term_size u ≤ 4096
     by_size true h q =
         let same : t ≡ u = cc in
         let low : term_size t ≤ 4096 = grind (arith, nat_tests) in
         subst (λ w. term_size w ≤ 4096) same low
     by_size false h q = absurd (no q)
       where
-        no : None ≡ Some u → ⊥
+        no : refused p kinds.TermTooLarge ≡ Ok u → ⊥
         no j = cc
 
 -- calls of functions that the world has, with their numbers of arguments

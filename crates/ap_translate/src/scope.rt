@@ -1,4 +1,4 @@
-ghost use Rattle.std.specs.Prelude.{◌≡◌, ◌+◌, ◌∷◌, [], IfOk, MatchResult, option_map};
+ghost use Rattle.std.specs.Prelude.{◌≡◌, ◌+◌, ◌∷◌, [], IfOk, OnOk, MatchResult, option_map};
 ghost use Rattle.ap_value.specs.declared.value.Value.TheVariants.{Sym};
 ghost use Rattle.ap_term.specs.declared.term.Term.TheVariants.{Quote};
 ghost use Rattle.ap_world.specs.World.{constant_of};
@@ -23,9 +23,15 @@ use ap_world::World;
 use std::alloc::Global;
 
 /// The variables that are bound; `None`: each variable may stand.
-#[derive(Drop)]
 pub struct Bound {
     pub names: Option<Seq<Symbol>>,
+}
+
+// One call wherever bound variables are let go, whether or not there is a list of them.
+impl Drop for Bound {
+    fn drop(self) {
+        let Bound { names: _names } = self;
+    }
 }
 
 /// A copy of the bound variables.
@@ -54,24 +60,22 @@ pub(crate) fn with_bound(alloc: Global, bound: &Bound, more: &[Symbol]) -> Resul
     }
 }
 
-/// The bound variables with one more behind them in a `let*`, and as they are in a `let`.
-pub(crate) fn wider(
+/// Puts one more behind the bound variables in a `let*`, and leaves them as they are in a `let`.
+pub(crate) fn widen(
     alloc: Global,
-    bound: Bound,
+    bound: &mut Bound,
     name: &Symbol,
     in_turn: bool,
-) -> Result<Bound, NoMemory>
-    ensures { IfOk result (λ b. b.names ≡ scope_of in_turn bound.names (name.now ∷ [])) }
+) -> Result<(), NoMemory>
+    ensures { OnOk result (bound.new.names ≡ scope_of in_turn bound.old.names (name.now ∷ [])) }
 {
     if !in_turn {
-        return Ok(bound);
+        return Ok(());
     }
-    match bound.names {
-        None => Ok(Bound { names: None }),
-        Some(mut names) => {
-            names.push(copy_symbol(alloc, name)?)?;
-            Ok(Bound { names: Some(names) })
-        }
+    let name = copy_symbol(alloc, name)?;
+    match &mut bound.names {
+        None => Ok(()),
+        Some(names) => names.push(name),
     }
 }
 

@@ -16,7 +16,7 @@ use crate::instance::body_replaced;
 use crate::plans::{Planned, plan_in};
 use crate::scope::{
     Bindings, Bound, bound_name, copy_bound, nested, quote, quoted, symbol_term, variable,
-    variables, wider, with_bound,
+    variables, widen, with_bound,
 };
 use crate::shapes::{Clause, Scoped, binding_in, clause_in, last_in};
 use crate::sizes::{add_term, no_terms, terms_of};
@@ -47,19 +47,16 @@ pub(crate) fn term(
         Body::List(items) => {
             let left = nested(left, place)?;
             let asked = plan_in(alloc, world, place, items.as_slice())?;
-            let found = plan_term(alloc, world, left, bound, place, asked)?;
-            Ok(found)
+            plan_term(alloc, world, left, bound, place, asked)
         }
         Body::Dotted(_, _) => Err(refused_at(place, TransKind::DottedForm)),
         Body::Quoted(inner) => {
             let left = nested(left, place)?;
-            let found = quoted(alloc, left, inner.get())?;
-            Ok(found)
+            quoted(alloc, left, inner.get())
         }
         Body::Quasi(inner) => {
             let left = nested(left, place)?;
-            let found = part(alloc, world, left, bound, inner.get())?;
-            Ok(found)
+            part(alloc, world, left, bound, inner.get())
         }
         Body::Comma(_) => Err(refused_at(place, TransKind::CommaOutside)),
         Body::CommaAt(_) => Err(refused_at(place, TransKind::CommaOutside)),
@@ -99,8 +96,7 @@ fn part(
         Body::Quasi(_) => Err(refused_at(place, TransKind::BadForm)),
         Body::Comma(inner) => {
             let left = nested(left, place)?;
-            let found = term(alloc, world, left, bound, inner.get())?;
-            Ok(found)
+            term(alloc, world, left, bound, inner.get())
         }
         Body::CommaAt(_) => Err(refused_at(place, TransKind::BadForm)),
     }
@@ -164,27 +160,15 @@ fn plan_term(
 {
     match asked {
         Planned::Empty => Ok(Some(nil_term(alloc)?)),
-        Planned::Quotation(form) => {
-            let found = quoted(alloc, left, form)?;
-            Ok(found)
-        }
+        Planned::Quotation(form) => quoted(alloc, left, form),
         Planned::Build(maker, forms) => {
             let terms = terms(alloc, world, left, bound, forms)?;
             let found = made_of(alloc, maker, terms)?;
             Ok(found)
         }
-        Planned::Arms(forms) => {
-            let found = arms(alloc, world, left, bound, place, forms)?;
-            Ok(found)
-        }
-        Planned::Let(scope, in_turn) => {
-            let found = let_term(alloc, world, left, bound, place, scope, in_turn)?;
-            Ok(found)
-        }
-        Planned::Lambda(scope, forms) => {
-            let found = lambda(alloc, world, left, bound, place, scope, forms)?;
-            Ok(found)
-        }
+        Planned::Arms(forms) => arms(alloc, world, left, bound, place, forms),
+        Planned::Let(scope, in_turn) => let_term(alloc, world, left, bound, place, scope, in_turn),
+        Planned::Lambda(scope, forms) => lambda(alloc, world, left, bound, place, scope, forms),
     }
 }
 
@@ -292,9 +276,9 @@ fn bindings(
         let name = bound_name(alloc, found.name)?;
         let name = variable(found.place, names.as_slice(), name)?;
         let next = term(alloc, world, left, &scope, found.value)?;
-        scope = wider(alloc, scope, &name, in_turn)?;
-        names.push(name)?;
         terms.push(next)?;
+        widen(alloc, &mut scope, &name, in_turn)?;
+        names.push(name)?;
     }
     Ok(Bindings { names, terms })
 }

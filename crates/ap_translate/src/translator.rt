@@ -30,6 +30,16 @@ fn bound_by(alloc: Global, bound: Option<&Seq<Symbol>>) -> Result<Bound, NoMemor
     }
 }
 
+/// The same, of the bound variables as the table has them.
+fn translate_in(alloc: Global, w: &World, f: &Form, bound: &Bound) -> Result<Term, TransError>
+    ensures { Gives result (translated w.now.entries bound.now.names f.now) }
+{
+    match term(alloc, w, MOST_NESTED, bound, f)? {
+        Some(term) => Ok(term),
+        None => Err(refused_at(f.place, TransKind::TermTooLarge)),
+    }
+}
+
 /// The term that a form is in a world, where these variables are bound, or with `None` each variable may
 /// stand. Else the first form in preorder that is none, with its place and why; `TermTooLarge` comes last,
 /// with the place of the whole form. `NoMemory` where memory is wanting.
@@ -45,8 +55,5 @@ pub fn translate(
     ensures small { IfOk result (λ u. term_size u ≤ 4096) }
 {
     let bound = bound_by(alloc, bound)?;
-    match term(alloc, w, MOST_NESTED, &bound, f)? {
-        Some(term) => Ok(term),
-        None => Err(refused_at(f.place, TransKind::TermTooLarge)),
-    }
+    translate_in(alloc, w, f, &bound)
 }

@@ -16,7 +16,7 @@ use Rattle.ap_translate.specs.Table.{with_bound, scope_of, variable, bindings, a
 use Rattle.ap_translate.proofs.Bindings.{small_next, bound_next, term_fails, wider_scope, named_length, small_length, lambda_made, let_made}
 use Rattle.ap_translate.proofs.Clauses.{arm_next, arm_fails, last_next, last_is}
 use Rattle.ap_translate.proofs.Constants.{at_form}
-use Rattle.ap_translate.proofs.Fails.{gives_err, bad_fails, same_fails, then_fails, capped_fails, fails_capped}
+use Rattle.ap_translate.proofs.Fails.{gives_err, gives_same, bad_fails, same_fails, then_fails, capped_fails, fails_capped}
 use Rattle.ap_translate.proofs.Kept.{next}
 use Rattle.ap_translate.proofs.Layers.{term_list, term_quoted, term_quasi, part_list, part_quoted, part_comma, piece_splice, term_list_none, term_quoted_none, term_quasi_none, part_list_none, part_quoted_none, part_comma_none, piece_splice_none}
 use Rattle.ap_translate.proofs.Makings.{plan_built, enough, list_pieced, one_pieced, piece_kept}
@@ -64,40 +64,8 @@ term-returns-in_err-asked-in-List t c =
     (same_fails c.in_err-asked-in-List.field-0.0 _ _ (ap (capped small) (term_list c.args.world.now.entries c.args.left c.args.bound.now.names c.args.form.now c.in_ok-left-in-List.left c.in_ok-left-in-List.ensures _ (ap out-Body c.in-List.is ∙ outs-List _ ∙ ap Body-F.List (sym c.as_slice.ensures))))
     (capped_fails small c.in_err-asked-in-List.field-0.0 _ (then_fails c.in_err-asked-in-List.field-0.0 _ (plan_term (level c.args.world.now.entries c.in_ok-left-in-List.left) c.args.bound.now.names c.args.form.now.place) c.in_err-asked-in-List.ensures)))
 
-pub term-returns-in_err-found-in-List : goal.term-returns-in_err-found-in-List
-term-returns-in_err-found-in-List t c =
-    gives_err c.from_residual-in_err-found-in-List.result c.in_err-found-in-List.field-0.0 _ c.from_residual-in_err-found-in-List.ensures.1
-    (same_fails c.in_err-found-in-List.field-0.0 _ _ (ap (capped small) (term_list c.args.world.now.entries c.args.left c.args.bound.now.names c.args.form.now c.in_ok-left-in-List.left c.in_ok-left-in-List.ensures _ (ap out-Body c.in-List.is ∙ outs-List _ ∙ ap Body-F.List (sym c.as_slice.ensures)) ∙ ap (λ r. r >>= plan_term (level c.args.world.now.entries c.in_ok-left-in-List.left) c.args.bound.now.names c.args.form.now.place) c.in_ok-asked-in-List.ensures)) c.in_err-found-in-List.ensures)
-
-pub term-returns-in_ok-found-in-List : goal.term-returns-in_ok-found-in-List
-term-returns-in_ok-found-in-List t c = ap (capped small) (term_list c.args.world.now.entries c.args.left c.args.bound.now.names c.args.form.now c.in_ok-left-in-List.left c.in_ok-left-in-List.ensures _ (ap out-Body c.in-List.is ∙ outs-List _ ∙ ap Body-F.List (sym c.as_slice.ensures)) ∙ ap (λ r. r >>= plan_term (level c.args.world.now.entries c.in_ok-left-in-List.left) c.args.bound.now.names c.args.form.now.place) c.in_ok-asked-in-List.ensures) ∙ c.in_ok-found-in-List.ensures
-
 pub term-plan_term-requires : goal.term-plan_term-requires
 term-plan_term-requires t c = (search rules, admitted c.args.world.now.entries (planned c.in_ok-asked-in-List.asked) (sensible c.args.world.now.entries (planned c.in_ok-asked-in-List.asked) c.args.form.now.place _ c.in_ok-asked-in-List.ensures))
-
-pub term-returns-in_err-found-in-Quasi : goal.term-returns-in_err-found-in-Quasi
-term-returns-in_err-found-in-Quasi t c =
-    gives_err c.from_residual-in_err-found-in-Quasi.result c.in_err-found-in-Quasi.field-0.0 _ c.from_residual-in_err-found-in-Quasi.ensures.1
-    (same_fails c.in_err-found-in-Quasi.field-0.0 _ _ (ap (capped small) (term_quasi c.args.world.now.entries c.args.left c.args.bound.now.names c.args.form.now c.in_ok-left-in-Quasi.left c.in_ok-left-in-Quasi.ensures _ (ap out-Body c.in-Quasi.is ∙ outs-Quasi _ ∙ ap Body-F.Quasi (sym c.get-in-Quasi.ensures)))) c.in_err-found-in-Quasi.ensures)
-
-pub term-returns-in_ok-found-in-Quasi : goal.term-returns-in_ok-found-in-Quasi
-term-returns-in_ok-found-in-Quasi t c = ap (capped small) (term_quasi c.args.world.now.entries c.args.left c.args.bound.now.names c.args.form.now c.in_ok-left-in-Quasi.left c.in_ok-left-in-Quasi.ensures _ (ap out-Body c.in-Quasi.is ∙ outs-Quasi _ ∙ ap Body-F.Quasi (sym c.get-in-Quasi.ensures))) ∙ c.in_ok-found-in-Quasi.ensures
-
-pub part-returns-in_err-found-in-Comma : goal.part-returns-in_err-found-in-Comma
-part-returns-in_err-found-in-Comma t c =
-    gives_err c.from_residual-in_err-found-in-Comma.result c.in_err-found-in-Comma.field-0.0 _ c.from_residual-in_err-found-in-Comma.ensures.1
-    (same_fails c.in_err-found-in-Comma.field-0.0 _ _ (ap (capped small) (part_comma c.args.world.now.entries c.args.left c.args.bound.now.names c.args.form.now c.in_ok-left-in-Comma.left c.in_ok-left-in-Comma.ensures _ (ap out-Body c.in-Comma.is ∙ outs-Comma _ ∙ ap Body-F.Comma (sym c.get-in-Comma.ensures)))) c.in_err-found-in-Comma.ensures)
-
-pub part-returns-in_ok-found-in-Comma : goal.part-returns-in_ok-found-in-Comma
-part-returns-in_ok-found-in-Comma t c = ap (capped small) (part_comma c.args.world.now.entries c.args.left c.args.bound.now.names c.args.form.now c.in_ok-left-in-Comma.left c.in_ok-left-in-Comma.ensures _ (ap out-Body c.in-Comma.is ∙ outs-Comma _ ∙ ap Body-F.Comma (sym c.get-in-Comma.ensures))) ∙ c.in_ok-found-in-Comma.ensures
-
-pub term-returns-in_err-found-in-Quoted : goal.term-returns-in_err-found-in-Quoted
-term-returns-in_err-found-in-Quoted t c =
-    gives_err c.from_residual-in_err-found-in-Quoted.result c.in_err-found-in-Quoted.field-0.0 _ c.from_residual-in_err-found-in-Quoted.ensures.1
-    (same_fails c.in_err-found-in-Quoted.field-0.0 _ _ (ap (capped small) (term_quoted c.args.world.now.entries c.args.left c.args.bound.now.names c.args.form.now c.in_ok-left-in-Quoted.left c.in_ok-left-in-Quoted.ensures _ (ap out-Body c.in-Quoted.is ∙ outs-Quoted _ ∙ ap Body-F.Quoted (sym c.get.ensures)))) c.in_err-found-in-Quoted.ensures)
-
-pub term-returns-in_ok-found-in-Quoted : goal.term-returns-in_ok-found-in-Quoted
-term-returns-in_ok-found-in-Quoted t c = ap (capped small) (term_quoted c.args.world.now.entries c.args.left c.args.bound.now.names c.args.form.now c.in_ok-left-in-Quoted.left c.in_ok-left-in-Quoted.ensures _ (ap out-Body c.in-Quoted.is ∙ outs-Quoted _ ∙ ap Body-F.Quoted (sym c.get.ensures))) ∙ c.in_ok-found-in-Quoted.ensures
 
 pub part-returns-in_err-pieces-in-List : goal.part-returns-in_err-pieces-in-List
 part-returns-in_err-pieces-in-List t c =
@@ -173,11 +141,11 @@ bindings-loop-form-preserved t c =
     let v = c.in_ok-name-2.name in
     record {
       told = bound_next r c.args.place forms i f xs c.loop-form.terms (kept_bindings (bindings r c.args.place [] forms)) (at_form forms i f c.loop-form-test.true c.form-item.is) c.loop-form.invariant.told
-          x v c.in_ok-next.next c.push.new.self c.push-in-loop-form.new.self (sym c.in-Some.ensures)
+          x v c.in_ok-next.next c.push-in-loop-form.new.self c.push.new.self (sym c.in-Some.ensures)
           (ap (variable x.place xs) (sym c.in_ok-name.ensures) ∙ ap (λ ys. variable x.place ys c.in_ok-name.name) (sym c.as_slice.ensures) ∙ c.in_ok-name-2.ensures)
-          (ap (λ s. capped small (term_in c.args.world.now.entries c.args.left s x.value)) (sym c.loop-form.invariant.scope) ∙ c.in_ok-next.ensures) c.in_ok-push.ensures.ok c.in_ok-push-2.ensures.ok;
-      scope = c.in_ok-scope-2.ensures ∙ ap (λ s. scope_of c.args.in_turn s (v ∷ [])) c.loop-form.invariant.scope ∙ wider_scope c.args.in_turn c.args.bound.now.names xs v
-          ∙ ap (scope_of c.args.in_turn c.args.bound.now.names) (sym c.in_ok-push.ensures.ok);
+          (ap (λ s. capped small (term_in c.args.world.now.entries c.args.left s x.value)) (sym c.loop-form.invariant.scope) ∙ c.in_ok-next.ensures) c.in_ok-push-2.ensures.ok c.in_ok-push.ensures.ok;
+      scope = c.in_ok-widen.ensures ∙ ap (λ s. scope_of c.args.in_turn s (v ∷ [])) c.loop-form.invariant.scope ∙ wider_scope c.args.in_turn c.args.bound.now.names xs v
+          ∙ ap (scope_of c.args.in_turn c.args.bound.now.names) (sym c.in_ok-push-2.ensures.ok);
     }
 
 pub bindings-returns-in_err-next : goal.bindings-returns-in_err-next
@@ -242,3 +210,51 @@ arms-returns-in-Some-last_in t c =
     (capped small (arms_term (term_in c.args.world.now.entries c.args.left c.args.bound.now.names) c.args.place c.args.forms.now)) (at_form c.args.forms.now c.loop-form.form-index c.form-item.result c.loop-form-test.true c.form-item.is) c.loop-form.invariant.told
     c.in-Some-last_in.value.now c.in_ok-last-in-Some-last_in.last c.in_ok-found-in-Some-last_in.found (sym c.in-Some.ensures ∙ ap Some (last_is (arm_seen c.in-Some.clause) c.in-Some-last_in.value.now c.in-Some-last_in.ensures))
     c.in_ok-last-in-Some-last_in.ensures c.in_ok-found-in-Some-last_in.ensures
+
+pub term-returns-in_ok-asked-in-List : goal.term-returns-in_ok-asked-in-List
+term-returns-in_ok-asked-in-List t c =
+    gives_same c.plan_term.result _ _
+    (ap (capped small) (term_list c.args.world.now.entries c.args.left c.args.bound.now.names c.args.form.now c.in_ok-left-in-List.left c.in_ok-left-in-List.ensures _ (ap out-Body c.in-List.is ∙ outs-List _ ∙ ap Body-F.List (sym c.as_slice.ensures)) ∙ ap (λ r. r >>= plan_term (level c.args.world.now.entries c.in_ok-left-in-List.left) c.args.bound.now.names c.args.form.now.place) c.in_ok-asked-in-List.ensures))
+    c.plan_term.ensures
+
+pub term-returns-in_ok-left-in-Quoted : goal.term-returns-in_ok-left-in-Quoted
+term-returns-in_ok-left-in-Quoted t c =
+    gives_same c.quoted.result _ _
+    (ap (capped small) (term_quoted c.args.world.now.entries c.args.left c.args.bound.now.names c.args.form.now c.in_ok-left-in-Quoted.left c.in_ok-left-in-Quoted.ensures _ (ap out-Body c.in-Quoted.is ∙ outs-Quoted _ ∙ ap Body-F.Quoted (sym c.get.ensures))))
+    c.quoted.ensures
+
+pub term-returns-in_ok-left-in-Quasi : goal.term-returns-in_ok-left-in-Quasi
+term-returns-in_ok-left-in-Quasi t c =
+    gives_same c.part.result _ _
+    (ap (capped small) (term_quasi c.args.world.now.entries c.args.left c.args.bound.now.names c.args.form.now c.in_ok-left-in-Quasi.left c.in_ok-left-in-Quasi.ensures _ (ap out-Body c.in-Quasi.is ∙ outs-Quasi _ ∙ ap Body-F.Quasi (sym c.get-in-Quasi.ensures))))
+    c.part.ensures
+
+pub part-returns-in_ok-left-in-Comma : goal.part-returns-in_ok-left-in-Comma
+part-returns-in_ok-left-in-Comma t c =
+    gives_same c.term.result _ _
+    (ap (capped small) (part_comma c.args.world.now.entries c.args.left c.args.bound.now.names c.args.form.now c.in_ok-left-in-Comma.left c.in_ok-left-in-Comma.ensures _ (ap out-Body c.in-Comma.is ∙ outs-Comma _ ∙ ap Body-F.Comma (sym c.get-in-Comma.ensures))))
+    c.term.ensures
+
+pub plan_term-returns-in-Quotation : goal.plan_term-returns-in-Quotation
+plan_term-returns-in-Quotation t c =
+    gives_same c.quoted.result _ _
+    (ap (λ x. capped small (plan_term (level c.args.world.now.entries c.args.left) c.args.bound.now.names c.args.place (planned x))) c.in-Quotation.is)
+    c.quoted.ensures
+
+pub plan_term-returns-in-Arms : goal.plan_term-returns-in-Arms
+plan_term-returns-in-Arms t c =
+    gives_same c.arms.result _ _
+    (ap (λ x. capped small (plan_term (level c.args.world.now.entries c.args.left) c.args.bound.now.names c.args.place (planned x))) c.in-Arms.is)
+    c.arms.ensures
+
+pub plan_term-returns-in-Let : goal.plan_term-returns-in-Let
+plan_term-returns-in-Let t c =
+    gives_same c.let_term.result _ _
+    (ap (λ x. capped small (plan_term (level c.args.world.now.entries c.args.left) c.args.bound.now.names c.args.place (planned x))) c.in-Let.is)
+    c.let_term.ensures
+
+pub plan_term-returns-in-Lambda : goal.plan_term-returns-in-Lambda
+plan_term-returns-in-Lambda t c =
+    gives_same c.lambda.result _ _
+    (ap (λ x. capped small (plan_term (level c.args.world.now.entries c.args.left) c.args.bound.now.names c.args.place (planned x))) c.in-Lambda.is)
+    c.lambda.ensures
