@@ -20,6 +20,12 @@ pub not_both : (b : Bool) → b ≡ false → b ≡ true → ⊥
 not_both true f t = cc
 not_both false f t = cc
 
+-- what has two children or more is a split
+pub split_only : {T : Type 0} (o : Out T) → 2 ≤ length (out_children o) → ((cs : List T) → o ≡ Out.Split cs → ⊥) → ⊥
+split_only (Out.Split cs) two other = other cs refl
+split_only Out.Push two other = let z : 2 ≤ 0 = two in omega arith
+split_only (Out.Stop r) two other = let z : 2 ≤ 0 = two in omega arith
+
 split_kept : (p : Process) (n : ℕ) → p ≢ Process.Push → p ≢ Process.Stop → split_count p n ≡ n
 split_kept Process.Push n d e = absurd (d refl)
 split_kept Process.Stop n d e = absurd (e refl)

@@ -11,7 +11,7 @@ use Rattle.ap_table.specs.declared.stored.Entry.TheVariants as entry
 use Rattle.ap_table.specs.declared.stored.Stored.{Stored}
 use Rattle.ap_table.proofs.Showing.{get_at, some_same, below_length, length_fresh, show_length, job_shown, job_kept, room_kept, room_shown}
 use Rattle.ap_table.proofs.Moving.{expanded_table, larger_table}
-use Rattle.ap_table.proofs.Splitting.{own_is}
+use Rattle.ap_table.proofs.Splitting.{own_is, split_only}
 use Rattle.ap_table.proofs.nodes.Nodes.expand_step.Goals as goal
 
 pub returns-then-not-same_rule : goal.returns-then-not-same_rule
@@ -154,3 +154,17 @@ invariant_of-self g c =
     let r : Run g.row.S-Task.Denot = record { root = i.root; rule = i.rule; history = i.history.items } in
     let err = c.in_default-grow.ensures in
     rw (err.history, err.live, err.kept.0) (larger_table g.S.Step.step_of g.S.Step.depth r i.nodes.items (reverse i.live.items) (vec_capacity i.history) (vec_capacity c.grow.new.history) c.self.invariant err.kept.1)
+
+pub returns-in_default : goal.returns-in_default
+returns-in_default g c = (refl, refl, refl, λ j can. split_only c.args.stepped.out c.requires.many c.in_default.not-Split)
+
+pub returns-in_default-fresh_nodes : goal.returns-in_default-fresh_nodes
+returns-in_default-fresh_nodes g c = (refl, refl, refl)
+
+pub returns-in_default-grow : goal.returns-in_default-grow
+returns-in_default-grow g c =
+    let i = c.self.inside in (
+      ap (λ (h : _). let x : Run g.row.S-Task.Denot = record { root = i.root; rule = i.rule; history = h } in x) c.in_default-grow.ensures.history ∙ c.self.view_is,
+      refl,
+      refl,
+    )

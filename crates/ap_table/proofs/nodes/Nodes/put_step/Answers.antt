@@ -58,13 +58,6 @@ can_expand-requires-clause-walk g c =
     let i = c.self.inside in
     let step = g.S.Step.step_of in
     let depth = g.S.Step.depth in
-    let tells = g.met.S.Step.tells in
-    let deeper = g.met.S.Step.deeper in
-    let r : Run g.row.S-Task.Denot = record { root = i.root; rule = i.rule; history = i.history.items } in
-    let cs = i.nodes.items in
-    let live = reverse i.live.items in
-    let cap = vec_capacity i.history in
-    let k = c.args.job.node in
     let j = c.is_job.ensures.0 c.if-not-is_job.false in
     let rule = c.same_rule.ensures.0 c.if-not-same_rule.false in
     let whole : c.args.walked ≡ full step depth i.rule j.0.task = c.requires ∙ (ap (λ (x : Rule). full step depth x c.args.job.task) (sym rule) ∙ ap (full step depth i.rule) j.3) in
@@ -75,33 +68,17 @@ returns-then-can_expand g c =
     let i = c.self.inside in
     let step = g.S.Step.step_of in
     let depth = g.S.Step.depth in
-    let tells = g.met.S.Step.tells in
-    let deeper = g.met.S.Step.deeper in
     let r : Run g.row.S-Task.Denot = record { root = i.root; rule = i.rule; history = i.history.items } in
     let cs = i.nodes.items in
-    let live = reverse i.live.items in
-    let cap = vec_capacity i.history in
     let k = c.args.job.node in
-    let j = c.is_job.ensures.0 c.if-not-is_job.false in
-    let rule = c.same_rule.ensures.0 c.if-not-same_rule.false in
-    let whole : c.args.walked ≡ full step depth i.rule j.0.task = c.requires ∙ (ap (λ (x : Rule). full step depth x c.args.job.task) (sym rule) ∙ ap (full step depth i.rule) j.3) in
     (refl, refl, λ y. subst (λ (x : Run g.row.S-Task.Denot). CanStill step depth x k) c.self.view_is (still_shown step depth r cs k c.self.invariant.shows (c.can_expand.ensures.0 c.if-can_expand.true)))
 
 pub set_stage-requires : goal.set_stage-requires
 set_stage-requires g c =
     let i = c.self.inside in
-    let step = g.S.Step.step_of in
-    let depth = g.S.Step.depth in
-    let tells = g.met.S.Step.tells in
-    let deeper = g.met.S.Step.deeper in
-    let r : Run g.row.S-Task.Denot = record { root = i.root; rule = i.rule; history = i.history.items } in
     let cs = i.nodes.items in
-    let live = reverse i.live.items in
-    let cap = vec_capacity i.history in
     let k = c.args.job.node in
     let j = c.is_job.ensures.0 c.if-not-is_job.false in
-    let rule = c.same_rule.ensures.0 c.if-not-same_rule.false in
-    let whole : c.args.walked ≡ full step depth i.rule j.0.task = c.requires ∙ (ap (λ (x : Rule). full step depth x c.args.job.task) (sym rule) ∙ ap (full step depth i.rule) j.3) in
     below_length cs k j.0 j.1
 
 pub settle-requires-clause-ready : goal.settle-requires-clause-ready
@@ -202,7 +179,6 @@ mark_one-requires-clause-there g c =
     let s = c.through_tally-sum.result in
     let ds = c.settle.new.nodes.items in
     let still : 2 ≤ length (out_children (step j.0.task).out) → length j.0.path < 3 → length cs + length (out_children (step j.0.task).out) ≤ 1000000 → ⊥ = λ many deep few. not_both c.can_expand.result c.if-can_expand.false (c.can_expand.ensures.1 (j.0, j.1, many, deep, few)) in
-    let le = three_levels step depth tells deeper r cs live cap k j.0 c.args.walked c.self.invariant j.1 j.2 whole old ds s c.set_stage.ensures c.through_tally-sum.ensures in
     let P = j.0.path in
     let r1 = longer r (entry.Put k) in
     let gone = replace live k [] in
@@ -228,7 +204,6 @@ mark_one-requires-clause-family g c =
     let s = c.through_tally-sum.result in
     let ds = c.settle.new.nodes.items in
     let still : 2 ≤ length (out_children (step j.0.task).out) → length j.0.path < 3 → length cs + length (out_children (step j.0.task).out) ≤ 1000000 → ⊥ = λ many deep few. not_both c.can_expand.result c.if-can_expand.false (c.can_expand.ensures.1 (j.0, j.1, many, deep, few)) in
-    let le = three_levels step depth tells deeper r cs live cap k j.0 c.args.walked c.self.invariant j.1 j.2 whole old ds s c.set_stage.ensures c.through_tally-sum.ensures in
     let P = j.0.path in
     let r1 = longer r (entry.Put k) in
     let gone = replace live k [] in
@@ -254,7 +229,6 @@ mark_one-requires-clause-small g c =
     let s = c.through_tally-sum.result in
     let ds = c.settle.new.nodes.items in
     let still : 2 ≤ length (out_children (step j.0.task).out) → length j.0.path < 3 → length cs + length (out_children (step j.0.task).out) ≤ 1000000 → ⊥ = λ many deep few. not_both c.can_expand.result c.if-can_expand.false (c.can_expand.ensures.1 (j.0, j.1, many, deep, few)) in
-    let le = three_levels step depth tells deeper r cs live cap k j.0 c.args.walked c.self.invariant j.1 j.2 whole old ds s c.set_stage.ensures c.through_tally-sum.ensures in
     let P = j.0.path in
     let r1 = longer r (entry.Put k) in
     let gone = replace live k [] in
@@ -309,7 +283,6 @@ mark_one-requires-2-clause-there g c =
     let s = c.through_tally-sum.result in
     let ds = c.settle.new.nodes.items in
     let still : 2 ≤ length (out_children (step j.0.task).out) → length j.0.path < 3 → length cs + length (out_children (step j.0.task).out) ≤ 1000000 → ⊥ = λ many deep few. not_both c.can_expand.result c.if-can_expand.false (c.can_expand.ensures.1 (j.0, j.1, many, deep, few)) in
-    let le = three_levels step depth tells deeper r cs live cap k j.0 c.args.walked c.self.invariant j.1 j.2 whole old ds s c.set_stage.ensures c.through_tally-sum.ensures in
     let P = j.0.path in
     let r1 = longer r (entry.Put k) in
     let gone = replace live k [] in
@@ -317,7 +290,6 @@ mark_one-requires-2-clause-there g c =
     let c1 = c.mark_one.new.nodes.items in
     let e0 = mark_list ds (slice_get P 0) in
     let n0 : c1 ≡ mark_nodes ds (slice_get P 0) = c.mark_one.ensures.nodes m0.node m0.at ∙ ap (λ (p : List Link). mark_nodes ds (slice_get p 0)) m0.path in
-    let h0 : c.mark_one.new.history.items ≡ (i.history.items ++ entry.Put k ∷ []) ++ e0 = c.mark_one.ensures.history m0.node m0.at ∙ (ap (λ (p : List Link). c.push_reserved.new.self.items ++ mark_list ds (slice_get p 0)) m0.path ∙ ap (λ (h : List Entry). h ++ e0) c.push_reserved.ensures.items) in
     let r2 : Run g.row.S-Task.Denot = record r1 { history = r1.history ++ e0 } in
     let m1 = marking_next step depth P 0 2 k r1 ds gone cap m0 tells deeper 1 refl c1 e0 n0 refl in
     marking_there step depth P 1 1 k r2 c1 gone cap m1
@@ -341,7 +313,6 @@ mark_one-requires-2-clause-family g c =
     let s = c.through_tally-sum.result in
     let ds = c.settle.new.nodes.items in
     let still : 2 ≤ length (out_children (step j.0.task).out) → length j.0.path < 3 → length cs + length (out_children (step j.0.task).out) ≤ 1000000 → ⊥ = λ many deep few. not_both c.can_expand.result c.if-can_expand.false (c.can_expand.ensures.1 (j.0, j.1, many, deep, few)) in
-    let le = three_levels step depth tells deeper r cs live cap k j.0 c.args.walked c.self.invariant j.1 j.2 whole old ds s c.set_stage.ensures c.through_tally-sum.ensures in
     let P = j.0.path in
     let r1 = longer r (entry.Put k) in
     let gone = replace live k [] in
@@ -349,7 +320,6 @@ mark_one-requires-2-clause-family g c =
     let c1 = c.mark_one.new.nodes.items in
     let e0 = mark_list ds (slice_get P 0) in
     let n0 : c1 ≡ mark_nodes ds (slice_get P 0) = c.mark_one.ensures.nodes m0.node m0.at ∙ ap (λ (p : List Link). mark_nodes ds (slice_get p 0)) m0.path in
-    let h0 : c.mark_one.new.history.items ≡ (i.history.items ++ entry.Put k ∷ []) ++ e0 = c.mark_one.ensures.history m0.node m0.at ∙ (ap (λ (p : List Link). c.push_reserved.new.self.items ++ mark_list ds (slice_get p 0)) m0.path ∙ ap (λ (h : List Entry). h ++ e0) c.push_reserved.ensures.items) in
     let r2 : Run g.row.S-Task.Denot = record r1 { history = r1.history ++ e0 } in
     let m1 = marking_next step depth P 0 2 k r1 ds gone cap m0 tells deeper 1 refl c1 e0 n0 refl in
     marking_family step depth P 1 1 k r2 c1 gone cap m1
@@ -373,7 +343,6 @@ mark_one-requires-2-clause-small g c =
     let s = c.through_tally-sum.result in
     let ds = c.settle.new.nodes.items in
     let still : 2 ≤ length (out_children (step j.0.task).out) → length j.0.path < 3 → length cs + length (out_children (step j.0.task).out) ≤ 1000000 → ⊥ = λ many deep few. not_both c.can_expand.result c.if-can_expand.false (c.can_expand.ensures.1 (j.0, j.1, many, deep, few)) in
-    let le = three_levels step depth tells deeper r cs live cap k j.0 c.args.walked c.self.invariant j.1 j.2 whole old ds s c.set_stage.ensures c.through_tally-sum.ensures in
     let P = j.0.path in
     let r1 = longer r (entry.Put k) in
     let gone = replace live k [] in
@@ -381,7 +350,6 @@ mark_one-requires-2-clause-small g c =
     let c1 = c.mark_one.new.nodes.items in
     let e0 = mark_list ds (slice_get P 0) in
     let n0 : c1 ≡ mark_nodes ds (slice_get P 0) = c.mark_one.ensures.nodes m0.node m0.at ∙ ap (λ (p : List Link). mark_nodes ds (slice_get p 0)) m0.path in
-    let h0 : c.mark_one.new.history.items ≡ (i.history.items ++ entry.Put k ∷ []) ++ e0 = c.mark_one.ensures.history m0.node m0.at ∙ (ap (λ (p : List Link). c.push_reserved.new.self.items ++ mark_list ds (slice_get p 0)) m0.path ∙ ap (λ (h : List Entry). h ++ e0) c.push_reserved.ensures.items) in
     let r2 : Run g.row.S-Task.Denot = record r1 { history = r1.history ++ e0 } in
     let m1 = marking_next step depth P 0 2 k r1 ds gone cap m0 tells deeper 1 refl c1 e0 n0 refl in
     marking_small step depth P 1 1 k r2 c1 gone cap m1
@@ -441,7 +409,6 @@ mark_one-requires-3-clause-there g c =
     let s = c.through_tally-sum.result in
     let ds = c.settle.new.nodes.items in
     let still : 2 ≤ length (out_children (step j.0.task).out) → length j.0.path < 3 → length cs + length (out_children (step j.0.task).out) ≤ 1000000 → ⊥ = λ many deep few. not_both c.can_expand.result c.if-can_expand.false (c.can_expand.ensures.1 (j.0, j.1, many, deep, few)) in
-    let le = three_levels step depth tells deeper r cs live cap k j.0 c.args.walked c.self.invariant j.1 j.2 whole old ds s c.set_stage.ensures c.through_tally-sum.ensures in
     let P = j.0.path in
     let r1 = longer r (entry.Put k) in
     let gone = replace live k [] in
@@ -449,13 +416,11 @@ mark_one-requires-3-clause-there g c =
     let c1 = c.mark_one.new.nodes.items in
     let e0 = mark_list ds (slice_get P 0) in
     let n0 : c1 ≡ mark_nodes ds (slice_get P 0) = c.mark_one.ensures.nodes m0.node m0.at ∙ ap (λ (p : List Link). mark_nodes ds (slice_get p 0)) m0.path in
-    let h0 : c.mark_one.new.history.items ≡ (i.history.items ++ entry.Put k ∷ []) ++ e0 = c.mark_one.ensures.history m0.node m0.at ∙ (ap (λ (p : List Link). c.push_reserved.new.self.items ++ mark_list ds (slice_get p 0)) m0.path ∙ ap (λ (h : List Entry). h ++ e0) c.push_reserved.ensures.items) in
     let r2 : Run g.row.S-Task.Denot = record r1 { history = r1.history ++ e0 } in
     let m1 = marking_next step depth P 0 2 k r1 ds gone cap m0 tells deeper 1 refl c1 e0 n0 refl in
     let c2 = c.mark_one-2.new.nodes.items in
     let e1 = mark_list c1 (slice_get P 1) in
     let n1 : c2 ≡ mark_nodes c1 (slice_get P 1) = c.mark_one-2.ensures.nodes m1.node m1.at ∙ ap (λ (p : List Link). mark_nodes c1 (slice_get p 1)) m1.path in
-    let h1 : c.mark_one-2.new.history.items ≡ ((i.history.items ++ entry.Put k ∷ []) ++ e0) ++ e1 = c.mark_one-2.ensures.history m1.node m1.at ∙ (ap (λ (p : List Link). c.mark_one.new.history.items ++ mark_list c1 (slice_get p 1)) m1.path ∙ ap (λ (h : List Entry). h ++ e1) h0) in
     let r3 : Run g.row.S-Task.Denot = record r2 { history = r2.history ++ e1 } in
     let m2 = marking_next step depth P 1 1 k r2 c1 gone cap m1 tells deeper 2 refl c2 e1 n1 refl in
     marking_there step depth P 2 0 k r3 c2 gone cap m2
@@ -479,7 +444,6 @@ mark_one-requires-3-clause-family g c =
     let s = c.through_tally-sum.result in
     let ds = c.settle.new.nodes.items in
     let still : 2 ≤ length (out_children (step j.0.task).out) → length j.0.path < 3 → length cs + length (out_children (step j.0.task).out) ≤ 1000000 → ⊥ = λ many deep few. not_both c.can_expand.result c.if-can_expand.false (c.can_expand.ensures.1 (j.0, j.1, many, deep, few)) in
-    let le = three_levels step depth tells deeper r cs live cap k j.0 c.args.walked c.self.invariant j.1 j.2 whole old ds s c.set_stage.ensures c.through_tally-sum.ensures in
     let P = j.0.path in
     let r1 = longer r (entry.Put k) in
     let gone = replace live k [] in
@@ -487,13 +451,11 @@ mark_one-requires-3-clause-family g c =
     let c1 = c.mark_one.new.nodes.items in
     let e0 = mark_list ds (slice_get P 0) in
     let n0 : c1 ≡ mark_nodes ds (slice_get P 0) = c.mark_one.ensures.nodes m0.node m0.at ∙ ap (λ (p : List Link). mark_nodes ds (slice_get p 0)) m0.path in
-    let h0 : c.mark_one.new.history.items ≡ (i.history.items ++ entry.Put k ∷ []) ++ e0 = c.mark_one.ensures.history m0.node m0.at ∙ (ap (λ (p : List Link). c.push_reserved.new.self.items ++ mark_list ds (slice_get p 0)) m0.path ∙ ap (λ (h : List Entry). h ++ e0) c.push_reserved.ensures.items) in
     let r2 : Run g.row.S-Task.Denot = record r1 { history = r1.history ++ e0 } in
     let m1 = marking_next step depth P 0 2 k r1 ds gone cap m0 tells deeper 1 refl c1 e0 n0 refl in
     let c2 = c.mark_one-2.new.nodes.items in
     let e1 = mark_list c1 (slice_get P 1) in
     let n1 : c2 ≡ mark_nodes c1 (slice_get P 1) = c.mark_one-2.ensures.nodes m1.node m1.at ∙ ap (λ (p : List Link). mark_nodes c1 (slice_get p 1)) m1.path in
-    let h1 : c.mark_one-2.new.history.items ≡ ((i.history.items ++ entry.Put k ∷ []) ++ e0) ++ e1 = c.mark_one-2.ensures.history m1.node m1.at ∙ (ap (λ (p : List Link). c.mark_one.new.history.items ++ mark_list c1 (slice_get p 1)) m1.path ∙ ap (λ (h : List Entry). h ++ e1) h0) in
     let r3 : Run g.row.S-Task.Denot = record r2 { history = r2.history ++ e1 } in
     let m2 = marking_next step depth P 1 1 k r2 c1 gone cap m1 tells deeper 2 refl c2 e1 n1 refl in
     marking_family step depth P 2 0 k r3 c2 gone cap m2
@@ -517,7 +479,6 @@ mark_one-requires-3-clause-small g c =
     let s = c.through_tally-sum.result in
     let ds = c.settle.new.nodes.items in
     let still : 2 ≤ length (out_children (step j.0.task).out) → length j.0.path < 3 → length cs + length (out_children (step j.0.task).out) ≤ 1000000 → ⊥ = λ many deep few. not_both c.can_expand.result c.if-can_expand.false (c.can_expand.ensures.1 (j.0, j.1, many, deep, few)) in
-    let le = three_levels step depth tells deeper r cs live cap k j.0 c.args.walked c.self.invariant j.1 j.2 whole old ds s c.set_stage.ensures c.through_tally-sum.ensures in
     let P = j.0.path in
     let r1 = longer r (entry.Put k) in
     let gone = replace live k [] in
@@ -525,13 +486,11 @@ mark_one-requires-3-clause-small g c =
     let c1 = c.mark_one.new.nodes.items in
     let e0 = mark_list ds (slice_get P 0) in
     let n0 : c1 ≡ mark_nodes ds (slice_get P 0) = c.mark_one.ensures.nodes m0.node m0.at ∙ ap (λ (p : List Link). mark_nodes ds (slice_get p 0)) m0.path in
-    let h0 : c.mark_one.new.history.items ≡ (i.history.items ++ entry.Put k ∷ []) ++ e0 = c.mark_one.ensures.history m0.node m0.at ∙ (ap (λ (p : List Link). c.push_reserved.new.self.items ++ mark_list ds (slice_get p 0)) m0.path ∙ ap (λ (h : List Entry). h ++ e0) c.push_reserved.ensures.items) in
     let r2 : Run g.row.S-Task.Denot = record r1 { history = r1.history ++ e0 } in
     let m1 = marking_next step depth P 0 2 k r1 ds gone cap m0 tells deeper 1 refl c1 e0 n0 refl in
     let c2 = c.mark_one-2.new.nodes.items in
     let e1 = mark_list c1 (slice_get P 1) in
     let n1 : c2 ≡ mark_nodes c1 (slice_get P 1) = c.mark_one-2.ensures.nodes m1.node m1.at ∙ ap (λ (p : List Link). mark_nodes c1 (slice_get p 1)) m1.path in
-    let h1 : c.mark_one-2.new.history.items ≡ ((i.history.items ++ entry.Put k ∷ []) ++ e0) ++ e1 = c.mark_one-2.ensures.history m1.node m1.at ∙ (ap (λ (p : List Link). c.mark_one.new.history.items ++ mark_list c1 (slice_get p 1)) m1.path ∙ ap (λ (h : List Entry). h ++ e1) h0) in
     let r3 : Run g.row.S-Task.Denot = record r2 { history = r2.history ++ e1 } in
     let m2 = marking_next step depth P 1 1 k r2 c1 gone cap m1 tells deeper 2 refl c2 e1 n1 refl in
     marking_small step depth P 2 0 k r3 c2 gone cap m2
@@ -658,14 +617,9 @@ returns g c =
     let e1 = mark_list c1 (slice_get P 1) in
     let n1 : c2 ≡ mark_nodes c1 (slice_get P 1) = c.mark_one-2.ensures.nodes m1.node m1.at ∙ ap (λ (p : List Link). mark_nodes c1 (slice_get p 1)) m1.path in
     let h1 : c.mark_one-2.new.history.items ≡ ((i.history.items ++ entry.Put k ∷ []) ++ e0) ++ e1 = c.mark_one-2.ensures.history m1.node m1.at ∙ (ap (λ (p : List Link). c.mark_one.new.history.items ++ mark_list c1 (slice_get p 1)) m1.path ∙ ap (λ (h : List Entry). h ++ e1) h0) in
-    let r3 : Run g.row.S-Task.Denot = record r2 { history = r2.history ++ e1 } in
     let m2 = marking_next step depth P 1 1 k r2 c1 gone cap m1 tells deeper 2 refl c2 e1 n1 refl in
-    let c3 = c.mark_one-3.new.nodes.items in
     let e2 = mark_list c2 (slice_get P 2) in
-    let n2 : c3 ≡ mark_nodes c2 (slice_get P 2) = c.mark_one-3.ensures.nodes m2.node m2.at ∙ ap (λ (p : List Link). mark_nodes c2 (slice_get p 2)) m2.path in
     let h2 : c.mark_one-3.new.history.items ≡ (((i.history.items ++ entry.Put k ∷ []) ++ e0) ++ e1) ++ e2 = c.mark_one-3.ensures.history m2.node m2.at ∙ (ap (λ (p : List Link). c.mark_one-2.new.history.items ++ mark_list c2 (slice_get p 2)) m2.path ∙ ap (λ (h : List Entry). h ++ e2) h1) in
-    let r4 : Run g.row.S-Task.Denot = record r3 { history = r3.history ++ e2 } in
-    let m3 = marking_next step depth P 2 0 k r3 c2 gone cap m2 tells deeper 3 refl c3 e2 n2 refl in
     let marks = e0 ++ (e1 ++ e2) in
     let all : c.mark_one-3.new.history.items ≡ i.history.items ++ entry.Put k ∷ marks = h2 ∙ joined_history i.history.items e0 e1 e2 (entry.Put k) in
     let n = claimed_node step depth cs (nodes_of step depth r) k j.0 c.self.invariant.shows j.1 j.2 in (
