@@ -1,5 +1,6 @@
 pub mod Asking
 pub mod Books
+pub mod Counting
 pub mod Covered
 pub mod Depths
 pub mod Doing

@@ -1,6 +1,7 @@
 pub mod Again
 pub mod Backing
 pub mod Books
+pub mod Counting
 pub mod Ends
 pub mod Held
 pub mod Joining

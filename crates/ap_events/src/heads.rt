@@ -47,7 +47,7 @@ pub fn event<R: Threads + Wait + Sync, G: Gate + Sync>(
 
 /// Does an event in a world again, as [`work_again`] does: without hints, without proofs, and without what is local in
 /// it. A world in which it was done before has the functions and the constants of this one, and what is made, masks of
-/// functions aside.
+/// functions aside. Nothing is dropped.
 pub fn event_again(alloc: Global, w: World, f: &Form, from: &World) -> Result<EventEnd, NoMemory>
     requires functions { HasFunctions (function_of w.entries) }
     requires source { HasFunctions (function_of from.now.entries) }
@@ -56,6 +56,7 @@ pub fn event_again(alloc: Global, w: World, f: &Form, from: &World) -> Result<Ev
     ensures text { IfOk result (λ e. text_in e ≡ (worked_again [] w f.now).text) }
     ensures next { IfOk result (λ e. next_in e ≡ (worked_again [] w f.now).next) }
     ensures refused { IfOk result (λ e. Kept w e) }
+    ensures alone { IfOk result (λ e. drops_in e ≡ []) }
     ensures ground { IfOk result (λ e. HasFunctions (function_of (world_in e).entries)) }
 {
     from.is_sound();
@@ -65,13 +66,14 @@ pub fn event_again(alloc: Global, w: World, f: &Form, from: &World) -> Result<Ev
 }
 
 /// Includes a book's kept world by the book's name in a world: the event is refused where another entry stands there
-/// under a name of the book's, masks aside. See the manual's topic `include-book`.
+/// under a name of the book's, masks aside. Nothing is dropped. See the manual's topic `include-book`.
 pub fn include(alloc: Global, w: World, name: &[u8], kept: &World) -> Result<EventEnd, NoMemory>
     requires functions { HasFunctions (function_of w.entries) }
     requires source { HasFunctions (function_of kept.now.entries) }
     ensures text { IfOk result (λ e. text_in e ≡ (include_of w name.now kept.now).text) }
     ensures next { IfOk result (λ e. next_in e ≡ (include_of w name.now kept.now).next) }
     ensures refused { IfOk result (λ e. Kept w e) }
+    ensures alone { IfOk result (λ e. drops_in e ≡ []) }
     ensures ground { IfOk result (λ e. HasFunctions (function_of (world_in e).entries)) }
 {
     let mut ruled = Ruled::of(alloc, w)?;

@@ -1,5 +1,6 @@
 //! What nested events keep. Each law is the contract of a function that does nothing.
 ghost use Rattle.ap_events.specs.Again.{AgainIsCovered};
+ghost use Rattle.ap_events.specs.Counting.{PlainIsOne, SinglesAreHeld};
 ghost use Rattle.ap_events.specs.Laws.{WorkedKeepGood, AgainKeepsGood, WorkedGrows, WorkedTells};
 ghost use Rattle.ap_events.specs.Missing.{AgainMissesName};
 
@@ -21,6 +22,13 @@ pub fn again_misses_a_name()
 pub fn nested_events_are_sound()
     ensures first { WorkedKeepGood }
     ensures again { AgainKeepsGood }
+{}
+
+/// A form that is admitted holds, as it is written, as many single events as are admitted where it is done first. A form
+/// that holds no others is one.
+pub fn singles_are_held()
+    ensures held { SinglesAreHeld }
+    ensures plain { PlainIsOne }
 {}
 
 /// The world after a form has the entries of the one before, and perhaps more; and it is one of those that were passed

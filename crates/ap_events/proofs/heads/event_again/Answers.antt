@@ -1,10 +1,10 @@
 use Rattle.std.proofs.Common.{◌≡◌, [], cond, Some, None, ap, sym, ◌∙◌, subst}
 use Rattle.ap_world.specs.Sound.{HasFunctions}
 use Rattle.ap_world.specs.World.{Shown, function_of}
-use Rattle.ap_events.specs.Ends.{text_in, next_in, world_in, Kept}
+use Rattle.ap_events.specs.Ends.{text_in, next_in, drops_in, world_in, Kept}
 use Rattle.ap_events.specs.Books.{worked_again}
 use Rattle.ap_events.proofs.Doing.{IsBacked}
-use Rattle.ap_events.proofs.Ending.{end_text, end_next, end_world, end_kept}
+use Rattle.ap_events.proofs.Ending.{end_text, end_next, end_drops, end_world, end_kept}
 use Rattle.ap_events.proofs.heads.event_again.Goals as goal
 
 pub work_again-requires-clause-functions : goal.work_again-requires-clause-functions
@@ -34,6 +34,11 @@ returns-clause-refused c =
     let o = c.in_ok-outcome.outcome in
     subst (Kept c.args.w) (sym c.end_in.ensures)
     (end_kept o.admitted c.args.w c.into_world.result o.text o.drops (λ no. c.into_world.ensures ∙ c.in_ok-outcome.ensures.done.kept no ∙ c.in_ok-ruled.ensures))
+
+pub returns-clause-alone : goal.returns-clause-alone
+returns-clause-alone c =
+    let o = c.in_ok-outcome.outcome in
+    ap drops_in c.end_in.ensures ∙ end_drops o.admitted c.into_world.result o.text o.drops ∙ c.in_ok-outcome.ensures.alone
 
 pub returns-clause-ground : goal.returns-clause-ground
 returns-clause-ground c =
