@@ -81,8 +81,10 @@ fn show_events<R: Threads + Wait + Sync, A: Admitter, S: Sink>(
     Ok(!show_end(rt, alloc, admitter, sink)?)
 }
 
-/// Puts what is printed of a book that has no events.
-fn put_text<S: Sink>(text: &[u8], sink: &mut S) -> Result<bool, WriteFault>
+/// Puts what is printed of a book that has no events. Answers that such a book isn't certified.
+///
+/// `Failed` comes only where the sink failed and counted it; after an Err the sink gained a prefix of the text.
+pub fn put_text<S: Sink>(text: &[u8], sink: &mut S) -> Result<bool, WriteFault>
     ensures text { OnOk result (Gained (S.content sink.old) (S.content sink.new) text.now) }
     ensures certified { IfOk result (λ b. b ≡ false) }
     ensures part { OnErr result (GainedPart (S.content sink.old) (S.content sink.new) text.now) }

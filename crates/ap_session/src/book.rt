@@ -15,7 +15,7 @@ use crate::admitting::Admitting;
 use crate::certs::{cert_text, held_of};
 use crate::fault::{Fault, at_write};
 use ap_attempt::Gate;
-use ap_books::{BookSeen, Events, closing, events_in, opening};
+use ap_books::{BookSeen, Events, closing, events_in, opening, put_text};
 use ap_events::Held;
 use ap_list::Bytes;
 use ap_outside::{Library, Sink, WriteFault, put_all};
@@ -85,18 +85,6 @@ fn show_events<R: Threads + Wait + Sync, G: Gate + Sync, S: Sink>(
         }
     }
     Ok(!show_end(alloc, admitting, sink)?)
-}
-
-/// Puts what is printed of a book that has no events.
-fn put_text<S: Sink>(text: &[u8], sink: &mut S) -> Result<bool, WriteFault>
-    ensures text { OnOk result (Gained (S.content sink.old) (S.content sink.new) text.now) }
-    ensures certified { IfOk result (λ b. b ≡ false) }
-    ensures part { OnErr result (GainedPart (S.content sink.old) (S.content sink.new) text.now) }
-    ensures later { S.faults sink.old ≤ S.faults sink.new }
-    ensures failed { result ≡ Err WriteFault.Failed → Rose (S.faults sink.old) (S.faults sink.new) }
-{
-    put_all(sink, text)?;
-    Ok(false)
 }
 
 /// Puts the text between a book's first and last lines. Answers whether the book is certified.
