@@ -1,11 +1,15 @@
 pub mod Acting
+pub mod CommandLines
 pub mod Commanding
 pub mod Demoing
 pub mod Leading
+pub mod Naming
 pub mod Numbers
 pub mod Passing
 pub mod Seconds
 pub mod Sessions
+pub mod Settings
 pub mod Soundness
 pub mod Starting
 pub mod Storing
+pub mod Words

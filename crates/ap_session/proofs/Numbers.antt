@@ -4,7 +4,7 @@ use Rattle.std.proofs.lemmas.Bool.{leb-true}
 use Rattle.ap_session.specs.Command.{read_on}
 
 -- digits that are read on make a number no less
-grows : (n : ℕ) (bs : List ℕ) → n ≤ read_on n bs
+pub grows : (n : ℕ) (bs : List ℕ) → n ≤ read_on n bs
 grows n [] = omega arith
 grows n (b ∷ bs) = let more = grows (10 * n + (b - 48)) bs in omega arith
 

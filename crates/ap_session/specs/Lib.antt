@@ -2,6 +2,7 @@ pub mod Acts
 pub mod Admitting
 pub mod Certs
 pub mod Command
+pub mod CommandLines
 pub mod Demo
 pub mod Laws
 pub mod Session

@@ -1,5 +1,15 @@
 //! What is so of every session. Each law is the contract of a function that does nothing.
+ghost use Rattle.ap_session.specs.CommandLines.{LinesAreRead, LinesAreWrittenOneWay, LinesSayOneThing, OthersAreNone};
 ghost use Rattle.ap_session.specs.Laws.{KeepsDoneAgain};
+
+/// Words are a command exactly where they are a line of the grammar, which commands that and nothing else. A
+/// line is written in one way.
+pub fn command_lines_are_read_one_way()
+    ensures read { LinesAreRead }
+    ensures one { LinesSayOneThing }
+    ensures written { LinesAreWrittenOneWay }
+    ensures others { OthersAreNone }
+{}
 
 /// The world that a certified book keeps is the one behind its events when they are done again, one after another, from the
 /// world that each book begins with: so the pass that goes beside the first one is what a second pass of an `encapsulate`
