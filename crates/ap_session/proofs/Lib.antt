@@ -1,6 +1,7 @@
 pub mod Acting
 pub mod CommandLines
 pub mod Commanding
+pub mod Counting
 pub mod Demoing
 pub mod Leading
 pub mod Naming

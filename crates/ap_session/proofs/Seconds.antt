@@ -14,7 +14,7 @@ use Rattle.ap_session.specs.Session.{kept_by, kept_of}
 use Rattle.ap_session.specs.Laws.{done_again, KeepsDoneAgain}
 
 -- an event by the world behind it, and what follows it
-abbrev onward : Working → Form → List Form → Option Shown → Body Working Told
+abbrev pub onward : Working → Form → List Form → Option Shown → Body Working Told
 onward s f fs o = go_on (admits s f).text (admits s f).log (is_refused o) (after s f o) (worked admits ends fs)
 
 -- a second pass that refused an event refuses the book

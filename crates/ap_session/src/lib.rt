@@ -29,6 +29,8 @@ pub use ap_list::{Bytes, NoMemory, Seq};
 pub use ap_outside::{Library, Sink, WriteFault};
 pub use ap_world::World;
 pub use certifier::certify;
-pub use laws::{certified_books_are_done_again, command_lines_are_read_one_way};
+pub use laws::{
+    certified_books_are_done_again, command_lines_are_read_one_way, events_are_counted_once,
+};
 pub use report::{Report, Status};
 pub use telling::tell;
