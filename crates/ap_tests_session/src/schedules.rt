@@ -89,28 +89,40 @@ fn all_put<R: Abort + Threads + Wait + Sync>(
     Ok(())
 }
 
-/// Asserts what each row puts under a hundred schedules, from this one on.
+/// Asserts what each row puts under fifty schedules, from this one on.
 fn all_put_under<R: Abort + Threads + Wait + Sync>(
     rt: &R,
     alloc: Global,
     first: u64,
 ) -> Result<(), Fail> {
-    for more in 0..100 {
+    for more in 0..50 {
         all_put(rt, alloc, first.saturating_add(more))?;
     }
     Ok(())
 }
 
 #[test]
-fn four_workers_put_what_the_rows_say_under_schedules_0_to_99(rt: HostRuntime) -> Result<(), Fail> {
+fn four_workers_put_what_the_rows_say_under_schedules_from_0(rt: HostRuntime) -> Result<(), Fail> {
     all_put_under(&rt, rt.alloc(), 0)
 }
 
 #[test]
-fn four_workers_put_what_the_rows_say_under_schedules_100_to_199(
+fn four_workers_put_what_the_rows_say_under_schedules_from_50(rt: HostRuntime) -> Result<(), Fail> {
+    all_put_under(&rt, rt.alloc(), 50)
+}
+
+#[test]
+fn four_workers_put_what_the_rows_say_under_schedules_from_100(
     rt: HostRuntime,
 ) -> Result<(), Fail> {
     all_put_under(&rt, rt.alloc(), 100)
+}
+
+#[test]
+fn four_workers_put_what_the_rows_say_under_schedules_from_150(
+    rt: HostRuntime,
+) -> Result<(), Fail> {
+    all_put_under(&rt, rt.alloc(), 150)
 }
 
 /// Asserts what a row puts with so many workers, which pass a gate that holds `Subgoal 3` until `Subgoal 2` is done: one
