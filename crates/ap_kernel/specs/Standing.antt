@@ -13,7 +13,7 @@ use Rattle.ap_kernel.specs.declared.objects.Mode.TheVariants.{Equal, Iff}
 use Rattle.ap_kernel.specs.declared.objects.Sequent.{Sequent}
 use Rattle.ap_kernel.specs.declared.objects.Equiv.{Equiv}
 
--- the world has the functions of the ground world: for now `not`, as it is given
+-- the world has the one function of the ground world that rows speak of: `not`, as it is given
 abbrev pub HasGround : Defs → Type 0
 HasGround D = D not_name ≡ Some not_function
 

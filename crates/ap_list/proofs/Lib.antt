@@ -1,1 +1,2 @@
 pub mod Eachs
+pub mod Words

@@ -1,7 +1,6 @@
 -- The bytes of a text, wherever they lie.
-use Rattle.std.specs.Prelude.{List, ℕ, take, codes}
+use Rattle.std.specs.Prelude.{List, ℕ, codes}
 use Rattle.ap_list.specs.declared.text.Fixed.{Fixed}
-use Rattle.ap_list.specs.declared.text.Short.{Short}
 use Rattle.ap_list.specs.declared.text.Held.{Held}
 use Rattle.ap_list.specs.declared.text.Held.TheVariants as held
 
@@ -17,11 +16,7 @@ fixed_bytes Fixed.Implies = codes "IMPLIES"
 fixed_bytes Fixed.Natp = codes "NATP"
 fixed_bytes Fixed.Acl2Count = codes "ACL2-COUNT"
 
--- a text's own bytes, behind which its room is empty
-abbrev pub short_bytes : Short → List ℕ
-short_bytes s = take s.length s.bytes
-
 abbrev pub bytes_in : Held → List ℕ
 bytes_in (held.Fixed n) = fixed_bytes n
-bytes_in (held.Short s) = short_bytes s
+bytes_in (held.Short s) = s
 bytes_in (held.Shared b) = b

@@ -1,4 +1,5 @@
-ghost use Rattle.std.specs.Prelude.{◌≡◌, [], ◌↔◌, length, IsTrue, IfOk};
+ghost use Rattle.std.specs.Prelude.{◌≡◌, [], ◌↔◌, length, IsTrue, IfOk, ◌<◌, ◌≤◌, ℕ, slice_index};
+ghost use Rattle.ap_list.specs.Rooms.{word};
 
 use crate::seq::Seq;
 use crate::shared_seq::SharedSeq;
@@ -43,20 +44,34 @@ impl Fixed {
 /// The most bytes that a text holds in itself.
 const MOST_SHORT: usize = 15;
 
-/// Up to 15 bytes, which copies don't share: a copy touches no count of owners, for which threads would wait.
-#[derive(Clone, Copy, Debug)]
+/// Up to 15 bytes, which copies don't share: a copy touches no count of owners, for which threads would wait. What is
+/// left of the room is zeros, so two of these are compared by their rooms.
+#[derive(Debug, Drop)]
 struct Short {
     bytes: [u8; 15],
     length: u8,
 }
 
+impl Model for Short {
+    ghost use Rattle.std.specs.Prelude.{List, ℕ, take};
+    ghost use Rattle.std.specs.Coded.{coded_list, coded_ℕ};
+    ghost use Rattle.ap_list.specs.Rooms.{IsRoom};
+
+    ghost Value = { List ℕ };
+
+    ghost coded = { coded_list coded_ℕ };
+
+    ghost view = { λ s. take s.length s.bytes };
+
+    ghost invariant = { λ s. IsRoom s.bytes s.length };
+}
+
 impl Short {
-    ghost use Rattle.std.specs.Prelude.{◌<◌, IfSome, IfNone};
-    ghost use Rattle.ap_list.specs.Texts.{short_bytes};
+    ghost use Rattle.std.specs.Prelude.{IfSome, IfNone};
 
     /// The bytes, where they are few enough.
     fn of(bytes: &[u8]) -> Option<Short>
-        ensures some { IfSome result (λ s. short_bytes s ≡ bytes.now) }
+        ensures some { IfSome result (λ s. s ≡ bytes.now) }
         ensures none { IfNone result (15 < length bytes.now) }
     {
         let length = bytes.len();
@@ -73,10 +88,47 @@ impl Short {
 
     /// The bytes, lent.
     fn as_slice(&self) -> &[u8]
-        ensures { result.now ≡ short_bytes self.now }
+        ensures { result.now ≡ self.now }
     {
-        &self.bytes[..usize::from(self.length).min(MOST_SHORT)]
+        &self.bytes[..usize::from(self.length)]
     }
+
+    /// The same bytes once more.
+    fn copy(&self) -> Short
+        ensures { result ≡ self.now }
+    {
+        Short {
+            bytes: self.bytes,
+            length: self.length,
+        }
+    }
+
+    /// Whether they are the same bytes, by two words of each room that overlap. No branch depends on the bytes.
+    fn same(&self, other: &Short) -> bool
+        ensures { IsTrue result ↔ (self.now ≡ other.now) }
+    {
+        let (a, b) = (&self.bytes, &other.bytes);
+        (self.length == other.length) & (word(a, 0) == word(b, 0)) & (word(a, 7) == word(b, 7))
+    }
+}
+
+/// Eight bytes of a room from a place on, as one number.
+fn word(room: &[u8; 15], at: usize) -> u64
+    requires { at ≤ 7 }
+    ensures value { result ≡ word room.now at }
+    ensures small { (i : ℕ) → slice_index room.now i < 256 }
+    ensures room { length room.now ≡ 15 }
+{
+    u64::from_le_bytes([
+        room[at],
+        room[at + 1],
+        room[at + 2],
+        room[at + 3],
+        room[at + 4],
+        room[at + 5],
+        room[at + 6],
+        room[at + 7],
+    ])
 }
 
 /// Where the bytes of a text lie: in the program itself, in the text, or in memory that copies share.
@@ -148,6 +200,16 @@ impl Text {
         }
     }
 
+    /// Whether two texts have the same bytes. Takes no memory.
+    pub fn same(&self, other: &Text) -> bool
+        ensures { IsTrue result ↔ (self.now ≡ other.now) }
+    {
+        match (&self.held, &other.held) {
+            (Held::Short(a), Held::Short(b)) => a.same(b),
+            _ => self.as_slice() == other.as_slice(),
+        }
+    }
+
     /// The number of bytes.
     pub fn len(&self) -> usize
         ensures { result ≡ length self.now }
@@ -169,7 +231,7 @@ impl Text {
     {
         let held = match &self.held {
             Held::Fixed(name) => Held::Fixed(*name),
-            Held::Short(short) => Held::Short(*short),
+            Held::Short(short) => Held::Short(short.copy()),
             Held::Shared(bytes) => Held::Shared(bytes.share()?),
         };
         Ok(Text { held })

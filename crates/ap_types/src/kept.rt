@@ -57,8 +57,9 @@ fn settled(
     settled(alloc, w, name, body, rounds - 1, next)
 }
 
-/// The mask that a function of this name and body keeps when it is added to the world: the least that the
-/// body's mask gives back, iterated from the empty mask, with formals of any type. A call of the function
+/// The mask that a function of this name and body keeps when it is added to the world: the one that
+/// the body's mask gives back, reached by rounds from the empty mask, with formals of any type; all types where eleven
+/// rounds reach none. A call of the function
 /// in its own body has the mask of the round. Where the name is free and the body has no call of it, the
 /// mask has the type of the body's value under every assignment; for a function that calls itself the law
 /// is [`crate::laws::kept_masks_hold`].

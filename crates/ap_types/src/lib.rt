@@ -4,7 +4,7 @@
 //! [`types_of`] answers exactly the table of types (`specs/Rows.antt`, `specs/Narrowing.antt`,
 //! `specs/Typing.antt`), and that mask holds: wherever the facts hold, the type of the term's value is in
 //! it. [`Types`] is the kernel's oracle by it. [`kept_mask`] answers the mask that a function keeps when it
-//! is added to a world: the least that its body gives back.
+//! is added to a world: reached from the empty mask by rounds of its body.
 #![tactic(auto)]
 
 mod calls;

@@ -60,8 +60,8 @@ plain f formals body mask = record { name = f; formals = formals; body = body; m
 abbrev pub recursive : Symbol → List Symbol → Term → Mask → Function
 recursive f formals body mask = record { name = f; formals = formals; body = body; measure = Some (record { 0 = count_of x_name ∷ [] }); cases = cases_of f body; mask = mask }
 
--- the functions, each with its body and the types that a call of it can have: the least that the body
--- gives back, where the formals have any type and the functions before it have theirs
+-- the functions, each with its body and the types that a call of it can have: reached by
+-- rounds of the body, where the formals have any type and the functions before it have theirs
 
 -- (not p) is (if p nil t)
 unfoldable pub not_function : Function

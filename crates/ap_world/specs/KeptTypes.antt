@@ -1,4 +1,4 @@
--- The mask that a function keeps: the least that its body gives back.
+-- The mask that a function keeps: reached from the empty mask by rounds of its body.
 use Rattle.std.specs.Prelude.{ℕ, zero, suc, cond, nat_eq, []}
 use Rattle.ap_value.specs.declared.symbol.Symbol.{Symbol}
 use Rattle.ap_value.specs.Values.{symbol_eq}
