@@ -1,3 +1,4 @@
+pub mod Depths
 pub mod Goals
 pub mod Steps
 pub mod Hinted

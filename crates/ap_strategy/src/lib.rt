@@ -9,6 +9,7 @@
 #![tactic(auto)]
 
 mod clauses;
+mod depth;
 mod fresh;
 mod hinting;
 mod later;

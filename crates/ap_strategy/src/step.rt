@@ -3,6 +3,7 @@ ghost use Rattle.ap_world.specs.Sound.{known, HasFunctions};
 ghost use Rattle.ap_hints.specs.Known.{KnownHints};
 ghost use Rattle.ap_strategy.specs.Goals.{defs_of, root_goal};
 
+use crate::depth::fits;
 use crate::plan::{Plan, Planned};
 use crate::stepping::step_of;
 use crate::task::{Task, copy_task, root_task, same_task};
@@ -10,7 +11,7 @@ use ap_list::NoMemory;
 use ap_names::GoalName;
 use ap_term::Term;
 use ap_walk::{Step, Stepped};
-use std::alloc::Global;
+use std::alloc::{AllocError, Global};
 use std::marker::PhantomData;
 
 /// The waterfall of one plan, over the tasks of its brand.
@@ -83,7 +84,11 @@ impl<'a, J: Planned> Step for Acl2Step<'a, J> {
 
     ghost whole = { laws.whole };
 
+    /// A clause that the stack doesn't hold is want of memory.
     fn step(&self, alloc: Global, task: &Task<'a, J>) -> Result<Stepped<Task<'a, J>>, NoMemory> {
+        if !fits(&task.clause) {
+            return Err(AllocError);
+        }
         step_of(alloc, task, self.shares)
     }
 
