@@ -7,7 +7,6 @@ ghost use Rattle.ap_plain.specs.Drops.{DividedWalks};
 ghost use Rattle.ap_plain.specs.Ends.{goals_in, walks_in, refused_alone, Did};
 ghost use Rattle.ap_stated.specs.declared.refusing.Refusal.{Refusal};
 ghost use Rattle.ap_plain.specs.Events.{kind_of, stated_event, theorem_event, defined_event, definition_event, event_by, headed_event, event_with, event_of};
-ghost use Rattle.ap_plain.specs.Proposals.{proposed_theorem, proposed_definition, IsStated};
 ghost use Rattle.ap_stated.specs.Shapes.{as_stated, statement_of, as_defined, definition_of};
 
 use crate::attempting::Crew;
@@ -16,55 +15,17 @@ use crate::constant::constant_event;
 use crate::end::{Outcome, refused_alone};
 use crate::kinds::{Kind, kind_of};
 use crate::limits::Limits;
-use crate::proposing::{Asked, Proposal, proposed_event};
+use crate::named::{Asked, proposed_event};
+use crate::proposing::{proposed_definition, proposed_theorem};
 use ap_attempt::Gate;
 use ap_list::NoMemory;
 use ap_reader::Form;
 use ap_rules::Ruled;
-use ap_stated::{
-    Definition, Refusal, Statement, definition_in, head, stated_definition, stated_theorem, texts,
-    theorem_in,
-};
+use ap_stated::{Definition, Refusal, Statement, definition_in, head, texts, theorem_in};
 use ap_value::Symbol;
 use std::alloc::Global;
 use std::sync::Wait;
 use std::thread::Threads;
-
-/// The theorem that an event states in a world, or why it is refused: its name is taken, its term is none of the world, or
-/// it gives no rules of its classes. The only error is want of memory.
-pub fn proposed_theorem(
-    alloc: Global,
-    w: &Ruled,
-    statement: &Statement<'_>,
-) -> Result<Result<Proposal, Refusal>, NoMemory>
-    requires functions { HasFunctions (function_of w.now.entries) }
-    ensures made { IfOk result (λ r. r ≡ proposed_theorem w.now (as_stated statement.now)) }
-    ensures stands { IfOk result (λ r. IfOk r (IsStated w.now)) }
-{
-    match stated_theorem(alloc, w, statement)? {
-        Ok(theorem) => Ok(Ok(Proposal::Theorem(theorem))),
-        Err(refusal) => Ok(Err(refusal)),
-    }
-}
-
-/// The definition that an event states in a world, with its measure, or why it is refused: guards are to be verified, its
-/// name is taken, a part of it is no term, or it calls itself and has no measure. The world is as it was. The only error
-/// is want of memory.
-pub fn proposed_definition(
-    alloc: Global,
-    w: &mut Ruled,
-    definition: &Definition<'_>,
-) -> Result<Result<Proposal, Refusal>, NoMemory>
-    requires functions { HasFunctions (function_of w.old.entries) }
-    ensures same { w.new ≡ w.old }
-    ensures made { IfOk result (λ r. r ≡ proposed_definition w.old (as_defined definition.now)) }
-    ensures stands { IfOk result (λ r. IfOk r (IsStated w.old)) }
-{
-    match stated_definition(alloc, w, definition)? {
-        Ok(terminating) => Ok(Ok(Proposal::Function(terminating))),
-        Err(refusal) => Ok(Err(refusal)),
-    }
-}
 
 /// Does a theorem's event, by what it states.
 fn stated_event<R: Threads + Wait + Sync, G: Gate + Sync>(

@@ -2,11 +2,14 @@
 //! or a change of the current theory. See the manual's topics `defthm`, `rule-classes`, `hints`, `defun`, `measure`, `defconst`
 //! and `in-theory`.
 //!
-//! [`work`] does an event in a world with the index of its rules, which goes on to the next event. What an event is made
-//! of stands beside it, for those who do one again: its shape, what it states, and what that puts into the world.
+//! [`work`] does an event in a world with the index of its rules, which goes on to the next event; `ap_events` calls it for
+//! each event that stands in a book or within others. What an event is made of stands beside it, for those who do one again:
+//! its shape, what it states, and what that puts into the world.
 //!
-//! An event with a name is done in four steps: what it states, which is where most refusals come from; its hints; the
-//! attempts on what it owes; and what it puts into the world.
+//! An event with a name is done in four steps: what it states, which is where most refusals come from (`proposing`); its
+//! hints; the attempts on what it owes; and what it puts into the world (`named` has these three).
+//!
+//! Nothing is kept from one event to the next: the caller has the world, which is left as it was where an event is refused.
 #![tactic(auto)]
 
 mod attempting;
@@ -18,6 +21,7 @@ mod kinds;
 mod laws;
 mod limits;
 mod lines;
+mod named;
 mod owing;
 mod proposing;
 mod prover;
@@ -31,8 +35,8 @@ pub use ap_world::World;
 pub use changes::{Before, remember, theory_event};
 pub use constant::constant_event;
 pub use end::{Outcome, refused_alone, without_drops};
-pub use heads::{proposed_definition, proposed_theorem, work};
+pub use heads::work;
 pub use kinds::{Kind, kind_of};
 pub use laws::events_are_sound;
 pub use limits::Limits;
-pub use proposing::{Proposal, put};
+pub use proposing::{Proposal, proposed_definition, proposed_theorem, put};

@@ -8,7 +8,7 @@ use Rattle.ap_stated.specs.declared.owed.Owed.{Owed}
 use Rattle.ap_plain.specs.Attempts.{before, first_rule, tried, plan_for, Tries}
 use Rattle.ap_plain.specs.Proposals.{opening_of, owed_of}
 use Rattle.ap_plain.proofs.Proposed.{at_tried}
-use Rattle.ap_plain.proofs.proposing.tried_event.Goals as goal
+use Rattle.ap_plain.proofs.named.tried_event.Goals as goal
 
 -- the world is as it was
 pub end_tried-requires-clause-valid : goal.end_tried-requires-clause-valid

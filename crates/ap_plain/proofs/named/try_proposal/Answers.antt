@@ -8,7 +8,7 @@ use Rattle.ap_kernel.specs.Reductions.{KnownClause}
 use Rattle.ap_stated.specs.declared.owed.Owed.{Owed}
 use Rattle.ap_plain.specs.Proposals.{opening_of, owed_of}
 use Rattle.ap_plain.proofs.Proposed.{all_known, opened_valid}
-use Rattle.ap_plain.proofs.proposing.try_proposal.Goals as goal
+use Rattle.ap_plain.proofs.named.try_proposal.Goals as goal
 
 -- what is owed speaks of the world
 pub try_owed-requires-clause-known : goal.try_owed-requires-clause-known

@@ -1,5 +1,5 @@
 use Rattle.ap_plain.proofs.Proposed.{proved_end, failed_end}
-use Rattle.ap_plain.proofs.proposing.end_tried.Goals as goal
+use Rattle.ap_plain.proofs.named.end_tried.Goals as goal
 
 pub returns-in-Qed-clause-done : goal.returns-in-Qed-clause-done
 returns-in-Qed-clause-done c =
