@@ -10,7 +10,7 @@ use Rattle.ap_plain.specs.declared.end.Outcome.{Outcome}
 use Rattle.ap_plain.specs.Ends.{Done, Did}
 use Rattle.ap_stated.proofs.Places.{at_place}
 use Rattle.ap_events.specs.Backing.{Backed}
-use Rattle.ap_events.specs.Joining.{one_more, no_outcome, back_in, Begins, Ran}
+use Rattle.ap_events.specs.Joining.{with_outcome, no_outcome, back_in, Begins, Ran}
 use Rattle.ap_events.specs.Nested.{Leaf, all}
 use Rattle.ap_events.proofs.Joined.{Going, begins_through, going_next, going_stops, going_ends, did_begin, back_again, back_sound, back_functions}
 use Rattle.ap_events.proofs.Keeping.{all_backed_first, all_backed_next}
@@ -38,7 +38,7 @@ module _ (g : Leaf) (steps : (f : Form) (w : Shown) → Step (g f w) w) (fs : Li
   pub begins_next : (u : Shown) (o e : Outcome) → Left g fs w i v o → Did (g f v) v u e → Begins w u
   begins_next u o e left did = begins_through w v u left.grown (did_begin (g f v) v u e (steps f v).grows did)
 
-  module _ (u : Shown) (o e x : Outcome) (left : Left g fs w i v o) (did : Did (g f v) v u e) (more : x ≡ one_more o e) where
+  module _ (u : Shown) (o e x : Outcome) (left : Left g fs w i v o) (did : Did (g f v) v u e) (more : x ≡ with_outcome o e) where
     now : Going (all g fs w) w (all g (f ∷ drop (i + 1) fs) v) v o
     now = subst (λ d. Going (all g fs w) w d v o) at_first left
 

@@ -15,7 +15,7 @@ use Rattle.ap_stated.specs.Texts.{line}
 use Rattle.ap_plain.specs.Drops.{DividedWalks}
 use Rattle.ap_plain.specs.Ends.{passed, walked, Told, goals_in, walks_in, Done, Did}
 use Rattle.ap_plain.proofs.Telling.{goals_after, notes_none, notes_more}
-use Rattle.ap_events.specs.Joining.{no_outcome, one_more, silenced, ended_by, back_in, Begins, Ran, Passed}
+use Rattle.ap_events.specs.Joining.{no_outcome, with_outcome, silenced, ended_by, back_in, Begins, Ran, RanAgain}
 use Rattle.ap_events.specs.Books.{silent_by, silent}
 use Rattle.ap_events.specs.Nested.{nothing, joined, then_by, second_by, closing_by}
 
@@ -44,7 +44,7 @@ begins_twice : (u v w : Shown) → Begins u v → Begins v w → Begins u w
 begins_twice u v w a b = (a.0 ++ b.0, b.1 ∙ ap (λ es. es ++ b.0) a.1 ∙ append_assoc u.entries a.0 b.0)
 
 -- one event more, a, of which the answer is e
-module _ (d a : Done) (k : Shown → Done) (w v u : Shown) (o e x : Outcome) (going : Going d w (then_by a a.next k) v o) (did : Did a v u e) (more : x ≡ one_more o e) where
+module _ (d a : Done) (k : Shown → Done) (w v u : Shown) (o e x : Outcome) (going : Going d w (then_by a a.next k) v o) (did : Did a v u e) (more : x ≡ with_outcome o e) where
   next_by : (b : Bool) → e.admitted ≡ b → a.next ≡ cond b (Some u) None
   next_by b is = did.next ∙ ap (λ c. cond c (Some u) None) is
 
@@ -200,14 +200,14 @@ walks_closed [] x = refl
 walks_closed (passed v ∷ ts) x = walks_closed ts x
 walks_closed (walked a ∷ ts) x = ap (λ ws. a ∷ ws) (walks_closed ts x)
 
-pub closed_did : (d e : Done) (u v w : Shown) (o : Outcome) (s : Option (List ℕ)) → o.admitted ≡ true → Did d u v o → Passed e u w s → Did (closing_by d d.next e) u w (ended_by o s)
+pub closed_did : (d e : Done) (u v w : Shown) (o : Outcome) (s : Option (List ℕ)) → o.admitted ≡ true → Did d u v o → RanAgain e u w s → Did (closing_by d d.next e) u w (ended_by o s)
 closed_did d e u v w o s went did second =
     subst (λ n. Did (closing_by d n e) u w (ended_by o s)) (sym first) (ends s second)
   where
     first : d.next ≡ Some v
     first = did.next ∙ ap (λ c. cond c (Some v) None) went
 
-    ends : (s : Option (List ℕ)) → Passed e u w s → Did (joined d (second_by e e.next)) u w (ended_by o s)
+    ends : (s : Option (List ℕ)) → RanAgain e u w s → Did (joined d (second_by e e.next)) u w (ended_by o s)
     ends None is = subst (λ n. Did (joined d (second_by e n)) u w o) (sym is) (record {
       text = did.text ∙ sym (append-nil d.text);
       next = ap (λ c. cond c (Some w) None) (sym went);
@@ -242,7 +242,7 @@ closed_end (Err e) w u v x first d again same did h = tt
 closed_end (Ok o) w u v x first d again same did h =
     subst (λ (y : Shown). Did (closing_by d d.next (again y)) y x o) same (h d (subst (λ (y : Shown). Did d y v first) (sym same) did))
 
-pub made_end : {E : Type 0} (r : Result Outcome E) (e : Done) (u v w : Shown) (o : Outcome) (s : Option (List ℕ)) → o.admitted ≡ true → Passed e u w s → IfOk r (λ x. x ≡ ended_by o s)
+pub made_end : {E : Type 0} (r : Result Outcome E) (e : Done) (u v w : Shown) (o : Outcome) (s : Option (List ℕ)) → o.admitted ≡ true → RanAgain e u w s → IfOk r (λ x. x ≡ ended_by o s)
     → IfOk r (λ x. (d : Done) → Did d u v o → Did (closing_by d d.next e) u w x)
 made_end (Err e) f u v w o s went second made = tt
 made_end (Ok x) f u v w o s went second made = λ d did. subst (λ y. Did (closing_by d d.next f) u w y) (sym made) (closed_did d f u v w o s went did second)
@@ -251,7 +251,7 @@ pub made_drops : {E : Type 0} (r : Result Outcome E) (o : Outcome) (s : Option (
 made_drops (Err e) o s made = tt
 made_drops (Ok x) o s made = ap (λ (y : Outcome). y.drops) made ∙ ended_drops o s
 
-pub made_error : {E : Type 0} (r : Result Outcome E) (e : Done) (u w : Shown) (s : Option (List ℕ)) → Passed e u w s → OnErr r (s ≢ None) → OnErr r (w ≡ u)
+pub made_error : {E : Type 0} (r : Result Outcome E) (e : Done) (u w : Shown) (s : Option (List ℕ)) → RanAgain e u w s → OnErr r (s ≢ None) → OnErr r (w ≡ u)
 made_error (Ok x) e u w s second error = tt
 made_error (Err x) e u w None second error = absurd (error refl)
 made_error (Err x) e u w (Some text) second error = second.2
@@ -271,10 +271,10 @@ module _ (again : Shown → Done) (u x v : Shown) (o : Outcome) (same : x ≡ u)
   back_did : Did (again u) u v o
   back_did = subst (λ (y : Shown). Did (again y) y v o) same did
 
-  pub passed_yes : o.admitted ≡ true → Passed (again u) u v None
+  pub passed_yes : o.admitted ≡ true → RanAgain (again u) u v None
   passed_yes went = back_did.next ∙ ap (λ c. cond c (Some v) None) went
 
-  pub passed_no : (text : List ℕ) → o.admitted ≡ false → text ≡ line (codes "Second pass") ++ o.text → Passed (again u) u v (Some text)
+  pub passed_no : (text : List ℕ) → o.admitted ≡ false → text ≡ line (codes "Second pass") ++ o.text → RanAgain (again u) u v (Some text)
   passed_no text stopped is = (back_did.next ∙ ap (λ c. cond c (Some v) None) stopped, is ∙ ap (λ t. line (codes "Second pass") ++ t) back_did.text, back_did.kept stopped)
 
   pub passed_kept : o.admitted ≡ false → v ≡ u

@@ -13,8 +13,8 @@ use Rattle.ap_stated.specs.Texts.{line}
 abbrev pub no_outcome : Outcome
 no_outcome = record { text = []; admitted = true; goals = 0; drops = [] }
 
-abbrev pub one_more : Outcome → Outcome → Outcome
-one_more o e = record { text = o.text ++ e.text; admitted = e.admitted; goals = o.goals + e.goals; drops = o.drops ++ e.drops }
+abbrev pub with_outcome : Outcome → Outcome → Outcome
+with_outcome o e = record { text = o.text ++ e.text; admitted = e.admitted; goals = o.goals + e.goals; drops = o.drops ++ e.drops }
 
 abbrev pub silenced : Outcome → Outcome
 silenced o = cond o.admitted (record o { text = [] }) o
@@ -40,6 +40,6 @@ pub record Ran (d : Done) (v : Shown) (o : Outcome) : Type 0 where
   pub drops : DividedWalks o.drops (walks_in d.told)
 
 -- A second pass from the world u answered this, and left the world v: nothing where it is admitted, and else its text.
-abbrev pub Passed : Done → Shown → Shown → Option (List ℕ) → Type 0
-Passed e u v None = e.next ≡ Some v
-Passed e u v (Some text) = (e.next ≡ None) × (text ≡ line (codes "Second pass") ++ e.text) × (v ≡ u)
+abbrev pub RanAgain : Done → Shown → Shown → Option (List ℕ) → Type 0
+RanAgain e u v None = e.next ≡ Some v
+RanAgain e u v (Some text) = (e.next ≡ None) × (text ≡ line (codes "Second pass") ++ e.text) × (v ≡ u)

@@ -6,7 +6,7 @@ ghost use Rattle.ap_world.specs.World.{Shown};
 ghost use Rattle.ap_plain.specs.Ends.{Done, Did, refused_alone};
 ghost use Rattle.ap_stated.specs.Texts.{line};
 ghost use Rattle.ap_events.specs.Books.{silent};
-ghost use Rattle.ap_events.specs.Joining.{no_outcome, one_more, silenced, ended_by, back_in};
+ghost use Rattle.ap_events.specs.Joining.{no_outcome, with_outcome, silenced, ended_by, back_in};
 ghost use Rattle.ap_events.specs.Nested.{too_deep};
 
 use ap_list::{Bytes, NoMemory};
@@ -26,7 +26,7 @@ pub(crate) fn nothing(alloc: Global) -> Outcome
 /// Adds what an event came to to what those before it did. More goals than a machine word counts is taken for want of
 /// memory.
 pub(crate) fn join(all: &mut Outcome, next: Outcome) -> Result<(), NoMemory>
-    ensures { OnOk result (all.new ≡ one_more all.old next) }
+    ensures { OnOk result (all.new ≡ with_outcome all.old next) }
 {
     let Some(goals) = all.goals.checked_add(next.goals) else {
         return Err(AllocError);

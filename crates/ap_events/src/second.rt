@@ -6,7 +6,7 @@ ghost use Rattle.ap_world.specs.World.{function_of};
 ghost use Rattle.ap_plain.specs.Ends.{Did};
 ghost use Rattle.ap_events.specs.Backing.{Backed};
 ghost use Rattle.ap_events.specs.Books.{again_event};
-ghost use Rattle.ap_events.specs.Joining.{Begins, Passed, Ran, back_in};
+ghost use Rattle.ap_events.specs.Joining.{Begins, RanAgain, Ran, back_in};
 ghost use Rattle.ap_events.specs.Nested.{agains, all};
 
 use crate::again::again_event;
@@ -105,7 +105,7 @@ pub(crate) fn second_pass(
     requires sound { Sound (take before.count w.old.entries) }
     requires functions { HasFunctions (function_of (take before.count w.old.entries)) }
     requires backed { (U : List Entry) × Backed (all (agains (again_event earlier.now) depth) forms.now (back_in before w.old)) (back_in before w.old) U }
-    ensures done { IfOk result (Passed (all (agains (again_event earlier.now) depth) forms.now (back_in before w.old)) (back_in before w.old) w.new) }
+    ensures done { IfOk result (RanAgain (all (agains (again_event earlier.now) depth) forms.now (back_in before w.old)) (back_in before w.old) w.new) }
     ensures error { OnErr result (w.new ≡ back_in before w.old) }
 {
     w.back_to(before.count, before.theory);
