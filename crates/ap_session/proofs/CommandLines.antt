@@ -14,7 +14,7 @@ use Rattle.ap_session.specs.declared.command.Counted.TheVariants.{Workers, Steps
 use Rattle.ap_session.specs.declared.command.Flag.{Flag}
 use Rattle.ap_session.specs.declared.command.Flag.TheVariants.{Number, Trace}
 use Rattle.ap_session.specs.declared.command.Options.{Options}
-use Rattle.ap_session.specs.Command.{Order, Demo, Command, of_books, of_demo, flag_of, with_number, with_trace, no_options, limits_in, books_by, books_command, demo_by, is_bare, demo_command, go_on, last_word, first_word, command_from, are_books, where_books, command_of}
+use Rattle.ap_session.specs.Command.{Order, Demo, Command, of_books, of_demo, flag_of, with_number, with_trace, no_options, limits_in, books_by, books_command, demo_by, is_bare, demo_command, with_options, last_word, first_word, command_from, are_books, where_books, command_of}
 use Rattle.ap_session.specs.CommandLines.{Setting, counts, traces, option_of, word_of, written, most, IsTaken, Apart, Among, Says, AreNames, IsOrder, IsOfDemo, IsDemo, IsLine, IsName, LinesAreRead, LinesAreWrittenOneWay, LinesSayOneThing, OthersAreNone}
 use Rattle.ap_session.proofs.Words.{cond_some, number_read, number_written, flag_read, flag_written, no_flag}
 use Rattle.ap_session.proofs.Naming.{names_are, are_named}
@@ -54,7 +54,7 @@ shape (w ∷ []) p c h = go (flag_of w) refl h
 shape (w ∷ v ∷ ws) p c h = go (shape (v ∷ ws)) (shape ws) (flag_of w) refl h
   where
     trace_more : ((q : Options) (c : Command) → command_from (v ∷ ws) q ≡ Some c → Shape q (v ∷ ws) c) → w ≡ word_of Trace → (o : Option Options) → with_trace p ≡ o
-        → go_on o (command_from (v ∷ ws)) ≡ Some c → Shape p (w ∷ v ∷ ws) c
+        → with_options o (command_from (v ∷ ws)) ≡ Some c → Shape p (w ∷ v ∷ ws) c
     trace_more next i None j h = cc
     trace_more next i (Some q) j h =
         let s = next q c h in
@@ -69,7 +69,7 @@ shape (w ∷ v ∷ ws) p c h = go (shape (v ∷ ws)) (shape ws) (flag_of w) refl
         }
 
     number_more : ((q : Options) (c : Command) → command_from ws q ≡ Some c → Shape q ws c) → (k : Counted) → w ≡ word_of (Number k) → (o : Option Options) → with_number p k v ≡ o
-        → go_on o (command_from ws) ≡ Some c → Shape p (w ∷ v ∷ ws) c
+        → with_options o (command_from ws) ≡ Some c → Shape p (w ∷ v ∷ ws) c
     number_more later k i None j h = cc
     number_more later k i (Some q) j h =
         let s = later q c h in
@@ -107,13 +107,13 @@ trace_goes_on p [] c free h = absurd (no (demo_command (traced p)) (not_bare (tr
   where
     no : (o : Option Command) → o ≡ None → o ≡ Some c → ⊥
     no o e h = cc
-trace_goes_on p (v ∷ ws) c free h = ap (λ o. go_on o (command_from (v ∷ ws))) (trace_gives p free) ∙ h
+trace_goes_on p (v ∷ ws) c free h = ap (λ o. with_options o (command_from (v ∷ ws))) (trace_gives p free) ∙ h
 
 number_goes_on : (p : Options) (k : Counted) (n : ℕ) (us : List (List ℕ)) (c : Command) → value p k ≡ None → (1 ≤ n) × (n ≤ most k) → command_from us (put p k n) ≡ Some c
     → command_from (word_of (Number k) ∷ decimal n ∷ us) p ≡ Some c
 number_goes_on p k n us c free fits h =
     ap (λ o. first_word o p (word_of (Number k)) (decimal n) us (command_from (decimal n ∷ us)) (command_from us)) (flag_written (Number k))
-    ∙ ap (λ o. go_on o (command_from us)) (number_gives p k (decimal n) n free (number_written (most k) n (most_small k) fits.0 fits.1))
+    ∙ ap (λ o. with_options o (command_from us)) (number_gives p k (decimal n) n free (number_written (most k) n (most_small k) fits.0 fits.1))
     ∙ h
 
 read_back : (os : List Setting) (bs : List (List ℕ)) (p : Options) (c : Command) → Each IsWithin os → Apart option_of os → Each (IsFree p) os

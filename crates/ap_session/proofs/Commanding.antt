@@ -6,7 +6,7 @@ use Rattle.ap_plain.specs.Limits.{limits_of}
 use Rattle.ap_session.specs.declared.command.Counted.{Counted}
 use Rattle.ap_session.specs.declared.command.Flag.TheVariants.{Number, Trace}
 use Rattle.ap_session.specs.declared.command.Options.{Options}
-use Rattle.ap_session.specs.Command.{Command, flag_of, with_number, with_trace, go_on, first_word, command_from}
+use Rattle.ap_session.specs.Command.{Command, flag_of, with_number, with_trace, with_options, first_word, command_from}
 
 -- limits of equal numbers
 pub limits_same : (o : Option Limits) (s g r t h k : ℕ) → o ≡ limits_of s g r → s ≡ t → g ≡ h → r ≡ k → o ≡ limits_of t h k
@@ -23,12 +23,12 @@ take_all n xs e = subst (λ k. take k xs ≡ xs) (sym e) (go xs)
 traced : (r : Option Command) (w v : List ℕ) (ws : List (List ℕ)) (p q : Options) → flag_of w ≡ Some Trace → with_trace p ≡ Some q → r ≡ command_from (v ∷ ws) q
     → r ≡ command_from (w ∷ v ∷ ws) p
 traced r w v ws p q f h e =
-    e ∙ sym (ap (λ o. go_on o (command_from (v ∷ ws))) h) ∙ sym (ap (λ o. first_word o p w v ws (command_from (v ∷ ws)) (command_from ws)) f)
+    e ∙ sym (ap (λ o. with_options o (command_from (v ∷ ws))) h) ∙ sym (ap (λ o. first_word o p w v ws (command_from (v ∷ ws)) (command_from ws)) f)
 
 numbered : (r : Option Command) (w v : List ℕ) (ws : List (List ℕ)) (k : Counted) (p q : Options) → flag_of w ≡ Some (Number k) → with_number p k v ≡ Some q → r ≡ command_from ws q
     → r ≡ command_from (w ∷ v ∷ ws) p
 numbered r w v ws k p q f h e =
-    e ∙ sym (ap (λ o. go_on o (command_from ws)) h) ∙ sym (ap (λ o. first_word o p w v ws (command_from (v ∷ ws)) (command_from ws)) f)
+    e ∙ sym (ap (λ o. with_options o (command_from ws)) h) ∙ sym (ap (λ o. first_word o p w v ws (command_from (v ∷ ws)) (command_from ws)) f)
 
 -- the same of words that are at least two
 pub traced_of : {A : Type 0} (f : A → List ℕ) (ws : List A) (a : A) (p q : Options) (r : Option Command) → 2 ≤ length ws → a ≡ get_or ws 0 a

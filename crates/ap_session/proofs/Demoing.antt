@@ -14,7 +14,7 @@ use Rattle.ap_session.specs.Working.{Working, start, begin, admits, ends, has_fa
 use Rattle.ap_session.specs.Admitting.{AdmittingSeen, notes_in, left_in, IsTold, Led}
 use Rattle.ap_session.specs.Command.{Demo}
 use Rattle.ap_session.specs.Demo.{demo_read, admitted_of, counted, demo_line}
-use Rattle.ap_session.specs.Session.{Session, Passed, read_body, last_of, kept_by, demo_session}
+use Rattle.ap_session.specs.Session.{Session, PassedThrough, read_body, last_of, kept_by, demo_session}
 use Rattle.ap_session.proofs.Leading.{by_kept, led_begun}
 
 -- events of which these are left, in this state and with these counts
@@ -105,10 +105,10 @@ module _ (d : Demo) (a c : AdmittingSeen) (events : Result (List Form) (List ℕ
 
 -- Of a session that is led from the start.
 
-pub led_passed : (s : Session) (a b : AdmittingSeen) → left_in a ≡ start → Led a b s.told → Passed s (left_in b)
+pub led_passed : (s : Session) (a b : AdmittingSeen) → left_in a ≡ start → Led a b s.told → PassedThrough s (left_in b)
 led_passed s a b begun led = to led.left
   where
-    to : (left_in b ≡ left_in a) ⊎ ((left_in b ≡ start) ⊎ IsTold s.told (left_in b)) → Passed s (left_in b)
+    to : (left_in b ≡ left_in a) ⊎ ((left_in b ≡ start) ⊎ IsTold s.told (left_in b)) → PassedThrough s (left_in b)
     to (inl e) = inl (e ∙ begun)
     to (inr p) = p
 

@@ -18,7 +18,7 @@ use Rattle.ap_events.proofs.Keeping.{backed_by}
 use Rattle.ap_session.specs.declared.second.Second.{Second}
 use Rattle.ap_session.specs.declared.second.Second.TheVariants.{SoFar, Failed}
 use Rattle.ap_session.specs.Admitting.{IsTold}
-use Rattle.ap_session.specs.Working.{Working, start, working_in, second_by, one_more, after, is_refused, admits, Leaves, world_of, has_failed, IfSoFar, Stands}
+use Rattle.ap_session.specs.Working.{Working, start, working_in, second_by, second_after, after, is_refused, admits, Leaves, world_of, has_failed, IfSoFar, Stands}
 use Rattle.ap_session.proofs.Starting.{start_has}
 
 -- of a second pass
@@ -75,7 +75,7 @@ module _ (grows : WorkedGrows) (covers : AgainIsCovered) (s : Working) (f : Form
       go (SoFar v) c = covers_through v.entries s.world.entries w.entries c grown
       go (Failed text) c = tt
 
-  pub both_cover : IfSoFar (λ v. Covers v.entries w.entries) (one_more s.earlier f s.second)
+  pub both_cover : IfSoFar (λ v. Covers v.entries w.entries) (second_after s.earlier f s.second)
   both_cover = go s.second stands.covered
     where
       by_next : (v : Shown) → Fits (worked_again s.earlier v f) w.entries → (o : Option Shown) → (worked_again s.earlier v f).next ≡ o
@@ -83,7 +83,7 @@ module _ (grows : WorkedGrows) (covers : AgainIsCovered) (s : Working) (f : Form
       by_next v fit None e = tt
       by_next v fit (Some u) e = fit.last u e
 
-      go : (p : Second) → IfSoFar (λ v. Covers v.entries s.world.entries) p → IfSoFar (λ v. Covers v.entries w.entries) (one_more s.earlier f p)
+      go : (p : Second) → IfSoFar (λ v. Covers v.entries s.world.entries) p → IfSoFar (λ v. Covers v.entries w.entries) (second_after s.earlier f p)
       go (SoFar v) c = by_next v (fits v c) (worked_again s.earlier v f).next refl
       go (Failed text) c = tt
 
@@ -112,7 +112,7 @@ cut_stands grows covers s f admitted w p stands left functions same = record {
     go false l = subst (λ (x : Shown). IfSoFar (λ v. Covers v.entries x.entries) s.second) (sym (l.1 refl)) stands.covered
 
 pub both_stand : WorkedGrows → AgainIsCovered → (s : Working) (f : Form) (admitted : Bool) (w : Shown) (p : Second) → Stands s → Left s f admitted w → HasFunctions (function_of w.entries)
-    → p ≡ cond admitted (one_more s.earlier f s.second) s.second → IfSoFar (λ v. HasFunctions (function_of v.entries)) p → Stands (working_in s.limits s.earlier w p)
+    → p ≡ cond admitted (second_after s.earlier f s.second) s.second → IfSoFar (λ v. HasFunctions (function_of v.entries)) p → Stands (working_in s.limits s.earlier w p)
 both_stand grows covers s f admitted w p stands left functions same again = record {
   functions = functions;
   again = again;
@@ -120,7 +120,7 @@ both_stand grows covers s f admitted w p stands left functions same again = reco
   distinct = stands.distinct;
 }
   where
-    go : (b : Bool) → Left s f b w → IfSoFar (λ v. Covers v.entries w.entries) (cond b (one_more s.earlier f s.second) s.second)
+    go : (b : Bool) → Left s f b w → IfSoFar (λ v. Covers v.entries w.entries) (cond b (second_after s.earlier f s.second) s.second)
     go true l = both_cover grows covers s f w stands l.0
     go false l = subst (λ (x : Shown). IfSoFar (λ v. Covers v.entries x.entries) s.second) (sym (l.1 refl)) stands.covered
 
@@ -129,7 +129,7 @@ pub both_refused : (s : Working) (f : Form) (admitted : Bool) (w : Shown) → (w
 both_refused s f true w e = ap is_refused e
 both_refused s f false w e = ap is_refused e
 
-pub both_next : (s : Working) (f : Form) (admitted : Bool) (w : Shown) (p : Second) → Left s f admitted w → p ≡ cond admitted (one_more s.earlier f s.second) s.second
+pub both_next : (s : Working) (f : Form) (admitted : Bool) (w : Shown) (p : Second) → Left s f admitted w → p ≡ cond admitted (second_after s.earlier f s.second) s.second
     → (admits s f).next ≡ working_in s.limits s.earlier w p
 both_next s f true w p left same = ap (after s f) left.0 ∙ ap (working_in s.limits s.earlier w) (sym same)
 both_next s f false w p left same =

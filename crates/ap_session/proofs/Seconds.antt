@@ -9,7 +9,7 @@ use Rattle.ap_events.specs.Books.{Earlier, worked as done_first, worked_again}
 use Rattle.ap_events.specs.Nested.{then_by}
 use Rattle.ap_session.specs.declared.second.Second.{Second}
 use Rattle.ap_session.specs.declared.second.Second.TheVariants.{SoFar, Failed}
-use Rattle.ap_session.specs.Working.{Working, start, begin, second_by, one_more, is_refused, after, admits, ends, end_text, end_told, has_failed}
+use Rattle.ap_session.specs.Working.{Working, start, begin, second_by, second_after, is_refused, after, admits, ends, end_text, end_told, has_failed}
 use Rattle.ap_session.specs.Session.{kept_by, kept_of}
 use Rattle.ap_session.specs.Laws.{done_again, KeepsDoneAgain}
 
@@ -22,7 +22,7 @@ failed_stays : (fs : List Form) (s : Working) (text : List ℕ) → s.second ≡
 failed_stays [] s text e h =
     true≢false (sym h ∙ ap (λ r. (go_on (end_text s.second) (end_told s.second) r s certified).certified) (ap has_failed e))
 failed_stays (f ∷ fs) s text e h =
-    go (λ w k. failed_stays fs (after s f (Some w)) text (ap (one_more s.earlier f) e) k) (done_first s.limits s.earlier s.world f).next h
+    go (λ w k. failed_stays fs (after s f (Some w)) text (ap (second_after s.earlier f) e) k) (done_first s.limits s.earlier s.world f).next h
   where
     go : ((w : Shown) → (worked admits ends fs (after s f (Some w))).certified ≡ true → ⊥) → (o : Option Shown) → (onward s f fs o).certified ≡ true → ⊥
     go more None k = true≢false (sym k)
@@ -30,7 +30,7 @@ failed_stays (f ∷ fs) s text e h =
 
 -- what follows an event that both passes admit
 abbrev More : List Form → Working → Form → Type 0
-More fs s f = (w u : Shown) → one_more s.earlier f s.second ≡ SoFar u → (worked admits ends fs (after s f (Some w))).certified ≡ true
+More fs s f = (w u : Shown) → second_after s.earlier f s.second ≡ SoFar u → (worked admits ends fs (after s f (Some w))).certified ≡ true
     → (done_again s.earlier fs u).next ≡ Some (kept_of (worked admits ends fs (after s f (Some w))))
 
 kept_again : (fs : List Form) (s : Working) (v : Shown) → s.second ≡ SoFar v → (worked admits ends fs s).certified ≡ true
@@ -49,8 +49,8 @@ kept_again (f ∷ fs) s v e h =
     text : List ℕ
     text = (worked_again s.earlier v f).text
 
-    second : (o : Option Shown) → (worked_again s.earlier v f).next ≡ o → one_more s.earlier f s.second ≡ second_by text o
-    second o is = ap (one_more s.earlier f) e ∙ ap (second_by text) is
+    second : (o : Option Shown) → (worked_again s.earlier v f).next ≡ o → second_after s.earlier f s.second ≡ second_by text o
+    second o is = ap (second_after s.earlier f) e ∙ ap (second_by text) is
 
     step : More fs s f → (w : Shown) → (worked admits ends fs (after s f (Some w))).certified ≡ true → (o : Option Shown) → (worked_again s.earlier v f).next ≡ o
         → (then_by (worked_again s.earlier v f) o (done_again s.earlier fs)).next ≡ Some (kept_of (worked admits ends fs (after s f (Some w))))

@@ -29,7 +29,7 @@ use Rattle.ap_session.specs.Working.{Working, start}
 use Rattle.ap_session.specs.Admitting.{AdmittingSeen, notes_in, left_in, IsTold, Led}
 use Rattle.ap_session.proofs.Acting.{put_more, stored_by_more, stored_end, book_puts, Later, tied_first, tied_next, tied_all, tied_by, tied_put}
 use Rattle.ap_session.specs.Texts.{usage_text}
-use Rattle.ap_session.specs.Session.{Session, ActsAgree, acts_of, begun, read_body, book_text, book_acts, demo_session, kept_more, last_of, with_body, then_book, books_of, reads_in, worked_books, Worked, Kept, Passed, IsNext, Listed, file_name, session, traced, output, fault_status, is_done}
+use Rattle.ap_session.specs.Session.{Session, ActsAgree, acts_of, begun, read_body, book_text, book_acts, demo_session, kept_more, last_of, with_body, then_book, books_of, reads_in, worked_books, Worked, Kept, PassedThrough, IsNext, Listed, file_name, session, traced, output, fault_status, is_done}
 use Rattle.ap_plain.proofs.Telling.{notes_more, notes_none, told_left, told_right}
 
 none_read : (limits : Limits) (s : Session) (names : List (List ℕ)) → books_of limits s names [] ≡ s
@@ -189,7 +189,7 @@ then_kept s a b c name read body w k led = record {
         let q : led.notes.more ≡ [] = led.notes.alone (subst (λ n. n ≤ 1) (sym w) one) in
         rw (p, q) refl
 
-    to : Passed s (left_in b) → (left_in c ≡ left_in b) ⊎ ((left_in c ≡ start) ⊎ IsTold log (left_in c)) → (left_in c ≡ start) ⊎ IsTold (s.told ++ log) (left_in c)
+    to : PassedThrough s (left_in b) → (left_in c ≡ left_in b) ⊎ ((left_in c ≡ start) ⊎ IsTold log (left_in c)) → (left_in c ≡ start) ⊎ IsTold (s.told ++ log) (left_in c)
     to p (inr (inl q)) = inl q
     to p (inr (inr q)) = inr (told_right s.told log (left_in c) q)
     to (inl p) (inl q) = inl (q ∙ p)
@@ -355,9 +355,9 @@ not_done faults.NoMemory = refl
 
 -- the world that a session was left in
 pub command_passed : (c : Order) (a : AdmittingSeen) (books new : List BookSeen) (w v : Shown) → a.working.limits ≡ c.limits → new ≡ books → v ≡ w
-    → Passed (worked_books a c.books books) w → Passed (session (Some (of_books c)) (reads_in new)) v
+    → PassedThrough (worked_books a c.books books) w → PassedThrough (session (Some (of_books c)) (reads_in new)) v
 command_passed c a books new w v l e same h =
-    subst (λ (s : Session). Passed s v) (command_session c a books new l e) (subst (Passed (worked_books a c.books books)) (sym same) h)
+    subst (λ (s : Session). PassedThrough s v) (command_session c a books new l e) (subst (PassedThrough (worked_books a c.books books)) (sym same) h)
 
 -- the certificates of a session
 pub command_files : (files lib end : Option Files) (c : Order) (a : AdmittingSeen) (books new : List BookSeen) → a.working.limits ≡ c.limits → new ≡ books → end ≡ lib

@@ -23,7 +23,7 @@ use Rattle.ap_session.specs.declared.second.Second.{Second}
 use Rattle.ap_session.specs.declared.second.Second.TheVariants.{SoFar, Failed}
 use Rattle.ap_session.specs.Command.{Command, of_books, of_demo}
 use Rattle.ap_session.specs.Demo.{demo_read}
-use Rattle.ap_session.specs.Working.{Working, start, begin, second_by, one_more, after, admits, end_text, has_failed, end_told, ends, IfSoFar, Stands}
+use Rattle.ap_session.specs.Working.{Working, start, begin, second_by, second_after, after, admits, end_text, has_failed, end_told, ends, IfSoFar, Stands}
 use Rattle.ap_session.specs.Session.{Session, begun, kept_by, kept_of, kept_more, then_book, books_of, session, demo_session, read_body}
 use Rattle.ap_session.proofs.Passing.{next_backs, both_cover}
 use Rattle.ap_session.proofs.Starting.{start_has}
@@ -78,7 +78,7 @@ kept_good s good = go s.second good.again
     go (Failed text) h = good.world
 
 module _ (kept : WorkedKeepGood) (redone : AgainKeepsGood) (grows : WorkedGrows) (tells : WorkedTells) (covers : AgainIsCovered) where
-  again_good : (s : Working) (f : Form) → GoodWorking s → (p : Second) → IfSoFar GoodWorld p → IfSoFar (λ v. (U : List Entry) × Backed (worked_again s.earlier v f) v U) p → IfSoFar GoodWorld (one_more s.earlier f p)
+  again_good : (s : Working) (f : Form) → GoodWorking s → (p : Second) → IfSoFar GoodWorld p → IfSoFar (λ v. (U : List Entry) × Backed (worked_again s.earlier v f) v U) p → IfSoFar GoodWorld (second_after s.earlier f p)
   again_good s f good (Failed text) h b = tt
   again_good s f good (SoFar v) h b = go (worked_again s.earlier v f).next refl
     where

@@ -132,9 +132,10 @@ is_bare p = is_none p.steps && is_none p.goals && is_none p.revert && not p.trac
 abbrev pub demo_command : Options → Option Command
 demo_command p = cond (is_bare p) (demo_by p p.demo (limits_in p)) None
 
-abbrev pub go_on : Option Options → (Options → Option Command) → Option Command
-go_on None more = None
-go_on (Some p) more = more p
+-- with options that a flag gave, if it gave some
+abbrev pub with_options : Option Options → (Options → Option Command) → Option Command
+with_options None more = None
+with_options (Some p) more = more p
 
 -- a last word
 abbrev pub last_word : Option Flag → Options → List ℕ → Option Command
@@ -144,8 +145,8 @@ last_word (Some f) p w = None
 -- a word with others behind it: `next` goes on behind it, `later` behind the next word
 abbrev pub first_word : Option Flag → Options → List ℕ → List ℕ → List (List ℕ) → (Options → Option Command) → (Options → Option Command) → Option Command
 first_word None p w v ws next later = books_command p (w ∷ v ∷ ws)
-first_word (Some Trace) p w v ws next later = go_on (with_trace p) next
-first_word (Some (Number c)) p w v ws next later = go_on (with_number p c v) later
+first_word (Some Trace) p w v ws next later = with_options (with_trace p) next
+first_word (Some (Number c)) p w v ws next later = with_options (with_number p c v) later
 
 -- options, each at most once, and then words that are to name books, or none where the demo is asked for
 abbrev pub command_from : List (List ℕ) → Options → Option Command

@@ -160,8 +160,8 @@ abbrev pub ActsAgree : Session → Type 0
 ActsAgree s = (put_by s.acts ≡ s.text) × (stored_by s.acts ≡ s.files)
 
 -- the session passed through this world
-abbrev pub Passed : Session → Shown → Type 0
-Passed s w = (w ≡ start) ⊎ IsTold s.told w
+abbrev pub PassedThrough : Session → Shown → Type 0
+PassedThrough s w = (w ≡ start) ⊎ IsTold s.told w
 
 -- what the reads of the books answered
 abbrev pub reads_in : List BookSeen → List BookRead
@@ -181,7 +181,7 @@ pub record Worked (before after : Option (List ℕ)) (old new : Option Files) (s
 
 -- what holds of a session that was worked so far, also where a fault cut it off
 pub record Kept (s : Session) (a b : AdmittingSeen) : Type 0 where
-  pub passed : Passed s (left_in b)
+  pub passed : PassedThrough s (left_in b)
   pub drops : DividedWalks (notes_in b) (walks_in s.told)
   pub alone : a.workers ≤ 1 → notes_in b ≡ []
 

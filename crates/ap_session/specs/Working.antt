@@ -44,9 +44,9 @@ second_by text None = Failed text
 second_by text (Some v) = SoFar v
 
 -- the second pass of one event more
-abbrev pub one_more : Earlier → Form → Second → Second
-one_more earlier f (Failed text) = Failed text
-one_more earlier f (SoFar v) = second_by (worked_again earlier v f).text (worked_again earlier v f).next
+abbrev pub second_after : Earlier → Form → Second → Second
+second_after earlier f (Failed text) = Failed text
+second_after earlier f (SoFar v) = second_by (worked_again earlier v f).text (worked_again earlier v f).next
 
 -- a refused event leaves the world as it was
 abbrev pub is_refused : Option Shown → Bool
@@ -55,7 +55,7 @@ is_refused (Some w) = false
 
 abbrev pub after : Working → Form → Option Shown → Working
 after s f None = s
-after s f (Some w) = record s { world = w; second = one_more s.earlier f s.second }
+after s f (Some w) = record s { world = w; second = second_after s.earlier f s.second }
 
 abbrev pub turn_of : Working → Form → Done → Turn Working Told
 turn_of s f d = record { text = d.text; refused = is_refused d.next; next = after s f d.next; log = d.told }

@@ -10,7 +10,7 @@ ghost use Rattle.ap_events.specs.Backing.{Backed};
 ghost use Rattle.ap_events.specs.Books.{worked_again};
 ghost use Rattle.ap_session.specs.Admitting.{notes_in, last_world, left_in, IsTold, Behind};
 ghost use Rattle.ap_session.specs.Session.{kept_by};
-ghost use Rattle.ap_session.specs.Working.{working_in, begin, admits, ends, has_failed, one_more, IfSoFar, Stands};
+ghost use Rattle.ap_session.specs.Working.{working_in, begin, admits, ends, has_failed, second_after, IfSoFar, Stands};
 
 use crate::second::Second;
 use crate::start::starting_world;
@@ -28,7 +28,7 @@ use std::thread::Threads;
 
 /// What an event came to: what it printed, whether it was refused, and how many goals its attempts visited.
 #[derive(Drop)]
-pub(crate) struct Done {
+pub(crate) struct Turn {
     pub(crate) text: Bytes,
     pub(crate) refused: bool,
     pub(crate) goals: usize,
@@ -83,12 +83,12 @@ fn pass_on(
 ) -> Result<(), NoMemory>
     requires functions { IfSoFar (λ v. HasFunctions (function_of v.entries)) second.old }
     requires backed { admitted ≡ true → IfSoFar (λ v. (U : List Entry) × Backed (worked_again earlier.now v form.now) v U) second.old }
-    ensures ok { OnOk result (second.new ≡ cond admitted (one_more earlier.now form.now second.old) second.old) }
+    ensures ok { OnOk result (second.new ≡ cond admitted (second_after earlier.now form.now second.old) second.old) }
     ensures err { OnErr result (second.new ≡ second.old) }
     ensures functions { IfSoFar (λ v. HasFunctions (function_of v.entries)) second.new }
 {
     if admitted {
-        second.work(alloc, earlier, form)
+        second.do_again(alloc, earlier, form)
     } else {
         Ok(())
     }
@@ -255,7 +255,7 @@ impl<G: Gate + Sync> Admitting<'_, G> {
         rt: &R,
         alloc: Global,
         form: &Form,
-    ) -> Result<Done, NoMemory>
+    ) -> Result<Turn, NoMemory>
         ensures turn { IfOk result (λ d. Shows (admits self.old.working form.now) d.text d.refused self.new.working) }
         ensures goals { IfOk result (λ d. d.goals ≡ goals_in (admits self.old.working form.now).log) }
         ensures behind { Behind self.old self.new (admits self.old.working form.now).log }
@@ -273,7 +273,7 @@ impl<G: Gate + Sync> Admitting<'_, G> {
             self.gate,
         )?;
         self.last = done.drops.into_vec();
-        Ok(Done {
+        Ok(Turn {
             text: done.text,
             refused: !done.admitted,
             goals: done.goals,

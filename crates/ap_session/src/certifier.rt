@@ -20,7 +20,7 @@ ghost use Rattle.ap_session.specs.Certs.{EndsOtherwise};
 ghost use Rattle.ap_session.specs.Storing.{Stored, StoredPart};
 ghost use Rattle.ap_session.specs.Working.{start, bare};
 ghost use Rattle.ap_session.specs.Admitting.{notes_in, left_in};
-ghost use Rattle.ap_session.specs.Session.{session, worked_books, Worked, Kept, status_of, fault_status, usage, output, acts_of, ActsAgree, Passed, reads_in, file_name, IsNext, Listed, is_done, EndsItself};
+ghost use Rattle.ap_session.specs.Session.{session, worked_books, Worked, Kept, status_of, fault_status, usage, output, acts_of, ActsAgree, PassedThrough, reads_in, file_name, IsNext, Listed, is_done, EndsItself};
 ghost use Rattle.ap_session.specs.Command.{command_of, books_in, workers_in, of_books, of_demo, shown_order, shown_demo};
 
 use crate::admitting::Admitting;
@@ -96,7 +96,7 @@ fn read_next<L: Library>(
 }
 
 /// Whether all are certified where these and this one are.
-fn both(all: bool, good: bool) -> bool
+fn all_with(all: bool, good: bool) -> bool
     ensures { result ≡ (all && good) }
 {
     all && good
@@ -147,7 +147,7 @@ fn work_books<R: Threads + Wait + Sync, L: Library, S: Sink, G: Gate + Sync>(
             library,
             sink,
         )?;
-        certified = both(certified, good);
+        certified = all_with(certified, good);
     }
     Ok(certified)
 }
@@ -282,7 +282,7 @@ fn certify_books<R: Threads + Wait + Sync, L: Library, S: Sink, G: Gate + Sync>(
     ensures world { let c = Some (of_books (shown_order order.entry)) in is_done result.status ≡ true → (session c (reads_in result.books)).last ≡ result.world }
     ensures part { let c = Some (of_books (shown_order order.entry)) in is_done result.status ≡ false → GainedPart (S.content sink.old) (S.content sink.new) (output c (session c (reads_in result.books)) result.drops) }
     ensures whole { let c = Some (of_books (shown_order order.entry)) in result.status ≡ Status.ReadFault → Gained (S.content sink.old) (S.content sink.new) (session c (reads_in result.books)).text }
-    ensures passed { let c = Some (of_books (shown_order order.entry)) in Passed (session c (reads_in result.books)) result.world }
+    ensures passed { let c = Some (of_books (shown_order order.entry)) in PassedThrough (session c (reads_in result.books)) result.world }
     ensures sound { Sound result.world.entries }
     ensures drops { let c = Some (of_books (shown_order order.entry)) in DividedWalks result.drops (walks_in (session c (reads_in result.books)).told) }
     ensures alone { order.entry.workers ≤ 1 → result.drops ≡ [] }
@@ -331,7 +331,7 @@ fn certify_demo<R: Threads + Wait + Sync, S: Sink, G: Gate + Sync>(
     ensures status { let c = Some (of_demo (shown_demo demo)) in is_done result.status ≡ true → result.status ≡ status_of c (session c (reads_in result.books)).certified }
     ensures world { let c = Some (of_demo (shown_demo demo)) in is_done result.status ≡ true → (session c (reads_in result.books)).last ≡ result.world }
     ensures part { let c = Some (of_demo (shown_demo demo)) in is_done result.status ≡ false → GainedPart (S.content sink.old) (S.content sink.new) (output c (session c (reads_in result.books)) result.drops) }
-    ensures passed { let c = Some (of_demo (shown_demo demo)) in Passed (session c (reads_in result.books)) result.world }
+    ensures passed { let c = Some (of_demo (shown_demo demo)) in PassedThrough (session c (reads_in result.books)) result.world }
     ensures sound { Sound result.world.entries }
     ensures drops { let c = Some (of_demo (shown_demo demo)) in DividedWalks result.drops (walks_in (session c (reads_in result.books)).told) }
     ensures alone { demo.workers ≤ 1 → result.drops ≡ [] }
@@ -444,7 +444,7 @@ pub fn certify<R: Threads + Wait + Sync, L: Library, S: Sink, G: Gate + Sync>(
     ensures whole { let c = command_of (map string_bytes words.now) in result.status ≡ Status.ReadFault → Gained (S.content sink.old) (S.content sink.new) (session c (reads_in result.books)).text }
 
     // and the world is one that the session passed through, or with want of memory the one of no entries
-    ensures passed { let c = command_of (map string_bytes words.now) in Passed (session c (reads_in result.books)) result.world ⊎ ((result.status ≡ Status.NoMemory) × (result.world ≡ bare)) }
+    ensures passed { let c = command_of (map string_bytes words.now) in PassedThrough (session c (reads_in result.books)) result.world ⊎ ((result.status ≡ Status.NoMemory) × (result.world ≡ bare)) }
 
     // every function of the world, and of each that the session passed through, is total, and every theorem is true
     ensures sound { Sound result.world.entries }

@@ -5,7 +5,7 @@ ghost use Rattle.ap_world.specs.Sound.{HasFunctions};
 ghost use Rattle.ap_world.specs.World.{function_of};
 ghost use Rattle.ap_events.specs.Backing.{Backed};
 ghost use Rattle.ap_events.specs.Books.{worked_again};
-ghost use Rattle.ap_session.specs.Working.{IfSoFar, one_more, end_text, has_failed, world_of, Leaves};
+ghost use Rattle.ap_session.specs.Working.{IfSoFar, second_after, end_text, has_failed, world_of, Leaves};
 
 use ap_books::Ended;
 use ap_events::{KeptBook, Outcome, Ruled, work_again};
@@ -49,7 +49,7 @@ fn again(
 impl Second {
     /// Does an event of the book again: the second pass goes on, or ends where the event is refused. Where memory is
     /// wanting it is as it was.
-    pub(crate) fn work(
+    pub(crate) fn do_again(
         &mut self,
         alloc: Global,
         earlier: &[KeptBook],
@@ -57,7 +57,7 @@ impl Second {
     ) -> Result<(), NoMemory>
         requires functions { IfSoFar (λ v. HasFunctions (function_of v.entries)) self.old }
         requires backed { IfSoFar (λ v. (U : List Entry) × Backed (worked_again earlier.now v form.now) v U) self.old }
-        ensures ok { OnOk result (self.new ≡ one_more earlier.now form.now self.old) }
+        ensures ok { OnOk result (self.new ≡ second_after earlier.now form.now self.old) }
         ensures err { OnErr result (self.new ≡ self.old) }
         ensures functions { IfSoFar (λ v. HasFunctions (function_of v.entries)) self.new }
     {

@@ -4,7 +4,7 @@ use Rattle.ap_outside.proofs.Gains.{gained_more, part_first, part_next, rose_wit
 use Rattle.ap_session.specs.Admitting.{left_in}
 use Rattle.ap_session.specs.Command.{shown_demo}
 use Rattle.ap_session.specs.Working.{start}
-use Rattle.ap_session.specs.Session.{Passed, demo_session, is_done}
+use Rattle.ap_session.specs.Session.{PassedThrough, demo_session, is_done}
 use Rattle.ap_session.proofs.Demoing.{led_passed, led_drops, led_alone}
 use Rattle.ap_session.proofs.Sessions.{only_read, only_write, not_done}
 use Rattle.ap_session.proofs.certifier.certify_demo.Goals as goal
@@ -28,13 +28,13 @@ pub returns-in-Ok-clause-passed : goal.returns-in-Ok-clause-passed
 returns-in-Ok-clause-passed g c =
     let s = demo_session (shown_demo c.args.demo) in
     let begun : left_in c.new-admitting.result ≡ start = c.new-admitting.ensures.left ∙ c.requires.begun in
-    subst (λ w. Passed s w) (sym c.end.ensures.world) (led_passed s c.new-admitting.result c.show_demo-ended.new.admitting begun c.show_demo-ended.ensures.led)
+    subst (λ w. PassedThrough s w) (sym c.end.ensures.world) (led_passed s c.new-admitting.result c.show_demo-ended.new.admitting begun c.show_demo-ended.ensures.led)
 
 pub returns-in-Err-clause-passed : goal.returns-in-Err-clause-passed
 returns-in-Err-clause-passed g c =
     let s = demo_session (shown_demo c.args.demo) in
     let begun : left_in c.new-admitting.result ≡ start = c.new-admitting.ensures.left ∙ c.requires.begun in
-    subst (λ w. Passed s w) (sym c.cut_off.ensures.world) (led_passed s c.new-admitting.result c.show_demo-ended.new.admitting begun c.show_demo-ended.ensures.led)
+    subst (λ w. PassedThrough s w) (sym c.cut_off.ensures.world) (led_passed s c.new-admitting.result c.show_demo-ended.new.admitting begun c.show_demo-ended.ensures.led)
 
 pub returns-in-Ok-clause-drops : goal.returns-in-Ok-clause-drops
 returns-in-Ok-clause-drops g c =

@@ -43,7 +43,7 @@ loop-name-preserved g c =
     let front = fronted lib name books new next c.as_slice-listed.result.now c.len-place.result c.as_slice-listed.ensures c.len-place.ensures in
     record {
       count = ap length next.listed ∙ length-append books (next.book ∷ []) ∙ ap (λ k. k + 1) inv.count;
-      so_far = subst (λ (all : _). SoFar (content c.args.sink.now) (content c.work_book.new.sink) files end names c.args.admitting.now c.work_book.new.admitting new all) (sym c.both-certified.ensures)
+      so_far = subst (λ (all : _). SoFar (content c.args.sink.now) (content c.work_book.new.sink) files end names c.args.admitting.now c.work_book.new.admitting new all) (sym c.all_with-certified.ensures)
           (so_far_more (content c.args.sink.now) (content c.loop-name.sink) (content c.work_book.new.sink) files lib end names c.args.admitting.now c.loop-name.admitting c.work_book.new.admitting books new c.loop-name.certified c.in_ok-good.good name book
           within at next same inv.so_far (read_body c.loop-name.admitting.working.limits c.loop-name.admitting.working.earlier book.read) refl
           c.in_ok-good.ensures.text (subst (λ (fs : _). Stored fs end (files_by (seen_in books) book.name.0 book.read (read_body c.loop-name.admitting.working.limits c.loop-name.admitting.working.earlier book.read).certified)) c.in_ok-read_next.ensures.files
