@@ -3,8 +3,12 @@
 //! manual's topics `local`, `progn`, `encapsulate` and `include-book`.
 //!
 //! [`work`] does an event in a world with the index of its rules, which goes on to the next event, and [`work_again`] does
-//! it a second time, without hints and proofs, in a world from which what is local is left out. [`event`], [`event_again`]
-//! and [`include`] do one in a world alone, and make the index first.
+//! it a second time, without hints and proofs, in a world from which what is local is left out: `ap_session` calls the two,
+//! for each form of a book, and [`held_in`] for a certificate. [`event`], [`event_again`] and [`include`] do one in a world
+//! alone, and make the index first; tests call them.
+//!
+//! Nothing is kept from one event to the next: the caller has the world with its index, and the books that may be included
+//! ([`KeptBook`]).
 #![tactic(auto)]
 
 mod again;
