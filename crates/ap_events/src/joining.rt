@@ -79,8 +79,8 @@ pub(crate) fn silent(alloc: Global, outcome: Outcome) -> Outcome
     }
 }
 
-/// What a second pass prints that is refused, by the text of its events.
-pub(crate) fn second_text(alloc: Global, text: &[u8]) -> Result<Bytes, NoMemory>
+/// What a second pass prints that is refused, of an `encapsulate` or of a book, by the text of its events.
+pub fn second_text(alloc: Global, text: &[u8]) -> Result<Bytes, NoMemory>
     ensures { IfOk result (λ t. t ≡ line (codes "Second pass") ++ text.now) }
 {
     let mut all = Bytes::from_slice(alloc, b"Second pass\n")?;

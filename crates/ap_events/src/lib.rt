@@ -32,6 +32,7 @@ pub use ap_world::World;
 pub use end::EventEnd;
 pub use heads::{event, event_again, include};
 pub use held::{Held, held_in};
+pub use joining::second_text;
 pub use kept::KeptBook;
 pub use laws::{
     again_is_covered, again_misses_a_name, nested_events_are_sound, singles_are_held, worlds_grow,

@@ -8,7 +8,7 @@ ghost use Rattle.ap_events.specs.Books.{worked_again};
 ghost use Rattle.ap_session.specs.Working.{IfSoFar, second_after, end_text, has_failed, world_of, Leaves};
 
 use ap_books::Ended;
-use ap_events::{KeptBook, Outcome, Ruled, work_again};
+use ap_events::{KeptBook, Outcome, Ruled, second_text, work_again};
 use ap_list::{Bytes, NoMemory};
 use ap_reader::Form;
 use ap_world::World;
@@ -85,8 +85,7 @@ impl Second {
                 refused: false,
             }),
             Second::Failed(refused) => {
-                let mut text = Bytes::from_slice(alloc, b"Second pass\n")?;
-                text.extend(refused.as_slice())?;
+                let text = second_text(alloc, refused.as_slice())?;
                 Ok(Ended {
                     text,
                     refused: true,
