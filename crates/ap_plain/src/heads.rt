@@ -6,8 +6,8 @@ ghost use Rattle.ap_term.specs.Printed.{symbol_text};
 ghost use Rattle.ap_plain.specs.Drops.{DividedWalks};
 ghost use Rattle.ap_plain.specs.Ends.{goals_in, walks_in, refused_alone, Did};
 ghost use Rattle.ap_stated.specs.declared.refusing.Refusal.{Refusal};
-ghost use Rattle.ap_plain.specs.Events.{kind_of, stated_event, theorem_event, defined_event, definition_event, event_by, headed_event, event_with, event_of};
-ghost use Rattle.ap_stated.specs.Shapes.{as_stated, statement_of, as_defined, definition_of};
+ghost use Rattle.ap_plain.specs.Events.{kind_of, theorem_event, definition_event, event_by, headed_event, event_with, event_of};
+ghost use Rattle.ap_stated.specs.Shapes.{statement_of, definition_of};
 
 use crate::attempting::Crew;
 use crate::changes::theory_event;
@@ -21,36 +21,11 @@ use ap_attempt::Gate;
 use ap_list::NoMemory;
 use ap_reader::Form;
 use ap_rules::Ruled;
-use ap_stated::{Definition, Refusal, Statement, definition_in, head, texts, theorem_in};
+use ap_stated::{Refusal, definition_in, head, texts, theorem_in};
 use ap_value::Symbol;
 use std::alloc::Global;
 use std::sync::Wait;
 use std::thread::Threads;
-
-/// Does a theorem's event, by what it states.
-fn stated_event<R: Threads + Wait + Sync, G: Gate + Sync>(
-    crew: &Crew<'_, R, G>,
-    alloc: Global,
-    w: &mut Ruled,
-    statement: &Statement<'_>,
-    limits: &Limits,
-    enabled: bool,
-) -> Result<Outcome, NoMemory>
-    requires functions { HasFunctions (function_of w.old.entries) }
-    ensures done { IfOk result (Did (stated_event limits.now w.old enabled (as_stated statement.now)) w.old w.new) }
-    ensures alone { IfOk result (λ e. crew.now.workers ≤ 1 → e.drops ≡ []) }
-    ensures error { OnErr result (w.new ≡ w.old) }
-{
-    let title = texts::title(alloc, b"DEFTHM", statement.name)?;
-    let asked = Asked {
-        title: title.as_slice(),
-        hints: statement.choices.hints,
-        otf: statement.choices.otf,
-        enabled,
-    };
-    let stated = proposed_theorem(alloc, w, statement)?;
-    proposed_event(crew, alloc, w, limits, &asked, stated)
-}
 
 /// Does the event of a theorem, which is enabled or not.
 #[tactic(auto, unfolding(crate::specs::Events::theorem_event))]
@@ -67,34 +42,17 @@ fn theorem_event<R: Threads + Wait + Sync, G: Gate + Sync>(
     ensures alone { IfOk result (λ e. crew.now.workers ≤ 1 → e.drops ≡ []) }
     ensures error { OnErr result (w.new ≡ w.old) }
 {
-    match theorem_in(f) {
-        Some(statement) => stated_event(crew, alloc, w, &statement, limits, enabled),
-        None => refused_alone(alloc, b"DEFTHM", Refusal::BadEvent),
-    }
-}
-
-/// Does a definition's event, by what it defines.
-fn defined_event<R: Threads + Wait + Sync, G: Gate + Sync>(
-    crew: &Crew<'_, R, G>,
-    alloc: Global,
-    w: &mut Ruled,
-    definition: &Definition<'_>,
-    limits: &Limits,
-    enabled: bool,
-) -> Result<Outcome, NoMemory>
-    requires functions { HasFunctions (function_of w.old.entries) }
-    ensures done { IfOk result (Did (defined_event limits.now w.old enabled (as_defined definition.now)) w.old w.new) }
-    ensures alone { IfOk result (λ e. crew.now.workers ≤ 1 → e.drops ≡ []) }
-    ensures error { OnErr result (w.new ≡ w.old) }
-{
-    let title = texts::title(alloc, b"DEFUN", definition.name)?;
+    let Some(statement) = theorem_in(f) else {
+        return refused_alone(alloc, b"DEFTHM", Refusal::BadEvent);
+    };
+    let title = texts::title(alloc, b"DEFTHM", statement.name)?;
+    let stated = proposed_theorem(alloc, w, &statement)?;
     let asked = Asked {
         title: title.as_slice(),
-        hints: definition.xargs.hints,
-        otf: definition.xargs.otf,
+        hints: statement.choices.hints,
+        otf: statement.choices.otf,
         enabled,
     };
-    let stated = proposed_definition(alloc, w, definition)?;
     proposed_event(crew, alloc, w, limits, &asked, stated)
 }
 
@@ -113,10 +71,18 @@ fn definition_event<R: Threads + Wait + Sync, G: Gate + Sync>(
     ensures alone { IfOk result (λ e. crew.now.workers ≤ 1 → e.drops ≡ []) }
     ensures error { OnErr result (w.new ≡ w.old) }
 {
-    match definition_in(f) {
-        Some(definition) => defined_event(crew, alloc, w, &definition, limits, enabled),
-        None => refused_alone(alloc, b"DEFUN", Refusal::BadEvent),
-    }
+    let Some(definition) = definition_in(f) else {
+        return refused_alone(alloc, b"DEFUN", Refusal::BadEvent);
+    };
+    let title = texts::title(alloc, b"DEFUN", definition.name)?;
+    let stated = proposed_definition(alloc, w, &definition)?;
+    let asked = Asked {
+        title: title.as_slice(),
+        hints: definition.xargs.hints,
+        otf: definition.xargs.otf,
+        enabled,
+    };
+    proposed_event(crew, alloc, w, limits, &asked, stated)
 }
 
 /// Does an event of a kind.
