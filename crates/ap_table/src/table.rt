@@ -1,7 +1,7 @@
 //! The goal table under a lock. Nothing is known of what is under a lock but what its type keeps, so a call says
 //! that there was a table of that type at which it did its one step, or its one look, and not which table. Workers
-//! wait for each other by the history's length: each call that makes it longer wakes all who wait. No clause says
-//! that a waiter wakes.
+//! wait for each other by the history's length: each call that makes it longer wakes who waits, a claim one and the
+//! others all, since a claim leaves no more to do. No clause says that a waiter wakes.
 ghost use Rattle.std.specs.Prelude.{◌≡◌, ◌≤◌, true, false, length, IsTrue, ◌↔◌};
 ghost use Rattle.ap_walk.specs.Visits.{out_children};
 ghost use Rattle.ap_walk.specs.Walks.{full};
@@ -92,7 +92,7 @@ impl<S: Step> Held<S> {
 }
 
 impl<S: Step> GoalTable<S> {
-    /// Claims the first free node in serial order, and wakes all who wait; or no node is free.
+    /// Claims the first free node in serial order, and wakes one who waits; or no node is free.
     pub fn claim(&self, rt: &impl Wait) -> Claim<S::Task>
         ensures { OneStep S.step_of S.depth (λ old new. Claims S.step_of S.depth old new result) }
     {
@@ -101,12 +101,12 @@ impl<S: Step> GoalTable<S> {
         let claim = state.claim_step();
         state.were_allowed();
         if let Claim::Found(_) = &claim {
-            self.moved.notify_all();
+            self.moved.notify_one();
         }
         claim
     }
 
-    /// Claims this node, and wakes all who wait; or it isn't there or isn't free.
+    /// Claims this node, and wakes one who waits; or it isn't there or isn't free.
     pub fn claim_node(&self, rt: &impl Wait, node: u32) -> Claim<S::Task>
         ensures { OneStep S.step_of S.depth (λ old new. ClaimsAt S.step_of S.depth old new node result) }
     {
@@ -115,7 +115,7 @@ impl<S: Step> GoalTable<S> {
         let claim = state.claim_node_step(node);
         state.were_allowed();
         if let Claim::Found(_) = &claim {
-            self.moved.notify_all();
+            self.moved.notify_one();
         }
         claim
     }
@@ -199,7 +199,7 @@ impl<S: Step> GoalTable<S> {
     }
 
     /// Waits until the history is longer than `seen`, the root is done or the table is halted; answers the
-    /// history's length then. The lock is free while it waits. A worker asks for the length first and then looks
+    /// history's length then. Past a claim alone it may wait on. The lock is free while it waits. A worker asks for the length first and then looks
     /// for work: where it finds none and waits with that length, it misses no step that came between.
     pub fn wait_more(&self, rt: &impl Wait, seen: u64) -> u64
         ensures { OneLook S.step_of S.depth (λ run. result ≡ length run.history) }
