@@ -14,11 +14,14 @@ use std::alloc::Global;
 use std::sync::Wait;
 use std::sync::atomic::AtomicU64;
 use std::sync::atomic::Ordering::SeqCst;
-use std::thread::Threads;
+use std::thread::{Builder, Threads};
 use std::{mem, thread};
 
 /// The most workers at one table.
 const MOST_WORKERS: u32 = 64;
+
+/// The stack of a worker's thread, whatever the system gives threads. Its pages are taken only where they are reached.
+const WORKER_STACK: usize = 256 * 1024 * 1024;
 
 /// That a type may cross to another thread, as a fact of the caller's proof. Costs nothing.
 fn may_cross<T: Send>()
@@ -61,9 +64,11 @@ where
                 && threads.reserve(1).is_ok()
             {
                 let worker = next;
-                let started = scope.spawn(move || work(
-                    rt, alloc, step, table, hands, goals, worker, gate,
-                ));
+                let started = Builder::new()
+                    .stack_size(WORKER_STACK)
+                    .spawn_scoped(scope, move || {
+                        work(rt, alloc, step, table, hands, goals, worker, gate)
+                    });
                 if let Ok(thread) = started {
                     threads.push_reserved(thread);
                 }

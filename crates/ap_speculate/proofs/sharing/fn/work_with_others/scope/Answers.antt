@@ -10,8 +10,8 @@ use Rattle.ap_speculate.proofs.Crossing.{table_sync}
 use Rattle.ap_speculate.proofs.sharing.fn.work_with_others.scope.Goals as goal
 
 -- what the thread's closure holds: a handle, a step, a gate and a table, all by reference
-pub spawn-started-requires-send-F : goal.spawn-started-requires-send-F
-spawn-started-requires-send-F g c κs within =
+pub spawn_scoped-started-requires-send-F : goal.spawn_scoped-started-requires-send-F
+spawn_scoped-started-requires-send-F g c κs within =
     let bounds = c.requires.1.1.1.1 in
     let word_send : IsSend word.the_row = record { owned = c.may_cross.ensures.owned; leaving = λ k. c.may_cross.ensures.leaving yes } in
     let word_sync : IsSync word.the_row = record { shared = c.may_be_shared.ensures.shared } in
