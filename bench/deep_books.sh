@@ -5,8 +5,8 @@
 # and events of a hundred thousand parts. Without a KIND it takes all; N is the size of one, in place of what the table below
 # gives it. For each run it prints how it ended, the most that a stack held, in KiB, of the main thread and of the others, and
 # the last line, cut. A run that ends by a fault of the machine is searched for the least N that does so too. Status 1 where
-# one ended by another status than 0 or 1. It wants cc and python3. SECONDS_OF=S is the processor time that a run may take
-# (120).
+# one ended by another status than 0, 1 or 5, which is want of memory: for a goal of more than 65,536 calls within each
+# other. It wants cc and python3. SECONDS_OF=S is the processor time that a run may take (120).
 here=$(cd "$(dirname "$0")/.." && pwd)
 program=$here/out/acl2p
 if [ -x "$1" ] && [ ! -d "$1" ]; then program=$1 && shift; fi
@@ -166,7 +166,8 @@ BOOKS = {
     "inequalities": (800, lambda n: theorem(f"(implies (and {many('(< xI yI)', n)}) (< x z))")),
     "sums of inequalities": (300, lambda n: theorem(f"(implies (and {many('(< (+ xI yI) z)', n)}) (< x z))")),
     "equal variables": (250, lambda n: theorem(f"(implies (and {many('(equal xI yI)', n)}) z)")),
-    "equalities": (40, equalities),
+    "equalities": (16, equalities),
+    "equalities for which the stack has no room": (17, equalities),
     "instances": (4000, instances),
     "literals": (2000, literals),
     "induction": (4000, induction),
@@ -245,7 +246,7 @@ def least(kind, n, workers):
 
 
 def main():
-    failed, deepest = 0, {1: (0, ""), 4: (0, "")}
+    failed, spent, deepest = 0, 0, {1: (0, ""), 4: (0, "")}
     for word in KINDS or BOOKS:
         kind, _, size = word.partition("=")
         n = int(size) if size else BOOKS[kind][0]
@@ -254,7 +255,8 @@ def main():
             status, told, held = run(kind, n, workers)
             print(f"{kind} {n}, {workers} workers: status {status}, {held[0]} and {held[1]} KiB, {time.time() - begun:.1f} s: {told[:100]}",
                   flush=True)
-            if status not in (0, 1):
+            spent += status == 5
+            if status not in (0, 1, 5):
                 failed += 1
                 if status == -11:
                     print(f"    a fault of the machine, from {kind}={least(kind, n, workers)} on", flush=True)
@@ -262,7 +264,7 @@ def main():
                 deepest[workers] = max(deepest[workers], (max(map(int, held)), kind))
     for workers, (held, kind) in deepest.items():
         print(f"with {workers} workers the deepest run that ended held {held} KiB of a stack: {kind}")
-    print(f"{failed} runs ended otherwise than by status 0 or 1")
+    print(f"{spent} runs ended by status 5, {failed} otherwise than by status 0, 1 or 5")
     return 1 if failed else 0
 
 

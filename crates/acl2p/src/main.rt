@@ -15,7 +15,14 @@ use std::alloc::{AllocError, Global};
 use std::env::Args;
 use std::io::ErrorKind;
 use std::process::ExitCode;
-use std::{env, io};
+use std::rt::Files;
+use std::sync::Wait;
+use std::thread::{Builder, Threads};
+use std::{env, io, thread};
+
+/// The stack of the thread that does the work, by which a goal's terms may be as deep as its step lets them. Its pages are
+/// taken only where they are reached.
+const STACK: usize = 256 * 1024 * 1024;
 
 /// The words behind the program's name, of what the system answered for all of them. Words that are no text are no
 /// command, as none are.
@@ -46,22 +53,31 @@ fn exit(status: Status) -> u8
     }
 }
 
+/// Works what the words ask for, over the current folder and standard output.
+fn worked<R: Files + Print + Threads + Wait + Sync>(
+    rt: &R,
+    alloc: Global,
+    words: &[String],
+) -> Status {
+    let mut library = FolderLibrary::new(rt);
+    let mut sink = WriterSink::new(io::writer(rt));
+    let report = certify(rt, alloc, words, &mut library, &mut sink, &NoGate);
+    report.status
+}
+
 fn main(rt: HostRuntime) -> ExitCode {
     let alloc = rt.alloc();
     let status = match words_of(alloc, env::args(&rt)) {
-        Ok(words) => {
-            let mut library = FolderLibrary::new(&rt);
-            let mut sink = WriterSink::new(io::writer(&rt));
-            certify(
-                &rt,
-                alloc,
-                words.as_slice(),
-                &mut library,
-                &mut sink,
-                &NoGate,
-            )
-            .status
-        }
+        Ok(words) => thread::scope(thread::scope_env(), &rt, |scope| {
+            let words = words.as_slice();
+            let started = Builder::new()
+                .stack_size(STACK)
+                .spawn_scoped(scope, || worked(&rt, alloc, words));
+            match started {
+                Ok(thread) => thread.join(&rt),
+                Err(_) => Status::NoMemory,
+            }
+        }),
         Err(_) => Status::NoMemory,
     };
     let mut errors = WriterSink::new(rt.stderr());

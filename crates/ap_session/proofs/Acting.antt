@@ -13,7 +13,7 @@ use Rattle.ap_session.specs.Certs.{Seen, files_by}
 use Rattle.ap_session.specs.Session.{book_text, end_acts, book_acts}
 use Rattle.ap_session.specs.Storing.{Stored, StoredPart}
 use Rattle.ap_session.specs.Working.{Working}
-use Rattle.ap_session.specs.Acts.{Act, put, store, put_by, stored_by, Outside, outside, Acted, Begun, FailedAt, Tied}
+use Rattle.ap_session.specs.Acts.{Act, put, store, put_by, stored_by, Outside, outside, Acted, Begun, FailedAt, GainedLess, Tied}
 use Rattle.ap_session.proofs.Storing.{stored_none, stored_more}
 
 -- what acts put and store, one list of them behind another
@@ -80,20 +80,20 @@ begun_first a b [] ys h = begun_none a b ys h
 begun_first a b (put t ∷ xs) ys h = h
 begun_first a b (store f ∷ xs) ys h = h
 
-failed_first : (a b : Outside) (xs ys : List Act) → FailedAt a b xs → FailedAt a b (xs ++ ys)
-failed_first a b [] ys h = absurd h
-failed_first a b (put t ∷ xs) ys h = h
-failed_first a b (store f ∷ xs) ys h = h
+failed_first : (a m b : Outside) (xs ys : List Act) → FailedAt a m b xs → FailedAt a m b (xs ++ ys)
+failed_first a m b [] ys h = absurd h
+failed_first a m b (put t ∷ xs) ys h = h
+failed_first a m b (store f ∷ xs) ys h = h
 
 -- no count fell
 pub record Later (a b : Outside) : Type 0 where
   pub puts : a.puts ≤ b.puts
   pub stores : a.stores ≤ b.stores
 
-failed_next : (a b c : Outside) (acts : List Act) → Later a b → Later b c → FailedAt b c acts → FailedAt a c acts
-failed_next a b c [] h k f = f
-failed_next a b c (put t ∷ acts) h k f = rose_within a.puts b.puts c.puts c.puts h.puts k.puts f (omega arith)
-failed_next a b c (store g ∷ acts) h k f = rose_within a.stores b.stores c.stores c.stores h.stores k.stores f (omega arith)
+failed_next : (a b m c : Outside) (acts : List Act) → Later a b → Later b c → FailedAt b m c acts → FailedAt a m c acts
+failed_next a b m c [] h k f = f
+failed_next a b m c (put t ∷ acts) h k f = (rose_within a.puts b.puts c.puts c.puts h.puts k.puts f.0 (omega arith), f.1)
+failed_next a b m c (store g ∷ acts) h k f = rose_within a.stores b.stores c.stores c.stores h.stores k.stores f (omega arith)
 
 -- cut off within the first of some acts
 pub tied_first : (a b : Outside) (failed : Type 0) (xs ys : List Act) → Tied a b failed xs → Tied a b failed (xs ++ ys)
@@ -104,7 +104,7 @@ tied_first a b failed xs ys h = record {
   between = h.between;
   first = h.first;
   cut = begun_first h.between b h.rest ys h.cut;
-  cause = λ f. failed_first a b h.rest ys (h.cause f);
+  cause = λ f. failed_first a h.between b h.rest ys (h.cause f);
 }
 
 -- within the others
@@ -116,7 +116,7 @@ tied_next a b c failed xs ys l m h k = record {
   between = k.between;
   first = acted_more a b k.between xs k.done h k.first;
   cut = k.cut;
-  cause = λ f. failed_next a b c k.rest l m (k.cause f);
+  cause = λ f. failed_next a b k.between c k.rest l m (k.cause f);
 }
 
 -- behind them all
@@ -144,15 +144,15 @@ tied_none a b failed acts none c f = record {
 }
 
 -- within a text
-pub tied_put : (a b : Outside) (failed : Type 0) (t : List ℕ) (acts : List Act) → (failed → Rose a.puts b.puts) → GainedPart a.content b.content t → b.files ≡ a.files → Tied a b failed (put t ∷ acts)
-tied_put a b failed t acts rose part same = record {
+pub tied_put : (a b : Outside) (failed : Type 0) (t : List ℕ) (acts : List Act) → (failed → Rose a.puts b.puts) → (failed → GainedLess a.content b.content t) → GainedPart a.content b.content t → b.files ≡ a.files → Tied a b failed (put t ∷ acts)
+tied_put a b failed t acts rose less part same = record {
   done = [];
   rest = put t ∷ acts;
   whole = refl;
   between = a;
   first = acted_none a a refl refl;
   cut = (part, stored_none a.files b.files same);
-  cause = rose;
+  cause = λ f. (rose f, less f);
 }
 
 -- within a store
@@ -168,8 +168,8 @@ tied_store a b failed f acts rose same part = record {
 }
 
 -- within a text behind stores
-pub tied_end : (a b : Outside) (failed : Type 0) (fs : Files) (t : List ℕ) → (failed → Rose a.puts b.puts) → GainedPart a.content b.content t → Stored a.files b.files fs → Tied a b failed (map store fs ++ put t ∷ [])
-tied_end a b failed fs t rose part stored = record {
+pub tied_end : (a b : Outside) (failed : Type 0) (fs : Files) (t : List ℕ) → (failed → Rose a.puts b.puts) → (failed → GainedLess a.content b.content t) → GainedPart a.content b.content t → Stored a.files b.files fs → Tied a b failed (map store fs ++ put t ∷ [])
+tied_end a b failed fs t rose less part stored = record {
   done = map store fs;
   rest = put t ∷ [];
   whole = refl;
@@ -179,7 +179,7 @@ tied_end a b failed fs t rose part stored = record {
     files = subst (λ gs. Stored a.files b.files gs) (sym (stored_stores fs)) stored;
   };
   cut = (part, stored_none b.files b.files refl);
-  cause = rose;
+  cause = λ f. (rose f, less f);
 }
 
 -- by another word for the failure

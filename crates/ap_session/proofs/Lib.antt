@@ -13,4 +13,5 @@ pub mod Settings
 pub mod Soundness
 pub mod Starting
 pub mod Storing
+pub mod Unput
 pub mod Words

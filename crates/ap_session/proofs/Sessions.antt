@@ -20,7 +20,7 @@ use Rattle.ap_world.specs.World.{Shown}
 use Rattle.ap_session.specs.declared.fault.Fault.{Fault}
 use Rattle.ap_session.specs.declared.fault.Fault.TheVariants as faults
 use Rattle.ap_session.specs.declared.report.Status.TheVariants.{ReadFault, WriteFault}
-use Rattle.ap_session.specs.Acts.{put, put_by, stored_by, Outside, Acted, Tied}
+use Rattle.ap_session.specs.Acts.{put, put_by, stored_by, Outside, Acted, GainedLess, Tied}
 use Rattle.ap_session.specs.Certs.{Seen, seen_in, files_by}
 use Rattle.ap_session.specs.Command.{Command, Order, of_books, of_demo}
 use Rattle.ap_session.specs.Storing.{Stored, StoredPart}
@@ -380,16 +380,16 @@ command_tied from now failed other c a books new drops l e to h =
 -- and behind them, at what tells of drops
 pub command_traced : (from mid now : Outside) (failed : Type 0) (c : Order) (a b : AdmittingSeen) (books new : List BookSeen) (drops : List DropNote) (all : Bool) → a.working.limits ≡ c.limits → new ≡ books
     → Later from mid → Later mid now → Worked from.content mid.content from.files mid.files (worked_books a c.books books) all b
-    → (failed → Rose mid.puts now.puts) → GainedPart mid.content now.content (traced (Some (of_books c)) drops) → now.files ≡ mid.files
+    → (failed → Rose mid.puts now.puts) → (failed → GainedLess mid.content now.content (traced (Some (of_books c)) drops)) → GainedPart mid.content now.content (traced (Some (of_books c)) drops) → now.files ≡ mid.files
     → Tied from now failed (acts_of (Some (of_books c)) (session (Some (of_books c)) (reads_in new)) drops)
-command_traced from mid now failed c a b books new drops all l e before after worked rose part stay =
+command_traced from mid now failed c a b books new drops all l e before after worked rose less part stay =
     subst (λ (s : Session). Tied from now failed (acts_of (Some (of_books c)) s drops)) (command_session c a books new l e)
     (tied_next from mid now failed (worked_books a c.books books).acts (put (traced (Some (of_books c)) drops) ∷ []) before after
     (worked_acted from mid mid.files c.books a b books all worked refl)
-    (tied_put mid now failed (traced (Some (of_books c)) drops) [] rose part stay))
+    (tied_put mid now failed (traced (Some (of_books c)) drops) [] rose less part stay))
 
 -- one text, and no more
-pub text_tied : (from now : Outside) (failed : Type 0) (text : List ℕ) → (failed → Rose from.puts now.puts) → GainedPart from.content now.content (text ++ []) → now.files ≡ from.files
+pub text_tied : (from now : Outside) (failed : Type 0) (text : List ℕ) → (failed → Rose from.puts now.puts) → (failed → GainedLess from.content now.content text) → GainedPart from.content now.content (text ++ []) → now.files ≡ from.files
     → Tied from now failed (put text ∷ put [] ∷ [])
-text_tied from now failed text rose part stay =
-    tied_put from now failed text (put [] ∷ []) rose (part_to from.content now.content (text ++ []) text part (append-nil text)) stay
+text_tied from now failed text rose less part stay =
+    tied_put from now failed text (put [] ∷ []) rose less (part_to from.content now.content (text ++ []) text part (append-nil text)) stay

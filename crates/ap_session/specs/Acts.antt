@@ -1,10 +1,18 @@
 -- What a session does to the outside, one act after another, and how far what was put and what was stored may be apart where
 -- a fault cut it off: by a part of one act.
-use Rattle.std.specs.Prelude.{◌≡◌, ℕ, List, [], ◌∷◌, ◌++◌, Option}
+use Rattle.std.specs.Prelude.{◌≡◌, ◌≢◌, ℕ, List, [], ◌∷◌, ◌++◌, Option}
 use Rattle.ap_outside.specs.Faults.{Rose}
 use Rattle.ap_outside.specs.Files.{Files}
 use Rattle.ap_outside.specs.Gains.{Gained, GainedPart}
 use Rattle.ap_session.specs.Storing.{Stored, StoredPart}
+
+-- it gained a prefix of this text, and something of the text is left
+pub record GainedLess (before after : Option (List ℕ)) (text : List ℕ) : Type 0 where
+  pub part : List ℕ
+  pub rest : List ℕ
+  pub whole : text ≡ part ++ rest
+  pub gained : Gained before after part
+  pub left : rest ≢ []
 
 -- a text is put, or a file is stored
 pub data Act : Type 0 where
@@ -44,11 +52,12 @@ Begun before after (put text ∷ acts) = GainedPart before.content after.content
 Begun before after (store file ∷ acts) =
     Gained before.content after.content [] × StoredPart before.files after.files (file ∷ [])
 
--- the first of these acts is the one that failed, which was counted
-abbrev pub FailedAt : Outside → Outside → List Act → Type 0
-FailedAt before after [] = ⊥
-FailedAt before after (put text ∷ acts) = Rose before.puts after.puts
-FailedAt before after (store file ∷ acts) = Rose before.stores after.stores
+-- The first of these acts, which begins at `between`, is the one that failed, which was counted. Of a text that failed
+-- something wasn't put.
+abbrev pub FailedAt : Outside → Outside → Outside → List Act → Type 0
+FailedAt before between after [] = ⊥
+FailedAt before between after (put text ∷ acts) = Rose before.puts after.puts × GainedLess between.content after.content text
+FailedAt before between after (store file ∷ acts) = Rose before.stores after.stores
 
 -- The first of these acts were done, of the one behind them at most a part, and of those behind it none. Where an act
 -- failed it is that one.
@@ -59,4 +68,4 @@ pub record Tied (before after : Outside) (failed : Type 0) (acts : List Act) : T
   pub between : Outside
   pub first : Acted before between done
   pub cut : Begun between after rest
-  pub cause : failed → FailedAt before after rest
+  pub cause : failed → FailedAt before between after rest

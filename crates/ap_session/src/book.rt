@@ -4,7 +4,7 @@ ghost use Rattle.ap_outside.specs.Gains.{Gained, GainedPart};
 ghost use Rattle.ap_books.specs.Bodies.{worked, body_by, body_of, forms_by, forms_of, opened};
 ghost use Rattle.ap_books.specs.Texts.{closing};
 ghost use Rattle.ap_events.specs.Held.{held_in};
-ghost use Rattle.ap_session.specs.Acts.{outside, Tied};
+ghost use Rattle.ap_session.specs.Acts.{outside, GainedLess, Tied};
 ghost use Rattle.ap_session.specs.Certs.{seen_in, cert_name, files_by};
 ghost use Rattle.ap_session.specs.Storing.{Stored, StoredPart};
 ghost use Rattle.ap_session.specs.Working.{start, admits, ends, has_failed};
@@ -14,11 +14,12 @@ ghost use Rattle.ap_session.specs.Session.{read_body, kept_by, kept_more, last_o
 use crate::admitting::Admitting;
 use crate::certs::{cert_text, held_of};
 use crate::fault::{Fault, at_write};
+use crate::putting::{put_unread, put_whole};
 use ap_attempt::Gate;
-use ap_books::{BookSeen, Events, closing, events_in, opening, put_text};
+use ap_books::{BookSeen, Events, closing, events_in, opening};
 use ap_events::Held;
 use ap_list::Bytes;
-use ap_outside::{Library, Sink, WriteFault, put_all};
+use ap_outside::{Library, Sink, WriteFault};
 use ap_reader::Form;
 use std::alloc::Global;
 use std::sync::Wait;
@@ -36,12 +37,13 @@ fn show_event<R: Threads + Wait + Sync, G: Gate + Sync, S: Sink>(
     ensures refused { IfOk result (λ b. (admits admitting.old.working form.now).refused ≡ b) }
     ensures next { OnOk result ((admits admitting.old.working form.now).next ≡ admitting.new.working) }
     ensures part { OnErr result (GainedPart (S.content sink.old) (S.content sink.new) (admits admitting.old.working form.now).text) }
+    ensures unput { result ≡ Err WriteFault.Failed → GainedLess (S.content sink.old) (S.content sink.new) (admits admitting.old.working form.now).text }
     ensures behind { Behind admitting.old admitting.new (admits admitting.old.working form.now).log }
     ensures later { S.faults sink.old ≤ S.faults sink.new }
     ensures failed { result ≡ Err WriteFault.Failed → Rose (S.faults sink.old) (S.faults sink.new) }
 {
     let done = admitting.admit(rt, alloc, form)?;
-    put_all(sink, done.text.as_slice())?;
+    put_whole(sink, done.text.as_slice())?;
     Ok(done.refused)
 }
 
@@ -54,11 +56,12 @@ fn show_end<G, S: Sink>(
     ensures text { OnOk result (Gained (S.content sink.old) (S.content sink.new) (ends admitting.now.working).text) }
     ensures refused { IfOk result (λ b. (ends admitting.now.working).refused ≡ b) }
     ensures part { OnErr result (GainedPart (S.content sink.old) (S.content sink.new) (ends admitting.now.working).text) }
+    ensures unput { result ≡ Err WriteFault.Failed → GainedLess (S.content sink.old) (S.content sink.new) (ends admitting.now.working).text }
     ensures later { S.faults sink.old ≤ S.faults sink.new }
     ensures failed { result ≡ Err WriteFault.Failed → Rose (S.faults sink.old) (S.faults sink.new) }
 {
     let ended = admitting.end(alloc)?;
-    put_all(sink, ended.text.as_slice())?;
+    put_whole(sink, ended.text.as_slice())?;
     Ok(ended.refused)
 }
 
@@ -76,6 +79,7 @@ fn show_events<R: Threads + Wait + Sync, G: Gate + Sync, S: Sink>(
     ensures behind { Behind admitting.old admitting.new (worked admits ends forms.now admitting.old.working).log }
     ensures state { OnOk result ((worked admits ends forms.now admitting.old.working).state ≡ admitting.new.working) }
     ensures part { OnErr result (GainedPart (S.content sink.old) (S.content sink.new) (worked admits ends forms.now admitting.old.working).text) }
+    ensures unput { result ≡ Err WriteFault.Failed → GainedLess (S.content sink.old) (S.content sink.new) (worked admits ends forms.now admitting.old.working).text }
     ensures later { S.faults sink.old ≤ S.faults sink.new }
     ensures failed { result ≡ Err WriteFault.Failed → Rose (S.faults sink.old) (S.faults sink.new) }
 {
@@ -100,12 +104,13 @@ fn show_body<R: Threads + Wait + Sync, G: Gate + Sync, S: Sink>(
     ensures behind { Behind admitting.old admitting.new (body_by admits ends events.now admitting.old.working).log }
     ensures state { OnOk result ((body_by admits ends events.now admitting.old.working).state ≡ admitting.new.working) }
     ensures part { OnErr result (GainedPart (S.content sink.old) (S.content sink.new) (body_by admits ends events.now admitting.old.working).text) }
+    ensures unput { result ≡ Err WriteFault.Failed → GainedLess (S.content sink.old) (S.content sink.new) (body_by admits ends events.now admitting.old.working).text }
     ensures later { S.faults sink.old ≤ S.faults sink.new }
     ensures failed { result ≡ Err WriteFault.Failed → Rose (S.faults sink.old) (S.faults sink.new) }
 {
     match events {
         Ok(events) => show_events(rt, alloc, events.as_slice(), admitting, sink),
-        Err(text) => put_text(text.as_slice(), sink),
+        Err(text) => put_unread(sink, text.as_slice()),
     }
 }
 
@@ -124,6 +129,7 @@ fn show_held<R: Threads + Wait + Sync, G: Gate + Sync, S: Sink>(
     ensures behind { Behind admitting.old admitting.new (body_by admits ends events.now admitting.old.working).log }
     ensures state { OnOk result ((body_by admits ends events.now admitting.old.working).state ≡ admitting.new.working) }
     ensures part { OnErr result (GainedPart (S.content sink.old) (S.content sink.new) (body_by admits ends events.now admitting.old.working).text) }
+    ensures unput { result ≡ Err WriteFault.Failed → GainedLess (S.content sink.old) (S.content sink.new) (body_by admits ends events.now admitting.old.working).text }
     ensures later { S.faults sink.old ≤ S.faults sink.new }
     ensures failed { result ≡ Err WriteFault.Failed → Rose (S.faults sink.old) (S.faults sink.new) }
 {
@@ -148,12 +154,13 @@ fn show_opened<R: Threads + Wait + Sync, G: Gate + Sync, S: Sink>(
     ensures held { IfOk result (λ o. IfSome o (λ h. h ≡ held_in (forms_of book.now.read))) }
     ensures state { OnOk result ((body_of admits ends book.now.read admitting.old.working).state ≡ admitting.new.working) }
     ensures part { OnErr result (GainedPart (S.content sink.old) (S.content sink.new) (opened book.now.name.0 (body_of admits ends book.now.read admitting.old.working))) }
+    ensures unput { result ≡ Err WriteFault.Failed → GainedLess (S.content sink.old) (S.content sink.new) (opened book.now.name.0 (body_of admits ends book.now.read admitting.old.working)) }
     ensures behind { Behind admitting.old admitting.new (body_of admits ends book.now.read admitting.old.working).log }
     ensures later { S.faults sink.old ≤ S.faults sink.new }
     ensures failed { result ≡ Err WriteFault.Failed → Rose (S.faults sink.old) (S.faults sink.new) }
 {
     let first = opening(alloc, book.name.0.as_slice())?;
-    put_all(sink, first.as_slice())?;
+    put_whole(sink, first.as_slice())?;
     let events = events_in(alloc, &book.read)?;
     show_held(rt, alloc, &events, admitting, sink)
 }
@@ -228,7 +235,7 @@ fn end_book<L: Library, S: Sink>(
 {
     let last = closing(alloc, book.name.0.as_slice(), held.is_some())?;
     store_cert(alloc, name, before, book, held, library)?;
-    put_all(sink, last.as_slice())
+    put_whole(sink, last.as_slice())
 }
 
 /// Puts a book's text, from its first line to its last, and stores its certificate before the last line where it is

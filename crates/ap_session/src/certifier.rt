@@ -15,12 +15,12 @@ ghost use Rattle.ap_books.specs.Bodies.{forms_in};
 ghost use Rattle.ap_plain.specs.Ends.{worlds_in, walks_in};
 ghost use Rattle.ap_plain.specs.Drops.{DividedWalks};
 ghost use Rattle.ap_session.specs.Texts.{usage_text, trace_text};
-ghost use Rattle.ap_session.specs.Acts.{outside, Tied};
+ghost use Rattle.ap_session.specs.Acts.{outside, GainedLess, Tied};
 ghost use Rattle.ap_session.specs.Certs.{EndsOtherwise};
 ghost use Rattle.ap_session.specs.Storing.{Stored, StoredPart};
 ghost use Rattle.ap_session.specs.Working.{start, bare};
 ghost use Rattle.ap_session.specs.Admitting.{notes_in, left_in};
-ghost use Rattle.ap_session.specs.Session.{session, worked_books, Worked, Kept, status_of, fault_status, usage, output, acts_of, ActsAgree, PassedThrough, reads_in, file_name, IsNext, Listed, is_done, EndsItself};
+ghost use Rattle.ap_session.specs.Session.{session, demo_session, worked_books, Worked, Kept, status_of, fault_status, usage, output, acts_of, ActsAgree, PassedThrough, reads_in, file_name, IsNext, Listed, is_done, EndsItself};
 ghost use Rattle.ap_session.specs.Command.{command_of, books_in, workers_in, of_books, of_demo, shown_order, shown_demo};
 
 use crate::admitting::Admitting;
@@ -28,6 +28,7 @@ use crate::book::work_book;
 use crate::command::{Command, Demo, Order, command_in};
 use crate::demo::show_demo;
 use crate::fault::{Fault, at_read, at_write, fault_status};
+use crate::putting::put_whole;
 use crate::report::{Report, Status};
 use crate::start::starting_world;
 use crate::texts;
@@ -36,7 +37,7 @@ use ap_books::{BookSeen, books_are_read_by_the_grammar};
 use ap_events::{Ruled, again_is_covered, nested_events_are_sound, worlds_grow};
 use ap_ground::laws::ground_is_sound;
 use ap_list::{Bytes, NoMemory, Seq};
-use ap_outside::{Library, ReadFault, Sink, WriteFault, put_all};
+use ap_outside::{Library, ReadFault, Sink, WriteFault};
 use ap_value::BookName;
 use ap_world::World;
 use std::alloc::Global;
@@ -161,6 +162,7 @@ fn put_trace<S: Sink>(
 ) -> Result<(), WriteFault>
     ensures text { OnOk result (Gained (S.content sink.old) (S.content sink.new) (cond trace (trace_text notes.now) [])) }
     ensures part { OnErr result (GainedPart (S.content sink.old) (S.content sink.new) (cond trace (trace_text notes.now) [])) }
+    ensures unput { result ≡ Err WriteFault.Failed → GainedLess (S.content sink.old) (S.content sink.new) (cond trace (trace_text notes.now) []) }
     ensures later { S.faults sink.old ≤ S.faults sink.new }
     ensures failed { result ≡ Err WriteFault.Failed → Rose (S.faults sink.old) (S.faults sink.new) }
 {
@@ -168,7 +170,7 @@ fn put_trace<S: Sink>(
         return Ok(());
     }
     let text = texts::trace_text(alloc, notes)?;
-    put_all(sink, text.as_slice())
+    put_whole(sink, text.as_slice())
 }
 
 /// The status of a session whose books were all worked, behind what tells of drops.
@@ -182,6 +184,7 @@ fn end_status<S: Sink>(
     ensures text { is_done result ≡ true → Gained (S.content sink.old) (S.content sink.new) (cond trace (trace_text notes.now) []) }
     ensures status { is_done result ≡ true → result ≡ cond certified Status.Certified Status.NotCertified }
     ensures part { is_done result ≡ false → GainedPart (S.content sink.old) (S.content sink.new) (cond trace (trace_text notes.now) []) }
+    ensures unput { result ≡ Status.WriteFault → GainedLess (S.content sink.old) (S.content sink.new) (cond trace (trace_text notes.now) []) }
     ensures later { S.faults sink.old ≤ S.faults sink.new }
     ensures read { result ≢ Status.ReadFault }
     ensures write { result ≡ Status.WriteFault → Rose (S.faults sink.old) (S.faults sink.new) }
@@ -242,6 +245,7 @@ fn end<G, S: Sink>(
     ensures text { is_done result.status ≡ true → Gained (S.content sink.old) (S.content sink.new) (cond trace (trace_text result.drops) []) }
     ensures status { is_done result.status ≡ true → result.status ≡ cond certified Status.Certified Status.NotCertified }
     ensures part { is_done result.status ≡ false → GainedPart (S.content sink.old) (S.content sink.new) (cond trace (trace_text result.drops) []) }
+    ensures unput { result.status ≡ Status.WriteFault → GainedLess (S.content sink.old) (S.content sink.new) (cond trace (trace_text result.drops) []) }
     ensures books { result.books ≡ books }
     ensures world { result.world ≡ left_in admitting.entry }
     ensures drops { (result.drops ≡ notes_in admitting.entry) ⊎ (result.drops ≡ []) }
@@ -331,6 +335,7 @@ fn certify_demo<R: Threads + Wait + Sync, S: Sink, G: Gate + Sync>(
     ensures status { let c = Some (of_demo (shown_demo demo)) in is_done result.status ≡ true → result.status ≡ status_of c (session c (reads_in result.books)).certified }
     ensures world { let c = Some (of_demo (shown_demo demo)) in is_done result.status ≡ true → (session c (reads_in result.books)).last ≡ result.world }
     ensures part { let c = Some (of_demo (shown_demo demo)) in is_done result.status ≡ false → GainedPart (S.content sink.old) (S.content sink.new) (output c (session c (reads_in result.books)) result.drops) }
+    ensures unput { result.status ≡ Status.WriteFault → GainedLess (S.content sink.old) (S.content sink.new) (demo_session (shown_demo demo)).text }
     ensures passed { let c = Some (of_demo (shown_demo demo)) in PassedThrough (session c (reads_in result.books)) result.world }
     ensures sound { Sound result.world.entries }
     ensures drops { let c = Some (of_demo (shown_demo demo)) in DividedWalks result.drops (walks_in (session c (reads_in result.books)).told) }
@@ -354,10 +359,11 @@ fn certify_demo<R: Threads + Wait + Sync, S: Sink, G: Gate + Sync>(
 fn put_usage<S: Sink>(sink: &mut S) -> Result<(), WriteFault>
     ensures text { OnOk result (Gained (S.content sink.old) (S.content sink.new) usage_text) }
     ensures part { OnErr result (GainedPart (S.content sink.old) (S.content sink.new) usage_text) }
+    ensures unput { result ≡ Err WriteFault.Failed → GainedLess (S.content sink.old) (S.content sink.new) usage_text }
     ensures later { S.faults sink.old ≤ S.faults sink.new }
     ensures failed { result ≡ Err WriteFault.Failed → Rose (S.faults sink.old) (S.faults sink.new) }
 {
-    put_all(sink, texts::USAGE)
+    put_whole(sink, texts::USAGE)
 }
 
 /// The status of a session whose words are no command, behind the usage text.
@@ -365,6 +371,7 @@ fn usage_status<S: Sink>(sink: &mut S) -> Status
     ensures text { is_done result ≡ true → Gained (S.content sink.old) (S.content sink.new) usage_text }
     ensures status { is_done result ≡ true → result ≡ Status.Usage }
     ensures part { is_done result ≡ false → GainedPart (S.content sink.old) (S.content sink.new) usage_text }
+    ensures unput { result ≡ Status.WriteFault → GainedLess (S.content sink.old) (S.content sink.new) usage_text }
     ensures later { S.faults sink.old ≤ S.faults sink.new }
     ensures read { result ≢ Status.ReadFault }
     ensures write { result ≡ Status.WriteFault → Rose (S.faults sink.old) (S.faults sink.new) }
@@ -381,6 +388,7 @@ fn usage_report<S: Sink>(alloc: Global, world: Ruled, sink: &mut S) -> Report
     ensures text { is_done result.status ≡ true → Gained (S.content sink.old) (S.content sink.new) (output None usage result.drops) }
     ensures status { is_done result.status ≡ true → result.status ≡ Status.Usage }
     ensures part { is_done result.status ≡ false → GainedPart (S.content sink.old) (S.content sink.new) (output None usage result.drops) }
+    ensures unput { result.status ≡ Status.WriteFault → GainedLess (S.content sink.old) (S.content sink.new) usage_text }
     ensures world { result.world ≡ start }
     ensures sound { Sound result.world.entries }
     ensures books { result.books ≡ [] }

@@ -4,6 +4,7 @@ ghost use Rattle.ap_outside.specs.Faults.{Rose};
 ghost use Rattle.ap_outside.specs.Gains.{Gained, GainedPart};
 ghost use Rattle.ap_books.specs.Bodies.{worked, body_by, forms_by, events_in as events_of};
 ghost use Rattle.ap_plain.specs.Ends.{goals_in};
+ghost use Rattle.ap_session.specs.Acts.{GainedLess};
 ghost use Rattle.ap_session.specs.Working.{start, admits, ends};
 ghost use Rattle.ap_session.specs.Admitting.{left_in, Behind, Led};
 ghost use Rattle.ap_session.specs.Command.{shown_demo};
@@ -12,10 +13,11 @@ ghost use Rattle.ap_session.specs.Session.{last_of, demo_session};
 
 use crate::admitting::Admitting;
 use crate::command::Demo;
+use crate::putting::put_whole;
 use ap_attempt::Gate;
 use ap_books::{Events, demo_book, events_in};
 use ap_list::{Bytes, NoMemory};
-use ap_outside::{BookBytes, BookRead, Sink, WriteFault, put_all};
+use ap_outside::{BookBytes, BookRead, Sink, WriteFault};
 use ap_reader::Form;
 use itoa::Buffer;
 use std::alloc::{AllocError, Global};
@@ -203,11 +205,12 @@ pub(crate) fn show_demo<R: Threads + Wait + Sync, G: Gate + Sync, S: Sink>(
     ensures certified { IfOk result (λ b. (demo_session (shown_demo demo)).certified ≡ b) }
     ensures last { OnOk result ((demo_session (shown_demo demo)).last ≡ left_in admitting.new) }
     ensures part { OnErr result (GainedPart (S.content sink.old) (S.content sink.new) (demo_session (shown_demo demo)).text) }
+    ensures unput { result ≡ Err WriteFault.Failed → GainedLess (S.content sink.old) (S.content sink.new) (demo_session (shown_demo demo)).text }
     ensures led { Led admitting.old admitting.new (demo_session (shown_demo demo)).told }
     ensures later { S.faults sink.old ≤ S.faults sink.new }
     ensures failed { result ≡ Err WriteFault.Failed → Rose (S.faults sink.old) (S.faults sink.new) }
 {
     let (text, certified) = work_demo(rt, alloc, demo, admitting)?;
-    put_all(sink, text.as_slice())?;
+    put_whole(sink, text.as_slice())?;
     Ok(certified)
 }

@@ -17,6 +17,7 @@ mod command;
 mod demo;
 mod fault;
 mod laws;
+mod putting;
 mod report;
 mod second;
 mod start;

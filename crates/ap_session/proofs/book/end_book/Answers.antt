@@ -4,9 +4,10 @@ use Rattle.ap_outside.specs.declared.fault.WriteFault.TheVariants as faults
 use Rattle.ap_outside.specs.Gains.{GainedPart}
 use Rattle.ap_outside.proofs.Gains.{part_to}
 use Rattle.ap_books.specs.Texts.{closing}
-use Rattle.ap_session.specs.Acts.{outside}
+use Rattle.ap_session.specs.Acts.{outside, GainedLess}
 use Rattle.ap_session.specs.Certs.{seen_in, files_by}
 use Rattle.ap_session.proofs.Acting.{tied_none, tied_cert, tied_end, if_err}
+use Rattle.ap_session.proofs.Unput.{less_to}
 use Rattle.ap_session.proofs.book.end_book.Goals as goal
 
 pub returns-in_err-last-clause-tied : goal.returns-in_err-last-clause-tied
@@ -34,10 +35,14 @@ returns-clause-tied g c =
     let files = g.L.Library.files in
     let stores = g.L.Library.store_faults in
     let a = outside (content c.args.sink.now) (puts c.args.sink.now) (files c.args.library.now) (stores c.args.library.now) in
-    let b = outside (content c.put_all.new.sink) (puts c.put_all.new.sink) (files c.store_cert.new.library) (stores c.store_cert.new.library) in
+    let b = outside (content c.put_whole.new.sink) (puts c.put_whole.new.sink) (files c.store_cert.new.library) (stores c.store_cert.new.library) in
     let text = c.as_slice-2.result.now in
+    let from = content c.args.sink.now in
+    let now = content c.put_whole.new.sink in
     let is : text ≡ closing c.args.book.now.name.0 c.is_some.result = cc (c.as_slice-2.ensures, c.in_ok-last.ensures, c.as_slice.ensures) in
-    if_err c.put_all.result (λ e err.
-    tied_end a b (e ≡ faults.Failed) (files_by (seen_in c.args.before.now) c.args.book.now.name.0 c.args.book.now.read _) _ (λ failed. c.put_all.ensures.failed (err ∙ ap (λ x. Err x) failed))
-    (part_to (content c.args.sink.now) (content c.put_all.new.sink) text _ (subst (λ (r : _). OnErr r (GainedPart (content c.args.sink.now) (content c.put_all.new.sink) text)) err c.put_all.ensures.part) (is ∙ ap (closing c.args.book.now.name.0) c.is_some.ensures))
+    let closed = is ∙ ap (closing c.args.book.now.name.0) c.is_some.ensures in
+    if_err c.put_whole.result (λ e err.
+    tied_end a b (e ≡ faults.Failed) (files_by (seen_in c.args.before.now) c.args.book.now.name.0 c.args.book.now.read _) _ (λ failed. c.put_whole.ensures.failed (err ∙ ap (λ x. Err x) failed))
+    (λ failed. less_to from now text _ (subst (λ (r : _). OnErr r (GainedLess from now text)) err c.put_whole.ensures.unput) closed)
+    (part_to from now text _ (subst (λ (r : _). OnErr r (GainedPart from now text)) err c.put_whole.ensures.part) closed)
     c.in_ok-store_cert.ensures.files)

@@ -38,7 +38,7 @@ returns-in_err-held-clause-tied g c =
     let a = outside (g.S.Sink.content c.args.sink.now) (g.S.Sink.faults c.args.sink.now) files stores in
     let b = outside (g.S.Sink.content c.show_opened.new.sink) (g.S.Sink.faults c.show_opened.new.sink) files stores in
     let p = err_from_is_err_and c.from_residual.result c.from_residual.ensures.1 in
-    rw p.1 (tied_put a b (p.0 ≡ faults.Failed) (opened name body) (end_acts (seen_in c.args.before.now) name read body.certified) (λ failed. c.in_err-held.ensures.failed (cc (p.2, failed))) c.in_err-held.ensures.part refl)
+    rw p.1 (tied_put a b (p.0 ≡ faults.Failed) (opened name body) (end_acts (seen_in c.args.before.now) name read body.certified) (λ failed. c.in_err-held.ensures.failed (cc (p.2, failed))) (λ failed. c.in_err-held.ensures.unput (cc (p.2, failed))) c.in_err-held.ensures.part refl)
 
 pub returns-in_err-end_book-clause-part : goal.returns-in_err-end_book-clause-part
 unfolding book_text

@@ -8,6 +8,7 @@ use Rattle.ap_plain.specs.Ends.{Told}
 use Rattle.ap_session.specs.Working.{Working, admits, ends}
 use Rattle.ap_session.specs.Admitting.{Behind}
 use Rattle.ap_session.proofs.Leading.{behind_same, behind_first, behind_more}
+use Rattle.ap_session.proofs.Unput.{less_within}
 use Rattle.ap_session.proofs.book.show_events.Goals as goal
 
 pub returns-in_err-show_event-clause-part : goal.returns-in_err-show_event-clause-part
@@ -107,3 +108,28 @@ pub returns-clause-behind : goal.returns-clause-behind
 returns-clause-behind g c =
     let a = c.loop-form.admitting in
     c.loop-form.invariant.onward a (behind_same a (worked admits ends (drop c.loop-form.form-index c.args.forms.now) a.working).log)
+
+pub returns-in_err-show_event-clause-unput : goal.returns-in_err-show_event-clause-unput
+returns-in_err-show_event-clause-unput g c = λ failed.
+    let content = g.S.Sink.content in
+    let forms = c.args.forms.now in
+    let i = c.loop-form.form-index in
+    let f = c.form-item.result in
+    let s = c.loop-form.admitting.working in
+    let all = worked admits ends forms c.args.admitting.now.working in
+    let here = at_form forms i f (omega arith) c.form-item.is in
+    let so = subst (λ fs. SoFar Working Told (content c.args.sink.now) (content c.loop-form.sink) all (worked admits ends fs s)) here c.loop-form.invariant.so_far in
+    let p = err_from_is_err_and c.from_residual.result c.from_residual.ensures.1 in
+    less_within Working Told (content c.args.sink.now) (content c.loop-form.sink) (content c.show_event.new.sink) all (admits s f) (worked admits ends (drop (i + 1) forms)) so (c.in_err-show_event.ensures.unput (cc (p.1, p.2, failed)))
+
+pub returns-in_err-show_end-clause-unput : goal.returns-in_err-show_end-clause-unput
+returns-in_err-show_end-clause-unput g c = λ failed.
+    let content = g.S.Sink.content in
+    let forms = c.args.forms.now in
+    let i = c.loop-form.form-index in
+    let s = c.loop-form.admitting.working in
+    let all = worked admits ends forms c.args.admitting.now.working in
+    let none = drop_all i forms (omega arith) in
+    let so = subst (λ fs. SoFar Working Told (content c.args.sink.now) (content c.loop-form.sink) all (worked admits ends fs s)) none c.loop-form.invariant.so_far in
+    let p = err_from_is_err_and c.from_residual-in_err-show_end.result c.from_residual-in_err-show_end.ensures.1 in
+    less_within Working Told (content c.args.sink.now) (content c.loop-form.sink) (content c.show_end.new.sink) all (ends s) certified so (c.in_err-show_end.ensures.unput (cc (p.1, p.2, failed)))

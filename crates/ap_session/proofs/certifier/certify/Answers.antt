@@ -91,7 +91,7 @@ returns-in-Ok-Some-Show-clause-tied g c = λ cut.
     let b = outside (g.S.Sink.content c.certify_demo.new.sink) (g.S.Sink.faults c.certify_demo.new.sink) (files c.args.library.now) (stores c.args.library.now) in
     let is = ap (option_map shown_command) (sym (c.in-Ok-Some-Show.field-0-is ∙ ap Some c.in-Ok-Some-Show.field-0-0-is)) ∙ c.in-Ok-Some-Show.ensures in
     subst (λ (k : Option Command). Tied a b (r.status ≡ statuses.WriteFault) (acts_of k (session k (reads_in r.books)) r.drops)) is
-    (text_tied a b (r.status ≡ statuses.WriteFault) (demo_session (shown_demo c.in-Ok-Some-Show.demo)).text c.certify_demo.ensures.write (c.certify_demo.ensures.part cut) refl)
+    (text_tied a b (r.status ≡ statuses.WriteFault) (demo_session (shown_demo c.in-Ok-Some-Show.demo)).text c.certify_demo.ensures.write c.certify_demo.ensures.unput (c.certify_demo.ensures.part cut) refl)
 
 pub returns-in-Ok-None-clause-tied : goal.returns-in-Ok-None-clause-tied
 returns-in-Ok-None-clause-tied g c = λ cut.
@@ -102,4 +102,4 @@ returns-in-Ok-None-clause-tied g c = λ cut.
     let b = outside (g.S.Sink.content c.usage_report.new.sink) (g.S.Sink.faults c.usage_report.new.sink) (files c.args.library.now) (stores c.args.library.now) in
     let is = ap (option_map shown_command) (sym c.in-Ok-None.field-0-is) ∙ c.in-Ok-None.ensures in
     subst (λ (k : Option Command). Tied a b (r.status ≡ statuses.WriteFault) (acts_of k (session k (reads_in r.books)) r.drops)) is
-    (text_tied a b (r.status ≡ statuses.WriteFault) usage_text c.usage_report.ensures.write (c.usage_report.ensures.part cut) refl)
+    (text_tied a b (r.status ≡ statuses.WriteFault) usage_text c.usage_report.ensures.write c.usage_report.ensures.unput (c.usage_report.ensures.part cut) refl)

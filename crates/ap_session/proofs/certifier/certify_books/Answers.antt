@@ -141,7 +141,7 @@ returns-in-Ok-clause-tied g c = λ cut.
     c.new-admitting.ensures.limits c.end.ensures.books
     (record { puts = c.in-Ok.ensures.puts; stores = c.in-Ok.ensures.stores })
     (record { puts = c.end.ensures.later; stores = omega arith })
-    c.in-Ok.ensures.worked c.end.ensures.write (c.end.ensures.part cut) refl
+    c.in-Ok.ensures.worked c.end.ensures.write c.end.ensures.unput (c.end.ensures.part cut) refl
 
 pub returns-in-Err-clause-tied : goal.returns-in-Err-clause-tied
 returns-in-Err-clause-tied g c = λ cut.

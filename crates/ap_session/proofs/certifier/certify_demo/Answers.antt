@@ -7,6 +7,7 @@ use Rattle.ap_session.specs.Working.{start}
 use Rattle.ap_session.specs.Session.{PassedThrough, demo_session, is_done}
 use Rattle.ap_session.proofs.Demoing.{led_passed, led_drops, led_alone}
 use Rattle.ap_session.proofs.Sessions.{only_read, only_write, not_done}
+use Rattle.ap_session.proofs.Unput.{none_left}
 use Rattle.ap_session.proofs.certifier.certify_demo.Goals as goal
 
 pub returns-in-Ok-clause-text : goal.returns-in-Ok-clause-text
@@ -75,3 +76,11 @@ pub returns-in-Err-clause-write : goal.returns-in-Err-clause-write
 returns-in-Err-clause-write g c = λ written.
     let fault : c.in-Err.fault ≡ write_faults.Failed = c.at_write.ensures.failed (only_write c.at_write.result (sym c.cut_off.ensures.status ∙ written)) in
     c.in-Err.ensures.failed (cc fault)
+
+pub returns-in-Ok-clause-unput : goal.returns-in-Ok-clause-unput
+returns-in-Ok-clause-unput g c = λ written. absurd (none_left _ _ (c.end.ensures.unput written))
+
+pub returns-in-Err-clause-unput : goal.returns-in-Err-clause-unput
+returns-in-Err-clause-unput g c = λ written.
+    let fault : c.in-Err.fault ≡ write_faults.Failed = c.at_write.ensures.failed (only_write c.at_write.result (sym c.cut_off.ensures.status ∙ written)) in
+    c.in-Err.ensures.unput (cc fault)
