@@ -15,7 +15,8 @@ use Rattle.ap_world.proofs.Adding.{sound-define}
 use Rattle.ap_world.proofs.Extending.{not_taken}
 use Rattle.ap_types.proofs.KeptHolds.{plain_kept}
 use Rattle.ap_admit.specs.Admission.{with_function, Admissible}
-use Rattle.ap_admit.specs.Condition.{admitted_by, IsMeasured, IsAdmissible, owed, clause_of, AdmittedIsSound, OwedIsKnown}
+use Rattle.ap_terminate.specs.Distinct.{clause_of}
+use Rattle.ap_admit.specs.Condition.{admitted_by, IsMeasured, IsAdmissible, owed, AdmittedIsSound, OwedIsKnown}
 use Rattle.ap_world.proofs.Lists.{each_map}
 use Rattle.ap_world.proofs.Cases.{clear, adds_last}
 use Rattle.ap_world.proofs.Grounded.{has_not, given_free}

@@ -13,6 +13,7 @@ use Rattle.ap_world.specs.Recursion.{has_no_call, cases_of, measure_of, obligati
 use Rattle.ap_world.specs.Sound.{known, speaks_of, components, HasFunctions, Sound}
 use Rattle.ap_world.specs.World.{Shown, function_of, has_name}
 use Rattle.ap_world.specs.KeptTypes.{kept_types}
+use Rattle.ap_terminate.specs.Distinct.{clause_of}
 use Rattle.ap_admit.specs.Admission.{with_function}
 
 -- the function of a definition, with a mask: only one that calls itself keeps a measure and the cases
@@ -53,9 +54,6 @@ pub record IsAdmissible (w : Shown) (d : Defun) (m : Measure) : Type 0 where
 -- what a definition owes that calls itself
 abbrev pub owed : Defun → Measure → List (List Term)
 owed d m = obligations (is_some d.measure) d.formals m.0 d.cases
-
-abbrev pub clause_of : List Term → Clause
-clause_of ts = record { 0 = ts }
 
 -- the clauses are just these, and are valid
 pub record IsPaid (w : Shown) (d : Defun) (m : Measure) (cs : List Clause) : Type 0 where

@@ -85,11 +85,11 @@ pub fn admit(
     ensures made { IfOk result (λ r. r ≡ added w.now (entry.Function (admitted w.now d m))) }
     ensures sound { IfOk result (λ r. Sound r.entries) }
 {
-    w.is_sound();
+    w.recall_sound();
     let _ = obligations;
     let mask = kept_mask(alloc, w, &d.name, &d.body)?;
     let world = w.copy_world(alloc)?;
     let world = add(alloc, world, function(alloc, d, m, mask))?;
-    world.is_sound();
+    world.recall_sound();
     Ok(world)
 }

@@ -20,7 +20,7 @@ use Rattle.ap_world.proofs.TotalMeaning.{Apply, Models, models, val, AnyTrue, va
 use Rattle.ap_world.proofs.Equations.{val_if, nil-eq, t_isnt_nil}
 use Rattle.ap_world.proofs.Written.{conjuncts_var, conjuncts_quote, flat_var, flat_quote}
 use Rattle.ap_world.proofs.Given.{conjuncts_at, conjuncts_called, constant_nil, implies_is}
-use Rattle.ap_kernel.specs.Standing.{HasGround}
+use Rattle.ap_kernel.specs.Standing.{DefinesNot}
 use Rattle.ap_kernel.proofs.ChoicesStand.{known_not}
 use Rattle.ap_kernel.proofs.Reduced.{any_either, each_append}
 use Rattle.ap_kernel.proofs.Splitting.{negate_turns, negate_known}
@@ -31,7 +31,7 @@ no : {P : Type 0} → false ≡ true → P
 no h = cc
 
 -- what is known of the negations and of the clause
-negations_known : (D : Defs) → HasGround D → (u : Term) → known D u ≡ true → Each (λ w. known D w ≡ true) (map negate (conjuncts u))
+negations_known : (D : Defs) → DefinesNot D → (u : Term) → known D u ≡ true → Each (λ w. known D w ≡ true) (map negate (conjuncts u))
 negations_known D ground = term_ind Goal variable quoted call
   where
     Goal : Term → Type 0
@@ -61,7 +61,7 @@ negations_known D ground = term_ind Goal variable quoted call
     call : (f : Symbol) (ts : List Term) → Each Goal ts → Goal (Call f ts)
     call f ts es k = rw (conjuncts_called f ts) (go (symbol_eq f if_name) f ts es k)
 
-flat_known : (D : Defs) → HasGround D → (u : Term) → known D u ≡ true → Each (λ w. known D w ≡ true) (flat u)
+flat_known : (D : Defs) → DefinesNot D → (u : Term) → known D u ≡ true → Each (λ w. known D w ≡ true) (flat u)
 flat_known D ground = term_ind Goal variable quoted call
   where
     Goal : Term → Type 0
@@ -82,7 +82,7 @@ flat_known D ground = term_ind Goal variable quoted call
     call : (f : Symbol) (ts : List Term) → Each Goal ts → Goal (Call f ts)
     call f ts es k = rw (flat_called f ts) (go (symbol_eq f implies_name) f ts es k)
 
-module _ (D : Defs) (A : Apply) (ms : Models D A) (ground : HasGround D) (e : Env) where
+module _ (D : Defs) (A : Apply) (ms : Models D A) (ground : DefinesNot D) (e : Env) where
   negation_true : (u : Term) → val A (negate u) e ≢ nil → val A u e ≡ nil
   negation_true u h = go (value_eq (val A u e) nil) refl
     where
@@ -136,7 +136,7 @@ module _ (D : Defs) (A : Apply) (ms : Models D A) (ground : HasGround D) (e : En
       call f ts es = rw (conjuncts_called f ts) (go (symbol_eq f if_name) f ts refl es)
 
 -- a term isn't nil where a literal of its clause isn't
-flat_true : (W : List Entry) → Sound W → HasGround (function_of W) → (A : Apply) → Models (function_of W) A → (e : Env) (u : Term) → known (function_of W) u ≡ true → AnyTrue A e (flat u) → val A u e ≢ nil
+flat_true : (W : List Entry) → Sound W → DefinesNot (function_of W) → (A : Apply) → Models (function_of W) A → (e : Env) (u : Term) → known (function_of W) u ≡ true → AnyTrue A e (flat u) → val A u e ≢ nil
 flat_true W sound ground A ms e = term_ind Goal variable quoted call
   where
     Goal : Term → Type 0

@@ -4,7 +4,7 @@ use Rattle.ap_list.specs.Lists.{Each}
 use Rattle.ap_term.specs.declared.term.Clause.{Clause}
 use Rattle.ap_world.specs.Meaning.{Defs, Total, Valid}
 use Rattle.ap_kernel.specs.declared.reductions.Inference.{Inference}
-use Rattle.ap_kernel.specs.Standing.{HasGround}
+use Rattle.ap_kernel.specs.Standing.{DefinesNot}
 use Rattle.ap_kernel.specs.Reductions.{KnownClause, Follows}
 use Rattle.ap_kernel.specs.Splits.{split_made}
 use Rattle.ap_kernel.proofs.Reduced.{each_append, each_parts}
@@ -53,7 +53,7 @@ each_serves D s f (c ∷ cs) (suc m) es l ks h = go (s c m) refl h (λ n ds. eac
 cases_are : (c : Clause) (r : Inference) → cases c ≡ Some r → (p : ℕ × List ℕ) × (split_made c p.0 p.1 ≡ Some r)
 cases_are c r h = let (p, at, made) = then_some (first_choice c) (λ p. split_made c p.0 p.1) r h in (p, made)
 
-by_serves : (D : Defs) → Total D → HasGround D → (s : Splitter) → Serves D s → (c : Clause) (n : ℕ) (o : Option Inference) → cases c ≡ o → (es : List Clause) (l : ℕ) → KnownClause D c
+by_serves : (D : Defs) → Total D → DefinesNot D → (s : Splitter) → Serves D s → (c : Clause) (n : ℕ) (o : Option Inference) → cases c ≡ o → (es : List Clause) (l : ℕ) → KnownClause D c
     → split_by s c n o ≡ Some (es, l) → Serve D (c ∷ []) es
 by_serves D total ground s f c n None q es l k h = subst (Serve D (c ∷ [])) (ap clauses_left h) (record { known = (k, tt); valid = λ v. v })
 by_serves D total ground s f c n (Some r) q es l k h =
@@ -65,11 +65,11 @@ by_serves D total ground s f c n (Some r) q es l k h =
       valid = λ v. (subst (λ (c : Clause). Valid D c.0) (split_from c p.0 p.1 r made) (stands.valid (e.valid v)), tt);
     }
 
-to_serves : (D : Defs) → Total D → HasGround D → (d : ℕ) → Serves D (split_to d)
+to_serves : (D : Defs) → Total D → DefinesNot D → (d : ℕ) → Serves D (split_to d)
 to_serves D total ground zero c n ds l k h = by_serves D total ground (λ c n. None) (none_serves D) c n (cases c) refl ds l k h
 to_serves D total ground (suc d) c n ds l k h = by_serves D total ground (split_to d) (to_serves D total ground d) c n (cases c) refl ds l k h
 
-pub split_reduces : (D : Defs) → Total D → HasGround D → (n : ℕ) (c : Clause) (cs : List Clause) (m : ℕ) → KnownClause D c → split_of n c ≡ Some (cs, m) → Follows D (record { from = c; to = cs })
+pub split_reduces : (D : Defs) → Total D → DefinesNot D → (n : ℕ) (c : Clause) (cs : List Clause) (m : ℕ) → KnownClause D c → split_of n c ≡ Some (cs, m) → Follows D (record { from = c; to = cs })
 split_reduces D total ground n c cs m k h =
     let s = to_serves D total ground n c n cs m k h in
     record { start = k; goals = s.known; valid = λ v. (s.valid v).0 }

@@ -2,7 +2,7 @@ ghost use Rattle.std.specs.Prelude.{◌≡◌, ℕ, ◌+◌, ◌*◌, ◌<◌, �
 ghost use Rattle.std.specs.Bool.{OnTrue, OnFalse};
 ghost use Rattle.std.specs.Option.{option_map};
 ghost use Rattle.ap_world.specs.World.{function_of};
-ghost use Rattle.ap_kernel.specs.Standing.{HasGround};
+ghost use Rattle.ap_kernel.specs.Standing.{DefinesNot};
 ghost use Rattle.ap_kernel.specs.Reductions.{KnownClause, Reduces, claims, chained};
 ghost use Rattle.ap_kernel.specs.Tidying.{tidy_made};
 ghost use Rattle.ap_clausify.specs.Leaves.{clause_leaves};
@@ -101,7 +101,7 @@ fn vanish(
     cursor: usize,
     steps: &mut Steps,
 ) -> Result<Turn, NoMemory>
-    requires ground { HasGround (function_of w.now.entries) }
+    requires ground { DefinesNot (function_of w.now.entries) }
     requires linked { Linked w.now frames c }
     requires clause { KnownClause (function_of w.now.entries) c }
     requires ready { Ready c cursor false }
@@ -118,7 +118,7 @@ fn vanish(
 
 /// A clause tidied, or none where it then holds by itself. One that is known to be tidy is kept.
 fn settle(alloc: Global, w: &World, c: Clause, is_tidy: bool) -> Result<Reduction, NoMemory>
-    requires ground { HasGround (function_of w.now.entries) }
+    requires ground { DefinesNot (function_of w.now.entries) }
     requires clause { KnownClause (function_of w.now.entries) c }
     requires tidy { is_tidy ≡ true → IsTidy c.0 }
     ensures stands { IfOk result (λ r. Reduces w.now r) }
@@ -134,7 +134,7 @@ fn settle(alloc: Global, w: &World, c: Clause, is_tidy: bool) -> Result<Reductio
 
 /// A clause that waits from now on, split at its first `if`.
 fn framed(alloc: Global, w: &World, c: Clause, place: Place, tidy: bool) -> Result<Frame, NoMemory>
-    requires ground { HasGround (function_of w.now.entries) }
+    requires ground { DefinesNot (function_of w.now.entries) }
     requires clause { KnownClause (function_of w.now.entries) c }
     requires choice { first_choice c ≡ Some (place.literal, place.at) }
     requires ready { Ready c place.literal tidy }
@@ -160,7 +160,7 @@ fn open(
     case: Case,
     steps: &mut Steps,
 ) -> Result<Turn, NoMemory>
-    requires ground { HasGround (function_of w.now.entries) }
+    requires ground { DefinesNot (function_of w.now.entries) }
     requires linked { Linked w.now frames case.clause }
     requires clause { KnownClause (function_of w.now.entries) case.clause }
     requires ready { Ready case.clause case.cursor case.tidy }
@@ -206,7 +206,7 @@ fn close(
 
 /// Goes on with what is at hand.
 fn advance(alloc: Global, w: &World, state: State, steps: &mut Steps) -> Result<Turn, NoMemory>
-    requires ground { HasGround (function_of w.now.entries) }
+    requires ground { DefinesNot (function_of w.now.entries) }
     requires linked { Linked w.now state.frames (at_hand state.task) }
     requires holds { IsAtHand w.now state.task }
     ensures { IfOk result (λ t. Goes w.now state.frames (at_hand state.task) (comes state.task steps.old.left) (2 * steps.old.left + (length state.frames + weight state.task)) t steps.new.left) }
@@ -243,7 +243,7 @@ fn advance(alloc: Global, w: &World, state: State, steps: &mut Steps) -> Result<
 /// without `if` is compared with those before it. The call's own stack doesn't grow with the
 /// number of splits, but with the depth of a term.
 pub fn split(alloc: Global, w: &World, c: Clause, steps: &mut Steps) -> Result<Split, NoMemory>
-    requires ground { HasGround (function_of w.now.entries) }
+    requires ground { DefinesNot (function_of w.now.entries) }
     requires clause { KnownClause (function_of w.now.entries) c }
     ensures made { IfOk result (λ s. option_map (λ r. r.says) s.reduction ≡ option_map (λ p. record { from = c; to = p.0 }) (settled_left (split_of steps.old.left c))) }
     ensures steps { IfOk result (λ s. steps.new.left ≡ steps_left (split_of steps.old.left c)) }

@@ -5,7 +5,7 @@ ghost use Rattle.ap_term.specs.declared.term.Term.TheVariants.{Var};
 ghost use Rattle.ap_world.specs.declared.theory.RuneKind.TheVariants.{Elim};
 ghost use Rattle.ap_world.specs.Theories.{rune_of, is_enabled};
 ghost use Rattle.ap_world.specs.World.{function_of};
-ghost use Rattle.ap_kernel.specs.Standing.{HasGround};
+ghost use Rattle.ap_kernel.specs.Standing.{DefinesNot};
 ghost use Rattle.ap_kernel.specs.Reductions.{KnownClause, Reduces};
 ghost use Rattle.ap_elim.specs.Naming.{new_name};
 ghost use Rattle.ap_elim.specs.Eliminating.{car_cdr_elim_name, has_call, is_destructed, destructed, with_new, taken, elim_made};
@@ -118,7 +118,7 @@ pub fn elim(
     theory: &Theory,
     c: &Clause,
 ) -> Result<Option<Reduction>, NoMemory>
-    requires ground { HasGround (function_of w.now.entries) }
+    requires ground { DefinesNot (function_of w.now.entries) }
     requires clause { KnownClause (function_of w.now.entries) c.now }
     ensures stands { IfOk result (λ o. IfSome o (λ r. Reduces w.now r)) }
     ensures made { IfOk result (λ o. option_map (λ r. r.says) o ≡ elim_made theory.now c.now) }

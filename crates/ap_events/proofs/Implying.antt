@@ -19,7 +19,7 @@ use Rattle.ap_world.proofs.TotalMeaning.{Apply, Models, models, val, AnyTrue, va
 use Rattle.ap_world.proofs.Equations.{val_if, nil-eq, eq-not_nil}
 use Rattle.ap_world.proofs.Written.{conjuncts_var, conjuncts_quote, flat_var, flat_quote}
 use Rattle.ap_world.proofs.Given.{conjuncts_at, conjuncts_called, implies_is}
-use Rattle.ap_kernel.specs.Standing.{HasGround}
+use Rattle.ap_kernel.specs.Standing.{DefinesNot}
 use Rattle.ap_kernel.proofs.Splitting.{negate_turns}
 use Rattle.ap_clausify.proofs.Flattened.{negations_append, flat_at, flat_called}
 use Rattle.ap_clausify.proofs.Implied.{clausifies}
@@ -45,7 +45,7 @@ branch_nil x y z h = go (value_eq x nil) refl h
     go true q k = inl (nil-eq x q)
     go false q k = inr k
 
-module _ (D : Defs) (A : Apply) (ms : Models D A) (ground : HasGround D) (e : Env) where
+module _ (D : Defs) (A : Apply) (ms : Models D A) (ground : DefinesNot D) (e : Env) where
   turned : (u : Term) → val A u e ≡ nil → val A (negate u) e ≢ nil
   turned u h = eq-not_nil (val A (negate u) e) (negate_turns D A ms ground e u ∙ ap (λ v. not (value_eq v nil)) h ∙ ap not (value_eq-same nil))
 
@@ -85,7 +85,7 @@ module _ (D : Defs) (A : Apply) (ms : Models D A) (ground : HasGround D) (e : En
       call f ts es = rw (conjuncts_called f ts) (go (symbol_eq f if_name) f ts refl es)
 
 -- where a term isn't nil a literal of its clause isn't
-flat_holds : (W : List Entry) → Sound W → HasGround (function_of W) → (A : Apply) → Models (function_of W) A → (e : Env) (u : Term) → known (function_of W) u ≡ true → val A u e ≢ nil → AnyTrue A e (flat u)
+flat_holds : (W : List Entry) → Sound W → DefinesNot (function_of W) → (A : Apply) → Models (function_of W) A → (e : Env) (u : Term) → known (function_of W) u ≡ true → val A u e ≢ nil → AnyTrue A e (flat u)
 flat_holds W sound ground A ms e = term_ind Goal variable quoted call
   where
     Goal : Term → Type 0
@@ -122,7 +122,7 @@ flat_holds W sound ground A ms e = term_ind Goal variable quoted call
     call : (f : Symbol) (ts : List Term) → Each Goal ts → Goal (Call f ts)
     call f ts es k = rw (flat_called f ts) (go (symbol_eq f implies_name) f ts refl es k)
 
-pub clause_valid : (W : List Entry) → Sound W → HasGround (function_of W) → (u : Term) → known (function_of W) u ≡ true → Valid (function_of W) (u ∷ []) → Valid (function_of W) (flat u)
+pub clause_valid : (W : List Entry) → Sound W → DefinesNot (function_of W) → (u : Term) → known (function_of W) u ≡ true → Valid (function_of W) (u ∷ []) → Valid (function_of W) (flat u)
 clause_valid W sound ground u k valid =
     let D = function_of W in
     let (A, ms) = models D sound.total in

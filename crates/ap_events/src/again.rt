@@ -41,7 +41,7 @@ fn make_again(
     ensures alone { IfOk result (λ e. e.drops ≡ []) }
     ensures error { OnErr result (w.new ≡ w.old) }
 {
-    w.world().is_sound();
+    w.world().recall_sound();
     put(alloc, w, enabled, proposal)?;
     Ok(nothing(alloc))
 }

@@ -185,7 +185,7 @@ fn first_all<R: Threads + Wait + Sync, G: Gate + Sync>(
     ensures alone { IfOk result (λ e. crew.now.workers ≤ 1 → e.drops ≡ []) }
     ensures error { OnErr result (w.new ≡ w.old) }
 {
-    w.world().is_sound();
+    w.world().recall_sound();
     let before = remember(alloc, w)?;
     let done = first_each(crew, alloc, w, earlier, depth, forms);
     settle(w, before, done)
@@ -208,9 +208,9 @@ fn first_closed<R: Threads + Wait + Sync, G: Gate + Sync>(
     ensures error { OnErr result (w.new ≡ w.old) }
 {
     have_distinct_names(earlier);
-    w.world().is_sound();
+    w.world().recall_sound();
     let before = remember(alloc, w)?;
     let first = first_all(crew, alloc, w, earlier, depth, forms)?;
-    w.world().is_sound();
+    w.world().recall_sound();
     close(alloc, w, earlier, depth, forms, before, first)
 }

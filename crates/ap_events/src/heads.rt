@@ -59,7 +59,7 @@ pub fn event_again(alloc: Global, w: World, f: &Form, from: &World) -> Result<Ev
     ensures alone { IfOk result (λ e. drops_in e ≡ []) }
     ensures ground { IfOk result (λ e. HasFunctions (function_of (world_in e).entries)) }
 {
-    from.is_sound();
+    from.recall_sound();
     let mut ruled = Ruled::of(alloc, w)?;
     let outcome = work_again(alloc, &mut ruled, &[], f)?;
     Ok(end_in(ruled.into_world(), outcome))

@@ -73,7 +73,7 @@ impl KeptBook {
     }
 
     /// The kept world has the functions of the ground world. Costs nothing: a caller's proof learns it so.
-    pub fn has_functions(&self)
+    pub fn recall_functions(&self)
         ensures { HasFunctions (function_of self.now.1.entries) }
     {
         let _ = &self.world;
@@ -85,7 +85,7 @@ pub(crate) fn have_distinct_names(earlier: &[KeptBook])
     ensures { Each (λ b. are_distinct b.1.entries ≡ true) earlier.now }
 {
     for book in earlier {
-        book.world().has_distinct_names();
+        book.world().recall_distinct_names();
     }
 }
 

@@ -86,7 +86,7 @@ pub(crate) fn again_all(
     ensures alone { IfOk result (λ e. e.drops ≡ []) }
     ensures error { OnErr result (w.new ≡ w.old) }
 {
-    w.world().is_sound();
+    w.world().recall_sound();
     let before = remember(alloc, w)?;
     let done = again_each(alloc, w, earlier, depth, forms);
     settle(w, before, done)

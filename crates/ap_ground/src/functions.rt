@@ -1,9 +1,9 @@
 //! The tables of the functions of the ground world, in the order in which these are added. Each that calls itself has
 //! the measure `(acl2-count x)`.
 
-use crate::masks::{ALL_TYPES, INTEGERS, NATURALS, NO_NEGATIVES, TRUE_LISTS, TRUTHS};
 use crate::rows::{CaseRow, Row};
 use crate::written::Word::{Int, One, Sym, Three, Two, Var};
+use ap_world::masks::{ALL, INTEGERS, NATURALS, NO_NEGATIVES, TRUE_LISTS, TRUTHS};
 
 /// Those of truth values, conses and equality.
 pub(crate) const TRUTHS_AND_EQUALITY: &[Row] = &[
@@ -194,7 +194,7 @@ pub(crate) const COMPARISONS: &[Row] = &[
         formals: &[b"X"],
         body: &[Three(b"IF"), One(b"NATP"), Var(b"X"), Var(b"X"), Int(0)],
         cases: &[],
-        mask: ALL_TYPES,
+        mask: ALL,
     },
     // `(zp x)` is `(if (integerp x) (not (< 0 x)) t)`.
     Row {
@@ -266,7 +266,7 @@ pub(crate) const COMPARISONS: &[Row] = &[
             Var(b"Y"),
         ],
         cases: &[],
-        mask: ALL_TYPES,
+        mask: ALL,
     },
     // `(min x y)` is `(if (< x y) x y)`.
     Row {
@@ -281,7 +281,7 @@ pub(crate) const COMPARISONS: &[Row] = &[
             Var(b"Y"),
         ],
         cases: &[],
-        mask: ALL_TYPES,
+        mask: ALL,
     },
     // `(abs x)` is `(if (< x 0) (unary-- x) x)`.
     Row {
@@ -463,7 +463,7 @@ pub(crate) const LISTS: &[Row] = &[
                 calls: &[&[&[One(b"CDR"), Var(b"X")], &[Var(b"Y")]]],
             },
         ],
-        mask: ALL_TYPES,
+        mask: ALL,
     },
     // `(member-equal a x)` is `(if (endp x) nil (if (equal a (car x)) x (member-equal a (cdr x))))`.
     Row {
@@ -511,7 +511,7 @@ pub(crate) const LISTS: &[Row] = &[
                 calls: &[&[&[Var(b"A")], &[One(b"CDR"), Var(b"X")]]],
             },
         ],
-        mask: ALL_TYPES,
+        mask: ALL,
     },
     // `(make-character-list x)` is `(if (endp x) nil (cons (if (characterp (car x)) (car x) (code-char 0)) (make-character-list (cdr x))))`.
     Row {

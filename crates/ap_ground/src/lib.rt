@@ -4,7 +4,6 @@
 mod functions;
 mod ground;
 pub mod laws;
-mod masks;
 mod rows;
 mod rules;
 mod written;

@@ -23,7 +23,7 @@ use Rattle.ap_world.proofs.TotalMeaning.{Apply, Models, models, val}
 use Rattle.ap_kernel.specs.declared.objects.Ctx.{Ctx}
 use Rattle.ap_kernel.specs.declared.objects.Sequent.{Sequent}
 use Rattle.ap_kernel.specs.declared.objects.Equiv.{Equiv}
-use Rattle.ap_kernel.specs.Standing.{HasGround, Same, Holds, Stands}
+use Rattle.ap_kernel.specs.Standing.{DefinesNot, Same, Holds, Stands}
 use Rattle.ap_kernel.specs.Applying.{mode_in, applied_made, AllLead, PartRelieved, conjunct_at}
 use Rattle.ap_kernel.proofs.Standing.{agree, stand}
 use Rattle.ap_kernel.proofs.CallsStand.{both_nil}
@@ -86,7 +86,7 @@ rule_stands w total c g s qs facts holds ks ss rs =
     (λ e h. same_under g.iff (val A (subst_of s g.lhs) e) (val A (subst_of s g.rhs) e) (rule_same (function_of w.entries) A ms g holds s e (hyps_held w c s A ms e h g.hyps qs ss rs)))
 
 -- the instance of a part of a theorem of a sound world
-pub apply_stands : (w : Shown) → Sound w.entries → HasGround (function_of w.entries) → (c : Ctx) (x : Symbol) (i : ℕ) (g : Rule) (s : Pairs) (qs : List Equiv) → part_of w.entries x i ≡ Some g
+pub apply_stands : (w : Shown) → Sound w.entries → DefinesNot (function_of w.entries) → (c : Ctx) (x : Symbol) (i : ℕ) (g : Rule) (s : Pairs) (qs : List Equiv) → part_of w.entries x i ≡ Some g
     → KnownFacts (function_of w.entries) c.0 → KnownPairs (function_of w.entries) s → Each (Stands w) qs → PartRelieved c s (part_of w.entries x i) qs → Holds (function_of w.entries) (applied_made c s g)
 apply_stands w sound ground c x i g s qs here facts ks ss rs =
     rule_stands w sound.total c g s qs facts (parts_hold w.entries sound ground x i g here) ks ss (subst (λ o. PartRelieved c s o qs) here rs)
@@ -104,7 +104,7 @@ pub conjunct_said : (c : Ctx) (s : Pairs) (x : Symbol) (i : ℕ) (o : Option The
     → IfSome (part_at x i o) (λ g. q ≡ applied_made c s g)
 conjunct_said c s x i o u q h e = subst (λ p. IfSome p (λ g. q ≡ applied_made c s g)) (sym (part_found x i o u h).2) e
 
-pub conjunct_stands : (w : Shown) → Sound w.entries → HasGround (function_of w.entries) → (c : Ctx) (x : Symbol) (i : ℕ) (s : Pairs) (qs : List Equiv) (u : Term)
+pub conjunct_stands : (w : Shown) → Sound w.entries → DefinesNot (function_of w.entries) → (c : Ctx) (x : Symbol) (i : ℕ) (s : Pairs) (qs : List Equiv) (u : Term)
     → conjunct_at i (theorem_of w.entries x) ≡ Some u → KnownFacts (function_of w.entries) c.0 → KnownPairs (function_of w.entries) s → Each (Stands w) qs → PartRelieved c s (part_of w.entries x i) qs
     → Holds (function_of w.entries) (conjunct_made c s u)
 conjunct_stands w sound ground c x i s qs u h facts ks ss rs =

@@ -25,7 +25,7 @@ use Rattle.ap_kernel.specs.declared.objects.Mode.TheVariants.{Equal, Iff}
 use Rattle.ap_world.specs.World.{Shown, function_of}
 use Rattle.ap_kernel.specs.declared.objects.Sequent.{Sequent}
 use Rattle.ap_kernel.specs.declared.objects.Equiv.{Equiv}
-use Rattle.ap_kernel.specs.Standing.{HasGround, Same, Holds, SameSides}
+use Rattle.ap_kernel.specs.Standing.{DefinesNot, Same, Holds, SameSides}
 use Rattle.ap_kernel.specs.Answers.{if_of, refl_made, branch_made, chosen_made, ModeFits, IsArgument, ArgumentHolds, said, lefts, rights, are_unchanged, cong_made}
 use Rattle.ap_kernel.proofs.Standing.{same_refl, agree, stand}
 
@@ -55,7 +55,7 @@ same_if m x y a b c d h on off = rw (nil_test x y h) (go (value_eq y nil) refl)
 pub known_if : (D : Defs) (a b c : Term) → known D a ≡ true → known D b ≡ true → known D c ≡ true → known D (if_of a b c) ≡ true
 known_if D a b c p q r = known_by D if_name (a ∷ b ∷ c ∷ []) (rw prim_of_if refl) (true_each (known D) (a ∷ b ∷ c ∷ []) (p, (q, (r, tt))))
 
-pub branch_stands : (D : Defs) → Total D → HasGround D → (m : Mode) (test on off : Sequent) → Holds D test → Holds D on → Holds D off → on.mode ≡ m → off.mode ≡ m
+pub branch_stands : (D : Defs) → Total D → DefinesNot D → (m : Mode) (test on off : Sequent) → Holds D test → Holds D on → Holds D off → on.mode ≡ m → off.mode ≡ m
     → on.ctx.0 ≡ assume test.ctx.0 test.rhs true → off.ctx.0 ≡ assume test.ctx.0 test.rhs false → Holds D (branch_made m test on off)
 branch_stands D total ground m test on off s p q on_mode off_mode on_facts off_facts =
     let (A, ms) = models D total in
@@ -100,7 +100,7 @@ chosen_known : (D : Defs) (s : Bool) (b c : Term) → known D b ≡ true → kno
 chosen_known D true b c p q = p
 chosen_known D false b c p q = q
 
-pub chosen_stands : (D : Defs) → Total D → HasGround D → (m : Mode) (test : Sequent) (s : Bool) (b c : Term) → Holds D test → is_constant s test.rhs ≡ true → known D b ≡ true → known D c ≡ true
+pub chosen_stands : (D : Defs) → Total D → DefinesNot D → (m : Mode) (test : Sequent) (s : Bool) (b c : Term) → Holds D test → is_constant s test.rhs ≡ true → known D b ≡ true → known D c ≡ true
     → Holds D (chosen_made m test s b c)
 chosen_stands D total ground m test s b c h constant p q =
     let (A, ms) = models D total in
@@ -118,7 +118,7 @@ one_formal : (n : ℕ) → takes (Some not_function) n ≡ true → 1 ≡ n
 unfolding not_function
 one_formal n h = eqb-true 1 n h
 
-module _ (D : Defs) (A : Apply) (ms : Models D A) (ground : HasGround D) (c : Ctx) (f : Symbol) where
+module _ (D : Defs) (A : Apply) (ms : Models D A) (ground : DefinesNot D) (c : Ctx) (f : Symbol) where
   lefts_known : (qs : List Sequent) → Each (ArgumentHolds D c f) qs → Each (λ u. known D u ≡ true) (lefts qs)
   lefts_known [] es = tt
   lefts_known (q ∷ qs) es = (es.0.holds.left, lefts_known qs es.1)
@@ -158,7 +158,7 @@ module _ (D : Defs) (A : Apply) (ms : Models D A) (ground : HasGround D) (c : Ct
           one_argument (λ qs. Each (ArgumentHolds D c f) qs → val A (Call f (lefts qs)) e ≡ val A (Call f (rights qs)) e) qs
           (λ r es. ap (λ g. val A (Call g (r.lhs ∷ [])) e) is ∙ same_nots e h r es.0 ∙ ap (λ g. val A (Call g (r.rhs ∷ [])) e) (sym is)) (one_formal (length qs) takes_one) es
 
-pub cong_stands : (D : Defs) → Total D → HasGround D → (c : Ctx) (f : Symbol) (qs : List Sequent) → KnownFacts D c.0 → is_head D f (prim_of f) (length qs) ≡ true
+pub cong_stands : (D : Defs) → Total D → DefinesNot D → (c : Ctx) (f : Symbol) (qs : List Sequent) → KnownFacts D c.0 → is_head D f (prim_of f) (length qs) ≡ true
     → Each (ArgumentHolds D c f) qs → Holds D (cong_made c f qs)
 cong_stands D total ground c f qs facts head es =
     let (A, ms) = models D total in
@@ -190,7 +190,7 @@ pub arguments_hold : (w : Shown) (c : Ctx) (f : Symbol) (qs : List Equiv) → Ea
 arguments_hold w c f [] es = tt
 arguments_hold w c f (q ∷ qs) es = (record { holds = es.0.stands.says; fits = es.0.fits }, arguments_hold w c f qs es.1)
 
-pub cong_holds : (w : Shown) → Total (function_of w.entries) → HasGround (function_of w.entries) → (c : Ctx) (f : Symbol) (qs : List Equiv) → KnownFacts (function_of w.entries) c.0
+pub cong_holds : (w : Shown) → Total (function_of w.entries) → DefinesNot (function_of w.entries) → (c : Ctx) (f : Symbol) (qs : List Equiv) → KnownFacts (function_of w.entries) c.0
     → is_head (function_of w.entries) f (prim_of f) (length qs) ≡ true → Each (IsArgument w c f) qs → Holds (function_of w.entries) (cong_made c f (said qs))
 cong_holds w total ground c f qs facts head es =
     cong_stands (function_of w.entries) total ground c f (said qs) facts

@@ -35,7 +35,7 @@ use Rattle.ap_kernel.specs.declared.shapes.ShapeRef.TheVariants as lent
 use Rattle.ap_kernel.specs.declared.objects.Ctx.{Ctx}
 use Rattle.ap_kernel.specs.declared.objects.Mode.{Mode}
 use Rattle.ap_kernel.specs.declared.objects.Mode.TheVariants.{Equal, Iff}
-use Rattle.ap_kernel.specs.Standing.{HasGround, Same, Holds}
+use Rattle.ap_kernel.specs.Standing.{DefinesNot, Same, Holds}
 use Rattle.ap_kernel.specs.Shapes.{seen}
 use Rattle.ap_kernel.specs.Masks.{MaskHolds}
 use Rattle.ap_kernel.specs.Answers.{if_of}
@@ -166,7 +166,7 @@ pub not_nil : (x : Bool) → value_eq (truth x) nil ≡ not x
 not_nil true = t-not_nil
 not_nil false = value_eq-same nil
 
-module _ (D : Defs) (A : Apply) (ms : Models D A) (ground : HasGround D) (e : Env) where
+module _ (D : Defs) (A : Apply) (ms : Models D A) (ground : DefinesNot D) (e : Env) where
   -- whether a term is nil, by whether it is without its calls of `not`
   pub bare_turns : (u : Term) → value_eq (val A u e) nil ≡ turned_by (bare u).1 (value_eq (val A (bare u).0 e) nil)
   bare_turns u = nots_ind Goal step u
@@ -245,14 +245,14 @@ one_branch true v = refl
 one_branch false v = refl
 
 -- the shapes are known where their parts are
-head_not : (D : Defs) → HasGround D → is_head D not_name (prim_of not_name) 1 ≡ true
+head_not : (D : Defs) → DefinesNot D → is_head D not_name (prim_of not_name) 1 ≡ true
 unfolding not_function
 head_not D ground = rw (prim_of_not, ground) refl
 
-pub known_not : (D : Defs) → HasGround D → (a : Term) → known D a ≡ true → known D (not_of a) ≡ true
+pub known_not : (D : Defs) → DefinesNot D → (a : Term) → known D a ≡ true → known D (not_of a) ≡ true
 known_not D ground a k = known_by D not_name (a ∷ []) (head_not D ground) (true_each (known D) (a ∷ []) (k, tt))
 
-known_branches : (D : Defs) → HasGround D → (k : Bool) (a b c : Term) → known D a ≡ true → known D b ≡ true → known D c ≡ true → known D (by_branches k a b c) ≡ true
+known_branches : (D : Defs) → DefinesNot D → (k : Bool) (a b c : Term) → known D a ≡ true → known D b ≡ true → known D c ≡ true → known D (by_branches k a b c) ≡ true
 known_branches D ground k a b c p q r = go (k && (is_t_constant b && is_constant false c)) (is_constant false b && is_t_constant c)
   where
     go : (x y : Bool) → known D (cond x a (cond y (not_of a) (if_of a b c))) ≡ true
@@ -260,7 +260,7 @@ known_branches D ground k a b c p q r = go (k && (is_t_constant b && is_constant
     go false true = known_not D ground a p
     go false false = known_if D a b c p q r
 
-known_shape : (D : Defs) → HasGround D → (k : Bool) (a b c : Term) → known D a ≡ true → known D b ≡ true → known D c ≡ true → known D (if_shape k a b c) ≡ true
+known_shape : (D : Defs) → DefinesNot D → (k : Bool) (a b c : Term) → known D a ≡ true → known D b ≡ true → known D c ≡ true → known D (if_shape k a b c) ≡ true
 known_shape D ground k a b c p q r = go (term_eq b c) (bare a).1
   where
     go : (x odd : Bool) → known D (cond x b (cond odd (by_branches k (bare a).0 c b) (by_branches k (bare a).0 b c))) ≡ true
@@ -268,7 +268,7 @@ known_shape D ground k a b c p q r = go (term_eq b c) (bare a).1
     go false true = known_branches D ground k (bare a).0 c b (bare_known D a p) r q
     go false false = known_branches D ground k (bare a).0 b c (bare_known D a p) q r
 
-known_choice : (D : Defs) → HasGround D → (k : Bool) (u : Term) (y : Shape Term) → Says u y → known D u ≡ true → known D (choice_leads k u y) ≡ true
+known_choice : (D : Defs) → DefinesNot D → (k : Bool) (u : Term) (y : Shape Term) → Says u y → known D u ≡ true → known D (choice_leads k u y) ≡ true
 known_choice D ground k u (choice a b c) h l =
     let ks = each_true (known D) (a ∷ b ∷ c ∷ []) (known_args D if_name (a ∷ b ∷ c ∷ []) (subst (λ u. known D u ≡ true) h l)) in
     go (shape_of a) ks.0 ks.1.0 ks.1.1.0
@@ -282,7 +282,7 @@ known_choice D ground k u (choice a b c) h l =
     go y p q r = known_shape D ground k a b c p q r
 known_choice D ground k u y h l = l
 
-module _ (D : Defs) (A : Apply) (ms : Models D A) (ground : HasGround D) (e : Env) (m : Mode) (k : Mask) where
+module _ (D : Defs) (A : Apply) (ms : Models D A) (ground : DefinesNot D) (e : Env) (m : Mode) (k : Mask) where
   same_branches : (a b c : Term) → Has k (val A a e) → Same m (cond (value_eq (val A a e) nil) (val A c e) (val A b e)) (val A (by_branches (is_truth m k) a b c) e)
   same_branches a b c has = go (is_truth m k && (is_t_constant b && is_constant false c)) refl (is_constant false b && is_t_constant c) refl
     where
@@ -321,7 +321,7 @@ module _ (D : Defs) (A : Apply) (ms : Models D A) (ground : HasGround D) (e : En
       go (constant v) l = rw (ap (λ u. val A u e) l ∙ val_quote A v e) (pick (value_eq (val_of v) nil))
       go y l = same_shape a b c has
 
-pub choice_stands : (D : Defs) → Total D → HasGround D → (c : Ctx) (m : Mode) (u : Term) (k : Mask) → KnownFacts D c.0 → known D u ≡ true → is_choice (shape_of u) ≡ true
+pub choice_stands : (D : Defs) → Total D → DefinesNot D → (c : Ctx) (m : Mode) (u : Term) (k : Mask) → KnownFacts D c.0 → known D u ≡ true → is_choice (shape_of u) ≡ true
     → MaskHolds D c.0 (bare_test u) k → Holds D (choice_made c m u k)
 choice_stands D total ground c m u k facts u_known is holds =
     let (A, ms) = models D total in

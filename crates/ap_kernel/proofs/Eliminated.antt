@@ -16,7 +16,7 @@ use Rattle.ap_world.proofs.Knowing.{true_each}
 use Rattle.ap_world.proofs.TotalMeaning.{Apply, Models, models, val, val_var, AnyTrue, valid_is, valid_of}
 use Rattle.ap_world.proofs.Equations.{knowing, val_consp, val_cons, val_car, val_cdr, t_isnt_nil}
 use Rattle.ap_world.proofs.Starting.{val_not}
-use Rattle.ap_kernel.specs.Standing.{HasGround}
+use Rattle.ap_kernel.specs.Standing.{DefinesNot}
 use Rattle.ap_kernel.specs.Reductions.{KnownClause, Follows}
 use Rattle.ap_kernel.specs.Solving.{occurs_in}
 use Rattle.ap_kernel.proofs.Reduced.{any_left, any_right, any_either, each_append, each_parts}
@@ -48,7 +48,7 @@ around u (w ∷ ws) rest h = go (term_eq u w) refl (without_first u ws) refl (ar
         let p = later us r in
         (w ∷ p.0, p.1, ap (λ zs. w ∷ zs) p.2, sym same ∙ ap (λ zs. w ∷ zs) p.3)
 
-module _ (D : Defs) (A : Apply) (ms : Models D A) (ground : HasGround D) (v a b : Symbol) (apart : symbol_eq b a ≡ false) where
+module _ (D : Defs) (A : Apply) (ms : Models D A) (ground : DefinesNot D) (v a b : Symbol) (apart : symbol_eq b a ≡ false) where
   consp_val : (e : Env) → val A (consp_term v) e ≡ truth (is_cons (value_at e v))
   consp_val e = val_consp A (Var v) e ∙ ap (λ w. truth (is_cons w)) (val_var A v e)
 
@@ -133,7 +133,7 @@ each_around P u ts rest (xs, ys, whole, left) h =
     let p = each_parts P xs (u ∷ ys) (subst (Each P) whole h) in
     subst (Each P) (sym left) (each_append P xs ys p.0 p.1.1)
 
-pub eliminated_follows : (D : Defs) → Total D → HasGround D → (c : Clause) (v a b : Symbol) → KnownClause D c
+pub eliminated_follows : (D : Defs) → Total D → DefinesNot D → (c : Clause) (v a b : Symbol) → KnownClause D c
     → occurs_in a c.0 ≡ false → occurs_in b c.0 ≡ false → symbol_eq b a ≡ false → Follows D (eliminated c v a b)
 eliminated_follows D total ground c v a b k na nb apart = go (without_first (not_of (consp_term v)) c.0) refl
   where

@@ -16,7 +16,7 @@ use Rattle.ap_world.proofs.TotalMeaning.{Apply, Models, val, AnyTrue}
 use Rattle.ap_world.proofs.Equations.{knowing, val_equal, eq-not_nil, t_isnt_nil}
 use Rattle.ap_world.proofs.Starting.{val_not}
 use Rattle.ap_kernel.specs.declared.reductions.Inference.{Inference}
-use Rattle.ap_kernel.specs.Standing.{HasGround}
+use Rattle.ap_kernel.specs.Standing.{DefinesNot}
 use Rattle.ap_world.specs.Shapes.{Shape, negation, equation, shape_of}
 use Rattle.ap_kernel.specs.Equations.{equal_of}
 use Rattle.ap_kernel.specs.Reductions.{KnownClause, Follows, put_at, others}
@@ -52,7 +52,7 @@ negated_are u p h = go (shape_of u) (shape_says u) h
     go y s l = cc
 
 -- where a negated equation is nil, its sides have one value
-pub sides_same : (D : Defs) (A : Apply) → Models D A → HasGround D → (e : Env) (a b : Term) → val A (not_of (equal_of a b)) e ≡ nil → val A a e ≡ val A b e
+pub sides_same : (D : Defs) (A : Apply) → Models D A → DefinesNot D → (e : Env) (a b : Term) → val A (not_of (equal_of a b)) e ≡ nil → val A a e ≡ val A b e
 sides_same D A ms ground e a b isnil = value_eq-true (val A a e) (val A b e) (by_value (value_eq (val A (equal_of a b) e) nil) refl)
   where
     test : Bool
@@ -122,7 +122,7 @@ changed_stands c i j h = go (fertilise_made c i j) refl h
         let (g, at_j, new) = then_some (slice_get c.0 j) (literal_fertilised p) w literal in
         slice_get_within c.0 j g at_j
 
-pub fertilised_follows : (D : Defs) → Total D → HasGround D → (c : Clause) (i j : ℕ) (r : Inference) → KnownClause D c → fertilise_made c i j ≡ Some r → Follows D r
+pub fertilised_follows : (D : Defs) → Total D → DefinesNot D → (c : Clause) (i j : ℕ) (r : Inference) → KnownClause D c → fertilise_made c i j ≡ Some r → Follows D r
 fertilised_follows D total ground c i j r k h =
     let (p, hypothesis, rest) = then_some (and_then (slice_get c.0 i) (λ u. negated_sides (shape_of u))) (fertilised_by c i j) r h in
     let (u, at_i, sides) = then_some (slice_get c.0 i) (λ u. negated_sides (shape_of u)) p hypothesis in

@@ -19,14 +19,14 @@ use Rattle.ap_world.proofs.Looking.{theorem_good}
 use Rattle.ap_world.proofs.TotalMeaning.{Apply, Models, models, val, AnyTrue, valid_is, valid_of, replaced, val_subst}
 use Rattle.ap_world.proofs.Equations.{nil-eq, not_nil-eq}
 use Rattle.ap_world.proofs.Instances.{known_subst}
-use Rattle.ap_kernel.specs.Standing.{HasGround}
+use Rattle.ap_kernel.specs.Standing.{DefinesNot}
 use Rattle.ap_kernel.specs.Reductions.{KnownClause, Follows}
 use Rattle.ap_kernel.specs.Hinting.{case_clauses, cased, used}
 use Rattle.ap_kernel.proofs.ChoicesStand.{known_not}
 use Rattle.ap_kernel.proofs.Reduced.{any_either, any_or, each_append, each_parts, to_one_reduces}
 use Rattle.ap_kernel.proofs.Splitting.{negate_turns, negate_known}
 
-module _ (D : Defs) (A : Apply) (ms : Models D A) (ground : HasGround D) where
+module _ (D : Defs) (A : Apply) (ms : Models D A) (ground : DefinesNot D) where
   negated_nil : (e : Env) (u : Term) → val A u e ≢ nil → val A (negate u) e ≡ nil
   negated_nil e u h = nil-eq (val A (negate u) e) (negate_turns D A ms ground e u ∙ ap not (not_nil-eq (val A u e) h))
 
@@ -59,7 +59,7 @@ module _ (D : Defs) (A : Apply) (ms : Models D A) (ground : HasGround D) where
       go (inl h) = cases_hold e on ts both.0 h
       go (inr ns) = last ns (any_either (λ u. val A u e ≢ nil) on ts (valid_is D A ms (on ++ ts) both.1.0 e))
 
-cases_known : (D : Defs) → HasGround D → (on ts : List Term) → Each (λ u. known D u ≡ true) on → Each (λ u. known D u ≡ true) ts → Each (KnownClause D) (case_clauses on ts)
+cases_known : (D : Defs) → DefinesNot D → (on ts : List Term) → Each (λ u. known D u ≡ true) on → Each (λ u. known D u ≡ true) ts → Each (KnownClause D) (case_clauses on ts)
 cases_known D ground on ts ks k =
     each_append (KnownClause D) (map (λ u. record { 0 = negate u ∷ ts }) on) (record { 0 = on ++ ts } ∷ []) (each on ks) (each_append (λ u. known D u ≡ true) on ts ks k, tt)
   where
@@ -67,7 +67,7 @@ cases_known D ground on ts ks k =
     each [] ks = tt
     each (u ∷ us) ks = ((negate_known D (known_not D ground) u ks.0, k), each us ks.1)
 
-pub cased_follows : (D : Defs) → Total D → HasGround D → (c : Clause) (on : List Term) → KnownClause D c → Each (λ u. known D u ≡ true) on → Follows D (cased c on)
+pub cased_follows : (D : Defs) → Total D → DefinesNot D → (c : Clause) (on : List Term) → KnownClause D c → Each (λ u. known D u ≡ true) on → Follows D (cased c on)
 cased_follows D total ground c on k ks =
     let (A, ms) = models D total in
     record {
@@ -84,7 +84,7 @@ instance_true D A ms u valid s e isnil = go (valid_is D A ms (u ∷ []) valid (r
     go (inl h) = h (sym (val_subst A s u e) ∙ isnil)
     go (inr h) = h
 
-pub used_follows : (W : List Entry) → Sound W → HasGround (function_of W) → (c : Clause) (x : Symbol) (u : Theorem) (s : Pairs) → theorem_of W x ≡ Some u → KnownClause (function_of W) c → KnownPairs (function_of W) s
+pub used_follows : (W : List Entry) → Sound W → DefinesNot (function_of W) → (c : Clause) (x : Symbol) (u : Theorem) (s : Pairs) → theorem_of W x ≡ Some u → KnownClause (function_of W) c → KnownPairs (function_of W) s
     → Follows (function_of W) (used c u.term s)
 used_follows W sound ground c x u s found k ks = go (theorem_good W sound x u found)
   where

@@ -11,7 +11,7 @@ use Rattle.ap_world.proofs.TotalMeaning.{Apply, Models, models, val, val_is}
 use Rattle.ap_world.proofs.Starting.{val_not}
 use Rattle.ap_kernel.specs.declared.objects.Ctx.{Ctx}
 use Rattle.ap_kernel.specs.declared.objects.Mode.{Mode}
-use Rattle.ap_kernel.specs.Standing.{HasGround, Same, Holds}
+use Rattle.ap_kernel.specs.Standing.{DefinesNot, Same, Holds}
 use Rattle.ap_world.specs.Facts.{KnownFacts}
 use Rattle.ap_kernel.specs.Masks.{MaskHolds}
 use Rattle.ap_kernel.specs.Choices.{is_truth, double_not_made}
@@ -19,7 +19,7 @@ use Rattle.ap_kernel.proofs.Standing.{stand}
 use Rattle.ap_kernel.proofs.ChoicesStand.{not_nil, truth_same, known_not}
 
 -- two calls of `not`, where only nil counts, or the argument is t or nil
-pub double_not_stands : (D : Defs) → Total D → HasGround D → (c : Ctx) (m : Mode) (z : Term) (k : Mask) → KnownFacts D c.0 → known D z ≡ true → MaskHolds D c.0 z k → is_truth m k ≡ true
+pub double_not_stands : (D : Defs) → Total D → DefinesNot D → (c : Ctx) (m : Mode) (z : Term) (k : Mask) → KnownFacts D c.0 → known D z ≡ true → MaskHolds D c.0 z k → is_truth m k ≡ true
     → Holds D (double_not_made c m z)
 double_not_stands D total ground c m z k facts z_known holds fits =
     let (A, ms) = models D total in

@@ -17,7 +17,7 @@ use Rattle.ap_world.proofs.Assumed.{both_each, assumed_known, assumed_holds}
 use Rattle.ap_kernel.specs.declared.objects.Sequent.{Sequent}
 use Rattle.ap_kernel.specs.declared.reductions.Inference.{Inference}
 use Rattle.ap_kernel.specs.declared.reductions.Reduction.{Reduction}
-use Rattle.ap_kernel.specs.Standing.{HasGround, Holds}
+use Rattle.ap_kernel.specs.Standing.{DefinesNot, Holds}
 use Rattle.ap_kernel.specs.Reductions.{KnownClause, Follows, Reduces, put_at, others, all_false, to_one, dropped, rewritten, claims, all_from, all_to, chained}
 use Rattle.ap_kernel.proofs.Standing.{agree}
 use Rattle.ap_kernel.proofs.CallsStand.{both_nil}
@@ -111,7 +111,7 @@ any_or A e (t ∷ ts) = go (value_eq (val A t e) nil) refl (any_or A e ts)
     go true q (inr h) = inr (nil-eq (val A t e) q, h)
 
 -- the facts of literals that are nil hold
-pub all_false_hold : (D : Defs) (A : Apply) → Models D A → HasGround D → (e : Env) (ts : List Term) → Each (λ u. known D u ≡ true) ts → Each (λ u. val A u e ≡ nil) ts → FactsHold D e (all_false ts)
+pub all_false_hold : (D : Defs) (A : Apply) → Models D A → DefinesNot D → (e : Env) (ts : List Term) → Each (λ u. known D u ≡ true) ts → Each (λ u. val A u e ≡ nil) ts → FactsHold D e (all_false ts)
 all_false_hold D A ms ground e [] ks hs = tt
 all_false_hold D A ms ground e (t ∷ ts) ks hs =
     both_each (FactHolds D e) (assumed t false) (all_false ts) (assumed_holds D A ms ground e t false ks.0 hs.0) (all_false_hold D A ms ground e ts ks.1 hs.1)
@@ -146,7 +146,7 @@ pub dropped_reduces : (D : Defs) → Total D → (c : Clause) (i : ℕ) → Know
 dropped_reduces D total c i k =
     to_one_reduces D total c (others i c.0) k (each_put (λ u. known D u ≡ true) i [] c.0 tt k) (λ A ms e h. any_others (λ u. val A u e ≢ nil) i c.0 h)
 
-pub rewritten_reduces : (D : Defs) → Total D → HasGround D → (c : Clause) (i : ℕ) (q : Sequent) → KnownClause D c → Holds D q → slice_get c.0 i ≡ Some q.lhs
+pub rewritten_reduces : (D : Defs) → Total D → DefinesNot D → (c : Clause) (i : ℕ) (q : Sequent) → KnownClause D c → Holds D q → slice_get c.0 i ≡ Some q.lhs
     → q.ctx.0 ≡ all_false (others i c.0) → Follows D (rewritten c i q.rhs)
 rewritten_reduces D total ground c i q k s at facts =
     to_one_reduces D total c (put_at i (q.rhs ∷ []) c.0) k (each_put (λ u. known D u ≡ true) i (q.rhs ∷ []) c.0 (s.right, tt) k)

@@ -23,7 +23,7 @@ use Rattle.ap_world.proofs.Equations.{val_equal, eq-not_nil, t_isnt_nil}
 use Rattle.ap_world.proofs.Starting.{val_not}
 use Rattle.ap_world.proofs.Shaped.{Says, shape_says}
 use Rattle.ap_kernel.specs.declared.reductions.Inference.{Inference}
-use Rattle.ap_kernel.specs.Standing.{HasGround}
+use Rattle.ap_kernel.specs.Standing.{DefinesNot}
 use Rattle.ap_kernel.specs.Equations.{equal_of}
 use Rattle.ap_kernel.specs.Reductions.{KnownClause, Follows, others}
 use Rattle.ap_kernel.specs.Splits.{and_then}
@@ -116,7 +116,7 @@ solves u p h = negated (shape_of u) (shape_says u) h
     negated y s h = cc
 
 -- where the literal is nil, the variable has the value of what replaces it
-solved_value : (D : Defs) (A : Apply) → Models D A → HasGround D → (e : Env) (u : Term) (p : Symbol × Term) → Solves u p → val A u e ≡ nil → value_at e p.0 ≡ val A p.1 e
+solved_value : (D : Defs) (A : Apply) → Models D A → DefinesNot D → (e : Env) (u : Term) (p : Symbol × Term) → Solves u p → val A u e ≡ nil → value_at e p.0 ≡ val A p.1 e
 solved_value D A ms ground e u p s isnil = go s.sides
   where
     test : Bool
@@ -153,7 +153,7 @@ solved_known D u p s k = go s.sides
     go (inl h) = subst (λ w. known D w ≡ true) h.1 ks.1.0
     go (inr h) = subst (λ w. known D w ≡ true) h.1 ks.0
 
-pub solved_reduces : (D : Defs) → Total D → HasGround D → (c : Clause) (i : ℕ) (r : Inference) → KnownClause D c → solved_made c i ≡ Some r → Follows D r
+pub solved_reduces : (D : Defs) → Total D → DefinesNot D → (c : Clause) (i : ℕ) (r : Inference) → KnownClause D c → solved_made c i ≡ Some r → Follows D r
 solved_reduces D total ground c i r k h =
     let (p, solved, made) = then_some (and_then (slice_get c.0 i) solved_by) (λ p. Some (replaced_in c i p)) r h in
     let (u, at, by) = then_some (slice_get c.0 i) solved_by p solved in

@@ -23,7 +23,7 @@ use Rattle.ap_world.proofs.Starting.{val_not}
 use Rattle.ap_world.proofs.Shaped.{Says, shape_says}
 use Rattle.ap_kernel.specs.declared.shapes.ShapeRef.{ShapeRef}
 use Rattle.ap_kernel.specs.declared.shapes.ShapeRef.TheVariants as lent
-use Rattle.ap_kernel.specs.Standing.{HasGround}
+use Rattle.ap_kernel.specs.Standing.{DefinesNot}
 use Rattle.ap_kernel.specs.Shapes.{seen}
 use Rattle.ap_kernel.specs.declared.reductions.Inference.{Inference}
 use Rattle.ap_kernel.specs.Answers.{if_of}
@@ -98,7 +98,7 @@ negate_other u (lent.Cons a b) h k = negate_is u ∙ ap (λ y. negated_by y u) (
 negate_other u lent.Other h k = negate_is u ∙ ap (λ y. negated_by y u) (sym h)
 
 -- it is nil exactly where the term isn't
-pub negate_turns : (D : Defs) (A : Apply) → Models D A → HasGround D → (e : Env) (u : Term) → value_eq (val A (negate u) e) nil ≡ not (value_eq (val A u e) nil)
+pub negate_turns : (D : Defs) (A : Apply) → Models D A → DefinesNot D → (e : Env) (u : Term) → value_eq (val A (negate u) e) nil ≡ not (value_eq (val A u e) nil)
 negate_turns D A ms ground e u = ap (λ w. value_eq (val A w e) nil) (negate_is u) ∙ go (shape_of u) (shape_says u)
   where
     twice : (x : Bool) → x ≡ not (not x)
@@ -285,7 +285,7 @@ can_split c i is h none = literal (slice_get c.0 i) refl h none
     literal (Some u) e h none = cases u (choice_at is u) refl h none
 
 -- the clause is valid where both cases are
-pub split_reduces : (D : Defs) → Total D → HasGround D → (c : Clause) (i : ℕ) (is : List ℕ) (r : Inference) → KnownClause D c → split_made c i is ≡ Some r → Follows D r
+pub split_reduces : (D : Defs) → Total D → DefinesNot D → (c : Clause) (i : ℕ) (is : List ℕ) (r : Inference) → KnownClause D c → split_made c i is ≡ Some r → Follows D r
 split_reduces D total ground c i is r k h =
     let (u, at, by_choice) = then_some (slice_get c.0 i) (λ u. and_then (choice_at is u) (literal_split c i is u)) r h in
     let (p, there, by_parts) = then_some (choice_at is u) (literal_split c i is u) r by_choice in

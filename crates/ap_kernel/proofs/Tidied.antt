@@ -17,7 +17,7 @@ use Rattle.ap_world.proofs.Equations.{nil-eq, eq-not_nil}
 use Rattle.ap_world.proofs.Starting.{val_not}
 use Rattle.ap_world.proofs.Shaped.{Says, shape_says}
 use Rattle.ap_world.proofs.Assumed.{constant_signed}
-use Rattle.ap_kernel.specs.Standing.{HasGround}
+use Rattle.ap_kernel.specs.Standing.{DefinesNot}
 use Rattle.ap_kernel.specs.Equations.{truth_constant}
 use Rattle.ap_kernel.specs.Choices.{bare}
 use Rattle.ap_kernel.specs.Reductions.{KnownClause, Follows}
@@ -31,7 +31,7 @@ either true b h = inl refl
 either false b h = inr h
 
 -- the plain form of a literal is known
-known_plain : (D : Defs) → HasGround D → (u : Term) → known D u ≡ true → known D (plain u) ≡ true
+known_plain : (D : Defs) → DefinesNot D → (u : Term) → known D u ≡ true → known D (plain u) ≡ true
 known_plain D ground u k = go (bare u).1 (shape_of (bare u).0)
   where
     truth_known : (b : Bool) → known D (truth_constant b) ≡ true
@@ -55,14 +55,14 @@ known_kept D before (u ∷ us) ks = go (is_constant false u || is_among term_eq 
     go true p q = p
     go false p q = (ks.0, q)
 
-known_tidied : (D : Defs) → HasGround D → (ts : List Term) → Each (λ u. known D u ≡ true) ts → Each (λ u. known D u ≡ true) (tidied ts)
+known_tidied : (D : Defs) → DefinesNot D → (ts : List Term) → Each (λ u. known D u ≡ true) ts → Each (λ u. known D u ≡ true) (tidied ts)
 known_tidied D ground ts ks = known_kept D [] (map plain ts) (each_plain ts ks)
   where
     each_plain : (ts : List Term) → Each (λ u. known D u ≡ true) ts → Each (λ u. known D u ≡ true) (map plain ts)
     each_plain [] ks = tt
     each_plain (t ∷ ts) ks = (known_plain D ground t ks.0, each_plain ts ks.1)
 
-module _ (D : Defs) (A : Apply) (ms : Models D A) (ground : HasGround D) (e : Env) where
+module _ (D : Defs) (A : Apply) (ms : Models D A) (ground : DefinesNot D) (e : Env) where
   -- a literal and its plain form are both nil or both not
   plain_nil : (u : Term) → value_eq (val A (plain u) e) nil ≡ value_eq (val A u e) nil
   plain_nil u = go (bare u).1 refl (shape_of (bare u).0) (shape_says (bare u).0) ∙ sym (bare_turns D A ms ground e u)
@@ -151,7 +151,7 @@ module _ (D : Defs) (A : Apply) (ms : Models D A) (ground : HasGround D) (e : En
       go (inl k) = k
       go (inr k) = k
 
-pub tidy_reduces : (D : Defs) → Total D → HasGround D → (c : Clause) → KnownClause D c → Follows D (tidy_made c)
+pub tidy_reduces : (D : Defs) → Total D → DefinesNot D → (c : Clause) → KnownClause D c → Follows D (tidy_made c)
 tidy_reduces D total ground c k = go (holds_by_itself (tidied c.0)) refl
   where
     go : (b : Bool) → holds_by_itself (tidied c.0) ≡ b → Follows D (record { from = c; to = cond b [] (record { 0 = tidied c.0 } ∷ []) })

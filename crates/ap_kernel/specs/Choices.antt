@@ -5,7 +5,9 @@ use Rattle.ap_term.specs.declared.term.Term.{Term, para-Term}
 use Rattle.ap_term.specs.declared.term.Term.TheOpen.{Term-F}
 use Rattle.ap_term.specs.Equal.{term_eq}
 use Rattle.ap_world.specs.declared.entry.Mask.{Mask}
+use Rattle.ap_world.specs.Kinds.{without}
 use Rattle.ap_world.specs.Primitives.{nil, t}
+use Rattle.ap_world.specs.Types.{truths}
 use Rattle.ap_world.specs.Clauses.{not_of}
 use Rattle.ap_world.specs.Shapes.{Shape, constant, choice, negation, layer_shape, shape_of, is_constant}
 use Rattle.ap_world.specs.Assume.{whole}
@@ -47,7 +49,7 @@ is_t_constant u = means_t (shape_of u)
 -- only whether the value is nil counts, or no value but t and nil is in the mask
 abbrev pub is_truth : Mode → Mask → Bool
 is_truth Iff m = true
-is_truth Equal m = nat_eq (bit_and m.0 999) 0
+is_truth Equal m = nat_eq (bit_and m.0 (without truths.0)) 0
 
 -- an `if` whose test is no call of `not`: the test where the branches are 'T and 'NIL and the test's value
 -- is as good as a truth, its negation where they are 'NIL and 'T, else the `if`

@@ -6,11 +6,13 @@ use Rattle.ap_term.specs.declared.term.Term.TheOpen.{Term-F}
 use Rattle.ap_world.specs.declared.entry.Mask.{Mask}
 use Rattle.ap_world.specs.declared.primitive.Primitive.{Primitive as Prim}
 use Rattle.ap_world.specs.declared.primitive.Primitive.TheVariants as prim
+use Rattle.ap_world.specs.Kinds.{without}
 use Rattle.ap_world.specs.Names.{less_name}
 use Rattle.ap_world.specs.Primitives.{prim_of}
 use Rattle.ap_world.specs.Recursion.{nil_constant, t_constant}
 use Rattle.ap_world.specs.Meaning.{Env, Defs, FactHolds}
 use Rattle.ap_world.specs.Facts.{FactsHold}
+use Rattle.ap_world.specs.Types.{integers}
 use Rattle.ap_poly.specs.Polynomials.{Polynomial}
 use Rattle.ap_poly.specs.Holding.{PolyHolds}
 use Rattle.ap_kernel.specs.declared.objects.Ctx.{Ctx}
@@ -46,7 +48,7 @@ less_of a b = Call less_name (a ∷ b ∷ [])
 
 -- a mask within the integers
 abbrev pub is_within_integers : Mask → Bool
-is_within_integers m = nat_eq (bit_and m.0 1016) 0
+is_within_integers m = nat_eq (bit_and m.0 (without integers.0)) 0
 
 abbrev pub not_less_made : Ctx → Term → Term → Sequent
 not_less_made c a b = record { ctx = c; mode = Equal; lhs = less_of a b; rhs = nil_constant }

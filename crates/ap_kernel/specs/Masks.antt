@@ -7,7 +7,8 @@ use Rattle.ap_term.specs.declared.term.Term.{Term, Quote, Call}
 use Rattle.ap_world.specs.declared.entry.Mask.{Mask}
 use Rattle.ap_world.specs.Primitives.{nil, t}
 use Rattle.ap_world.specs.Meaning.{Env, Defs, HasValue}
-use Rattle.ap_world.specs.Types.{Has}
+use Rattle.ap_world.specs.Kinds.{all, without}
+use Rattle.ap_world.specs.Types.{Has, zero_bit, nil_bit, t_bit}
 use Rattle.ap_world.specs.Facts.{Facts, FactsHold}
 use Rattle.ap_kernel.specs.declared.objects.Ctx.{Ctx}
 use Rattle.ap_kernel.specs.declared.objects.Mode.{Mode}
@@ -20,7 +21,7 @@ MaskHolds D fs u m = (e : Env) → FactsHold D e fs → (v : V) → HasValue D u
 
 -- the types that have another value than this one: all but the value's own where that type has no other
 abbrev pub others : V → ℕ
-others v = cond (value_eq v nil) 1015 (cond (value_eq v t) 1007 (cond (value_eq v (int (pos 0))) 1022 1023))
+others v = cond (value_eq v nil) (without nil_bit) (cond (value_eq v t) (without t_bit) (cond (value_eq v (int (pos 0))) (without zero_bit) all))
 
 -- the mask has no other value than this one
 abbrev pub has_only : Mask → V → Bool
@@ -28,7 +29,7 @@ has_only m v = nat_eq (bit_and m.0 (others v)) 0
 
 -- the mask excludes nil
 abbrev pub lacks_nil : Mask → Bool
-lacks_nil m = nat_eq (bit_and m.0 8) 0
+lacks_nil m = nat_eq (bit_and m.0 nil_bit) 0
 
 -- a term may lead to a value where the mask has no other, or, for a value other than nil, excludes nil
 abbrev pub leads_to : Mask → V → Bool

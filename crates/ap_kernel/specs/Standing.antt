@@ -13,9 +13,9 @@ use Rattle.ap_kernel.specs.declared.objects.Mode.TheVariants.{Equal, Iff}
 use Rattle.ap_kernel.specs.declared.objects.Sequent.{Sequent}
 use Rattle.ap_kernel.specs.declared.objects.Equiv.{Equiv}
 
--- the world has the one function of the ground world that rows speak of: `not`, as it is given
-abbrev pub HasGround : Defs → Type 0
-HasGround D = D not_name ≡ Some not_function
+-- the world has `not`, as it is given: the one function of the ground world that rows speak of
+abbrev pub DefinesNot : Defs → Type 0
+DefinesNot D = D not_name ≡ Some not_function
 
 -- two values are equal, or both nil or both not
 abbrev pub Same : Mode → V → V → Type 0

@@ -4,7 +4,7 @@ ghost use Rattle.ap_list.specs.Lists.{Each};
 ghost use Rattle.ap_world.specs.Holding.{KnownPairs, part_of};
 ghost use Rattle.ap_world.specs.World.{function_of, theorem_of};
 ghost use Rattle.ap_world.specs.Facts.{KnownFacts};
-ghost use Rattle.ap_kernel.specs.Standing.{HasGround, Stands};
+ghost use Rattle.ap_kernel.specs.Standing.{DefinesNot, Stands};
 ghost use Rattle.ap_kernel.specs.Applying.{conjunct_at, applied_made, PartRelieved};
 
 use crate::objects::{Ctx, Equiv};
@@ -43,7 +43,7 @@ pub fn apply_theorem(
     s: &Subst,
     hyps: Seq<Equiv>,
 ) -> Result<Equiv, NoMemory>
-    requires ground { HasGround (function_of w.now.entries) }
+    requires ground { DefinesNot (function_of w.now.entries) }
     requires facts { KnownFacts (function_of w.now.entries) ctx.now.0 }
     requires pairs { KnownPairs (function_of w.now.entries) s.now.0 }
     requires hyps { Each (Stands w.now) hyps }
@@ -51,7 +51,7 @@ pub fn apply_theorem(
     ensures stands { IfOk result (λ q. Stands w.now q) }
     ensures made { IfOk result (λ q. IfSome (part_of w.now.entries name.now part) (λ g. q.says ≡ applied_made ctx.now s.now.0 g)) }
 {
-    w.is_sound();
+    w.recall_sound();
     let Some(conjunct) = conjunct_of(w, name, part) else {
         unreachable!()
     };

@@ -7,7 +7,7 @@ ghost use Rattle.ap_world.specs.World.{function_of};
 ghost use Rattle.ap_world.specs.Facts.{KnownFacts};
 ghost use Rattle.ap_world.specs.Assume.{assume};
 ghost use Rattle.ap_world.specs.Shapes.{is_constant};
-ghost use Rattle.ap_kernel.specs.Standing.{HasGround, Stands};
+ghost use Rattle.ap_kernel.specs.Standing.{DefinesNot, Stands};
 ghost use Rattle.ap_kernel.specs.Answers.{if_of, branch_made, chosen_made, IsArgument, said, lefts, rights, cong_made};
 
 use crate::choices::copied_if;
@@ -71,14 +71,14 @@ pub fn cong(
     f: &Symbol,
     args: &[Equiv],
 ) -> Result<Equiv, NoMemory>
-    requires ground { HasGround (function_of w.now.entries) }
+    requires ground { DefinesNot (function_of w.now.entries) }
     requires facts { KnownFacts (function_of w.now.entries) ctx.now.0 }
     requires head { IsTrue (is_head (function_of w.now.entries) f.now (prim_of f.now) (length args.now)) }
     requires args { Each (IsArgument w.now ctx.now f.now) args.now }
     ensures stands { IfOk result (λ q. Stands w.now q) }
     ensures made { IfOk result (λ q. q.says ≡ cong_made ctx.now f.now (said args.now)) }
 {
-    w.is_sound();
+    w.recall_sound();
     let ctx = ctx.share()?;
     let lhs = left_call(alloc, f, args)?;
     if Equiv::are_unchanged(args) {
@@ -168,7 +168,7 @@ pub fn branch(
     requires test { Stands w.now test }
     requires yes { Stands w.now yes }
     requires no { Stands w.now no }
-    requires ground { HasGround (function_of w.now.entries) }
+    requires ground { DefinesNot (function_of w.now.entries) }
     requires yes_mode { yes.says.mode ≡ mode }
     requires no_mode { no.says.mode ≡ mode }
     requires yes_facts { yes.says.ctx.0 ≡ assume test.says.ctx.0 test.says.rhs true }
@@ -176,7 +176,7 @@ pub fn branch(
     ensures stands { IfOk result (λ q. Stands w.now q) }
     ensures made { IfOk result (λ q. q.says ≡ branch_made mode test.says yes.says no.says) }
 {
-    w.is_sound();
+    w.recall_sound();
     let unchanged = are_parts_unchanged(&test, &yes, &no);
     let (ctx, left, right) = if_parts(test, yes, no);
     let lhs = left.into_term(alloc)?;
@@ -203,7 +203,7 @@ pub fn choose_branch(
     b: &Term,
     c: &Term,
 ) -> Result<Equiv, NoMemory>
-    requires ground { HasGround (function_of w.now.entries) }
+    requires ground { DefinesNot (function_of w.now.entries) }
     requires test { Stands w.now test }
     requires constant { IsTrue (is_constant sign test.says.rhs) }
     requires yes { IsTrue (known (function_of w.now.entries) b.now) }
@@ -211,7 +211,7 @@ pub fn choose_branch(
     ensures stands { IfOk result (λ q. Stands w.now q) }
     ensures made { IfOk result (λ q. q.says ≡ chosen_made mode test.says sign b.now c.now) }
 {
-    w.is_sound();
+    w.recall_sound();
     let ctx = test.ctx().share()?;
     let lhs = copied_if(alloc, test.lhs(), b, c)?;
     let rhs = copy_term(alloc, branch_of(sign, b, c))?;

@@ -35,7 +35,7 @@ pub fn chain(
     ensures stands { IfOk result (λ r. Reduces w.now r) }
     ensures made { IfOk result (λ r. r.says ≡ chained a.says (claims b)) }
 {
-    w.is_sound();
+    w.recall_sound();
     let (from, _) = a.into_parts();
     let to = all_goals(alloc, b)?;
     Ok(Reduction::made(from, to))

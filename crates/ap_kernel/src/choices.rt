@@ -5,7 +5,7 @@ ghost use Rattle.ap_world.specs.World.{function_of};
 ghost use Rattle.ap_world.specs.Clauses.{not_of};
 ghost use Rattle.ap_world.specs.Facts.{KnownFacts};
 ghost use Rattle.ap_world.specs.Shapes.{shape_of};
-ghost use Rattle.ap_kernel.specs.Standing.{HasGround, Stands};
+ghost use Rattle.ap_kernel.specs.Standing.{DefinesNot, Stands};
 ghost use Rattle.ap_kernel.specs.Masks.{MaskHolds};
 ghost use Rattle.ap_kernel.specs.Answers.{if_of};
 ghost use Rattle.ap_kernel.specs.Choices.{bare, bare_test, is_t_constant, is_truth, by_branches, if_shape, by_constant, choice_leads, is_choice, choice_made, seen_chosen};
@@ -17,7 +17,7 @@ use crate::objects::{Ctx, Equiv, Mode};
 use crate::shapes::{ShapeRef, shape_of};
 use ap_list::{NoMemory, Seq};
 use ap_term::{Term, copy_term, is_same};
-use ap_world::{Mask, World};
+use ap_world::{Mask, World, masks};
 use std::alloc::Global;
 
 /// What an `if` leads to: one of its parts, the negation of its test, or an `if`.
@@ -77,7 +77,7 @@ fn is_truth(mode: Mode, mask: Mask) -> bool
 {
     match mode {
         Mode::Iff => true,
-        Mode::Equal => mask.0 & 999 == 0,
+        Mode::Equal => mask.0 & (masks::ALL ^ masks::TRUTHS) == 0,
     }
 }
 
@@ -174,7 +174,7 @@ pub fn if_shape(
     t: &Term,
     mask: Mask,
 ) -> Result<Equiv, NoMemory>
-    requires ground { HasGround (function_of w.now.entries) }
+    requires ground { DefinesNot (function_of w.now.entries) }
     requires facts { KnownFacts (function_of w.now.entries) ctx.now.0 }
     requires term { IsTrue (known (function_of w.now.entries) t.now) }
     requires choice { IsTrue (is_choice (shape_of t.now)) }
@@ -182,7 +182,7 @@ pub fn if_shape(
     ensures stands { IfOk result (λ q. Stands w.now q) }
     ensures made { IfOk result (λ q. q.says ≡ choice_made ctx.now mode t.now mask) }
 {
-    w.is_sound();
+    w.recall_sound();
     let rhs = own_chosen(alloc, choice_of(is_truth(mode, mask), t))?;
     let answer = Equiv::from_copy(alloc, ctx, mode, t, rhs)?;
     Ok(answer)

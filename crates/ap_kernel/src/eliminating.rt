@@ -4,7 +4,7 @@ ghost use Rattle.ap_term.specs.declared.term.Term.TheVariants.{Var, Call};
 ghost use Rattle.ap_world.specs.Names.{consp_name, cons_name, car_name, cdr_name};
 ghost use Rattle.ap_world.specs.Clauses.{not_of};
 ghost use Rattle.ap_world.specs.World.{function_of};
-ghost use Rattle.ap_kernel.specs.Standing.{HasGround};
+ghost use Rattle.ap_kernel.specs.Standing.{DefinesNot};
 ghost use Rattle.ap_kernel.specs.Reductions.{KnownClause, Reduces};
 ghost use Rattle.ap_kernel.specs.Solving.{occurs_in};
 ghost use Rattle.ap_kernel.specs.Eliminating.{call_on, consp_term, taken_apart, reduced, without_first, elim_goals, eliminated};
@@ -186,7 +186,7 @@ pub fn eliminate(
     a: Symbol,
     b: Symbol,
 ) -> Result<Reduction, NoMemory>
-    requires ground { HasGround (function_of w.now.entries) }
+    requires ground { DefinesNot (function_of w.now.entries) }
     requires clause { KnownClause (function_of w.now.entries) c }
     requires first { occurs_in a c.0 ≡ false }
     requires second { occurs_in b c.0 ≡ false }
@@ -194,7 +194,7 @@ pub fn eliminate(
     ensures stands { IfOk result (λ r. Reduces w.now r) }
     ensures made { IfOk result (λ r. r.says ≡ eliminated c v.now a b) }
 {
-    w.is_sound();
+    w.recall_sound();
     let pairs = taken_apart(alloc, v, &a, &b)?;
     let goals = elim_goals(alloc, v, pairs.as_slice(), c.0.as_slice())?;
     Ok(Reduction::made(c, goals))

@@ -192,7 +192,7 @@ pub fn cons_equal(alloc: Global, w: &World, ctx: &Ctx, t: &Term) -> Result<Equiv
     ensures stands { IfOk result (λ q. Stands w.now q) }
     ensures made { IfOk result (λ q. IfSome (equation_leads ctx.now.0 t.now) (λ u. q.says ≡ equation_made ctx.now t.now u)) }
 {
-    w.is_sound();
+    w.recall_sound();
     let Some(leads) = leads_of(ctx.facts(), t) else {
         unreachable!()
     };

@@ -38,7 +38,7 @@ pub fn by_fact(alloc: Global, w: &World, ctx: &Ctx, index: usize) -> Result<Equi
     ensures stands { IfOk result (λ q. Stands w.now q) }
     ensures made { IfOk result (λ q. IfSome (slice_get ctx.now.0 index) (λ f. q.says ≡ fact_made ctx.now f.0 f.1)) }
 {
-    w.is_sound();
+    w.recall_sound();
     let fact = fact_at(ctx.facts(), index);
     let answer = fact_equiv(alloc, ctx, &fact.0, fact.1)?;
     Ok(answer)

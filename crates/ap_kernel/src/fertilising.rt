@@ -2,7 +2,7 @@ ghost use Rattle.std.specs.Prelude.{◌≡◌, ◌<◌, [], ◌∷◌, IfOk, IsT
 ghost use Rattle.std.specs.Option.{option_map};
 ghost use Rattle.ap_world.specs.Shapes.{shape_of};
 ghost use Rattle.ap_world.specs.World.{function_of};
-ghost use Rattle.ap_kernel.specs.Standing.{HasGround};
+ghost use Rattle.ap_kernel.specs.Standing.{DefinesNot};
 ghost use Rattle.ap_kernel.specs.Reductions.{KnownClause, Reduces, put_at, others, to_one};
 ghost use Rattle.ap_kernel.specs.Equations.{equal_of};
 ghost use Rattle.ap_kernel.specs.Swapping.{swapped};
@@ -157,13 +157,13 @@ pub fn fertilise(
     i: usize,
     j: usize,
 ) -> Result<Reduction, NoMemory>
-    requires ground { HasGround (function_of w.now.entries) }
+    requires ground { DefinesNot (function_of w.now.entries) }
     requires clause { KnownClause (function_of w.now.entries) c }
     requires applies { IsTrue (is_some (fertilise_made c i j)) }
     ensures stands { IfOk result (λ r. Reduces w.now r) }
     ensures made { IfOk result (λ r. fertilise_made c i j ≡ Some r.says) }
 {
-    w.is_sound();
+    w.recall_sound();
     let Some(changed) = literal_changed(alloc, &c, i, j)? else {
         unreachable!()
     };

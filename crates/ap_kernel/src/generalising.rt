@@ -19,14 +19,14 @@ use crate::swapping::swapped_all;
 use ap_list::{NoMemory, Seq};
 use ap_term::{Clause, Term, copy_term};
 use ap_value::{Symbol, acl2, copy_symbol};
-use ap_world::{Mask, World};
+use ap_world::{Mask, World, masks};
 use std::alloc::Global;
 
 /// Whether each type of the first mask is one of the second. Takes no memory.
 fn lies_within(mask: u16, types: u16) -> bool
     ensures { result ≡ lies_within mask types }
 {
-    mask & (1023 ^ types) == 0
+    mask & (masks::ALL ^ types) == 0
 }
 
 /// The first name of a table whose types a mask lies within. Takes no memory.
@@ -127,7 +127,7 @@ pub fn generalise(
     ensures stands { IfOk result (λ r. Reduces w.now r) }
     ensures made { IfOk result (λ r. r.says ≡ generalised c t.now v mask) }
 {
-    w.is_sound();
+    w.recall_sound();
     let literals = restricted(alloc, t, v, mask, c.0.as_slice())?;
     let answer = to_one(alloc, c, literals)?;
     Ok(answer)

@@ -5,7 +5,7 @@ ghost use Rattle.ap_world.specs.Clauses.{negate};
 ghost use Rattle.ap_world.specs.Holding.{KnownPairs};
 ghost use Rattle.ap_world.specs.Sound.{known};
 ghost use Rattle.ap_world.specs.World.{function_of, theorem_of};
-ghost use Rattle.ap_kernel.specs.Standing.{HasGround};
+ghost use Rattle.ap_kernel.specs.Standing.{DefinesNot};
 ghost use Rattle.ap_kernel.specs.Reductions.{KnownClause, Reduces};
 ghost use Rattle.ap_kernel.specs.Hinting.{negated_cases, case_clauses, cased, used};
 
@@ -55,13 +55,13 @@ fn case_clauses(alloc: Global, on: &[Term], literals: &[Term]) -> Result<Seq<Cla
 /// clause with all the terms before it. It copies the literals for each, since the reduction owns all clauses.
 /// See the manual's topic `cases`.
 pub fn cases(alloc: Global, w: &World, c: Clause, on: &Seq<Term>) -> Result<Reduction, NoMemory>
-    requires ground { HasGround (function_of w.now.entries) }
+    requires ground { DefinesNot (function_of w.now.entries) }
     requires clause { KnownClause (function_of w.now.entries) c }
     requires terms { Each (λ u. IsTrue (known (function_of w.now.entries) u)) on.now }
     ensures stands { IfOk result (λ r. Reduces w.now r) }
     ensures made { IfOk result (λ r. r.says ≡ cased c on.now) }
 {
-    w.is_sound();
+    w.recall_sound();
     let goals = case_clauses(alloc, on.as_slice(), c.0.as_slice())?;
     Ok(Reduction::made(c, goals))
 }
@@ -88,14 +88,14 @@ pub fn use_fact(
     name: &Symbol,
     s: &Subst,
 ) -> Result<Reduction, NoMemory>
-    requires ground { HasGround (function_of w.now.entries) }
+    requires ground { DefinesNot (function_of w.now.entries) }
     requires clause { KnownClause (function_of w.now.entries) c }
     requires pairs { KnownPairs (function_of w.now.entries) s.now.0 }
     requires theorem { IsTrue (is_some (theorem_of w.now.entries name.now)) }
     ensures stands { IfOk result (λ r. Reduces w.now r) }
     ensures made { IfOk result (λ r. IfSome (theorem_of w.now.entries name.now) (λ u. r.says ≡ used c u.term s.now.0)) }
 {
-    w.is_sound();
+    w.recall_sound();
     let Some(theorem) = w.lookup_thm(name) else {
         unreachable!()
     };

@@ -304,8 +304,8 @@ pub fn induct(
     ensures stands { IfOk result (λ r. Reduces w.now r) }
     ensures made { IfOk result (λ r. induct_made (function_of w.now.entries f.now) c actuals.now ≡ Some r.says) }
 {
-    w.is_sound();
-    w.has_distinct_names();
+    w.recall_sound();
+    w.recall_distinct_names();
     let Some(goals) = induction_by(alloc, w, &c, f, actuals)? else {
         unreachable!()
     };

@@ -69,7 +69,7 @@ pub fn by_certificate(
     ensures stands { IfOk result (λ q. Stands w.now q) }
     ensures made { IfOk result (λ q. q.says ≡ refuted_made ctx.now t.now sign) }
 {
-    w.is_sound();
+    w.recall_sound();
     let rhs = truth_term(!sign);
     let answer = Equiv::from_copy(alloc, ctx, Mode::Equal, t, rhs)?;
     Ok(answer)
@@ -126,7 +126,7 @@ pub fn both_not_less(
     ensures stands { IfOk result (λ q. Stands w.now q) }
     ensures made { IfOk result (λ q. (a b : Term) → less.says ≡ not_less_made ctx.now a b → q.says ≡ equal_made ctx.now a b) }
 {
-    w.is_sound();
+    w.recall_sound();
     let answer = equal_equiv(alloc, ctx, left_of(less))?;
     Ok(answer)
 }

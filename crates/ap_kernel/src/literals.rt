@@ -1,7 +1,7 @@
 ghost use Rattle.std.specs.Prelude.{◌≡◌, ◌∷◌, [], ◌<◌, IfOk, IsTrue, length, map, slice_get, Some};
 ghost use Rattle.ap_list.specs.Lists.{Each};
 ghost use Rattle.ap_world.specs.World.{function_of};
-ghost use Rattle.ap_kernel.specs.Standing.{HasGround, Stands};
+ghost use Rattle.ap_kernel.specs.Standing.{DefinesNot, Stands};
 ghost use Rattle.ap_kernel.specs.Reductions.{KnownClause, Reduces, put_at, others, all_false, to_one, dropped, rewritten, chained};
 
 use crate::lists::{one, one_clause};
@@ -43,7 +43,7 @@ pub fn keep(alloc: Global, w: &World, c: Clause) -> Result<Reduction, NoMemory>
     ensures stands { IfOk result (λ r. Reduces w.now r) }
     ensures made { IfOk result (λ r. r.says ≡ record { from = c; to = c ∷ [] }) }
 {
-    w.is_sound();
+    w.recall_sound();
     let literals = copy_terms(alloc, c.0.as_slice())?;
     let answer = to_one(alloc, c, literals)?;
     Ok(answer)
@@ -62,7 +62,7 @@ pub fn drop_literal(
     ensures stands { IfOk result (λ r. Reduces w.now r) }
     ensures made { IfOk result (λ r. r.says ≡ dropped c index) }
 {
-    w.is_sound();
+    w.recall_sound();
     let left = put_at(alloc, c.0.as_slice(), index, Seq::new(alloc))?;
     let answer = to_one(alloc, c, left)?;
     Ok(answer)
@@ -78,7 +78,7 @@ pub fn rewrite_literal(
     index: usize,
     e: Equiv,
 ) -> Result<Reduction, NoMemory>
-    requires ground { HasGround (function_of w.now.entries) }
+    requires ground { DefinesNot (function_of w.now.entries) }
     requires clause { KnownClause (function_of w.now.entries) c }
     requires leads { Stands w.now e }
     requires place { slice_get c.0 index ≡ Some e.says.lhs }
@@ -86,7 +86,7 @@ pub fn rewrite_literal(
     ensures stands { IfOk result (λ r. Reduces w.now r) }
     ensures made { IfOk result (λ r. r.says ≡ rewritten c index e.says.rhs) }
 {
-    w.is_sound();
+    w.recall_sound();
     let (_, _, _, rhs) = e.into_parts();
     let put = one(alloc, rhs)?;
     let literals = put_at(alloc, c.0.as_slice(), index, put)?;

@@ -3,7 +3,7 @@ ghost use Rattle.ap_world.specs.Sound.{known};
 ghost use Rattle.ap_world.specs.World.{function_of};
 ghost use Rattle.ap_world.specs.Clauses.{not_of};
 ghost use Rattle.ap_world.specs.Facts.{KnownFacts};
-ghost use Rattle.ap_kernel.specs.Standing.{HasGround, Stands};
+ghost use Rattle.ap_kernel.specs.Standing.{DefinesNot, Stands};
 ghost use Rattle.ap_kernel.specs.Masks.{MaskHolds};
 ghost use Rattle.ap_kernel.specs.Choices.{is_truth, double_not_made};
 
@@ -32,7 +32,7 @@ pub fn double_not(
     t: &Term,
     mask: Mask,
 ) -> Result<Equiv, NoMemory>
-    requires ground { HasGround (function_of w.now.entries) }
+    requires ground { DefinesNot (function_of w.now.entries) }
     requires facts { KnownFacts (function_of w.now.entries) ctx.now.0 }
     requires term { IsTrue (known (function_of w.now.entries) t.now) }
     requires mask { MaskHolds (function_of w.now.entries) ctx.now.0 t.now mask }
@@ -40,7 +40,7 @@ pub fn double_not(
     ensures stands { IfOk result (λ q. Stands w.now q) }
     ensures made { IfOk result (λ q. q.says ≡ double_not_made ctx.now mode t.now) }
 {
-    w.is_sound();
+    w.recall_sound();
     let ctx = ctx.share()?;
     let lhs = twice_negated(alloc, t)?;
     let rhs = copy_term(alloc, t)?;

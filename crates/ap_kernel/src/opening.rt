@@ -86,8 +86,8 @@ pub fn open_def(alloc: Global, w: &World, ctx: &Ctx, call: &Term) -> Result<Equi
     ensures stands { IfOk result (λ q. Stands w.now q) }
     ensures made { IfOk result (λ q. IfSome (opened (function_of w.now.entries) call.now) (λ u. q.says ≡ equation_made ctx.now call.now u)) }
 {
-    w.is_sound();
-    w.has_distinct_names();
+    w.recall_sound();
+    w.recall_distinct_names();
     let Some(rhs) = opened(alloc, w, call)? else {
         unreachable!()
     };
@@ -111,7 +111,7 @@ pub fn fold(
     ensures stands { IfOk result (λ q. Stands w.now q) }
     ensures made { IfOk result (λ q. q.says ≡ equation_made ctx.now call.now (Quote value)) }
 {
-    w.is_sound();
+    w.recall_sound();
     let answer = Equiv::from_copy(alloc, ctx, Mode::Equal, call, Term::Quote(value))?;
     Ok(answer)
 }

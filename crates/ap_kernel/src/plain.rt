@@ -19,7 +19,7 @@ pub fn refl(alloc: Global, w: &World, ctx: &Ctx, mode: Mode, t: &Term) -> Result
     ensures stands { IfOk result (λ q. Stands w.now q) }
     ensures made { IfOk result (λ q. q.says ≡ refl_made ctx.now mode t.now) }
 {
-    w.is_sound();
+    w.recall_sound();
     let ctx = ctx.share()?;
     let side = copy_term(alloc, t)?;
     let answer = Equiv::of_one(alloc, ctx, mode, side)?;
@@ -44,7 +44,7 @@ pub fn trans(alloc: Global, w: &World, a: Equiv, b: Equiv) -> Result<Equiv, NoMe
     ensures stands { IfOk result (λ q. Stands w.now q) }
     ensures made { IsOkAnd result (λ q. q.says ≡ trans_made a.says b.says) }
 {
-    w.is_sound();
+    w.recall_sound();
     let unchanged = are_both_unchanged(&a, &b);
     let (ctx, mode, lhs, _) = a.into_parts();
     let (_, _, _, rhs) = b.into_parts();
@@ -58,7 +58,7 @@ pub fn weaken_mode(alloc: Global, w: &World, a: Equiv) -> Result<Equiv, NoMemory
     ensures stands { IfOk result (λ q. Stands w.now q) }
     ensures made { IsOkAnd result (λ q. q.says ≡ weakened a.says) }
 {
-    w.is_sound();
+    w.recall_sound();
     let unchanged = a.is_unchanged();
     let (ctx, _, lhs, rhs) = a.into_parts();
     Ok(Equiv::made(ctx, Mode::Iff, lhs, rhs).marked(unchanged))

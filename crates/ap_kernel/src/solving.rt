@@ -2,7 +2,7 @@ ghost use Rattle.std.specs.Prelude.{◌≡◌, [], ◌∷◌, IfOk, IsTrue, is_s
 ghost use Rattle.std.specs.Option.{option_map};
 ghost use Rattle.ap_term.specs.declared.term.Term.{out-Term};
 ghost use Rattle.ap_world.specs.World.{function_of};
-ghost use Rattle.ap_kernel.specs.Standing.{HasGround};
+ghost use Rattle.ap_kernel.specs.Standing.{DefinesNot};
 ghost use Rattle.ap_kernel.specs.Reductions.{KnownClause, Reduces, to_one};
 ghost use Rattle.ap_kernel.specs.Solving.{occurs, occurs_in, side_solved, sides_solved, solved_by, solved_made};
 
@@ -124,13 +124,13 @@ pub fn use_equality(
     c: Clause,
     index: usize,
 ) -> Result<Reduction, NoMemory>
-    requires ground { HasGround (function_of w.now.entries) }
+    requires ground { DefinesNot (function_of w.now.entries) }
     requires clause { KnownClause (function_of w.now.entries) c }
     requires solved { IsTrue (is_some (solved_made c index)) }
     ensures stands { IfOk result (λ r. Reduces w.now r) }
     ensures made { IfOk result (λ r. solved_made c index ≡ Some r.says) }
 {
-    w.is_sound();
+    w.recall_sound();
     let Some(literals) = solved_literals(alloc, &c, index)? else {
         unreachable!()
     };

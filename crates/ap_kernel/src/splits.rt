@@ -5,7 +5,7 @@ ghost use Rattle.ap_term.specs.Terms.{subst_of};
 ghost use Rattle.ap_world.specs.Clauses.{negate};
 ghost use Rattle.ap_world.specs.World.{function_of};
 ghost use Rattle.ap_world.specs.Shapes.{shape_of};
-ghost use Rattle.ap_kernel.specs.Standing.{HasGround};
+ghost use Rattle.ap_kernel.specs.Standing.{DefinesNot};
 ghost use Rattle.ap_kernel.specs.Reductions.{KnownClause, Reduces, put_at};
 ghost use Rattle.ap_kernel.specs.Splits.{part_at, with_part, choice_at, choice_in, split_made};
 
@@ -208,13 +208,13 @@ pub fn split_if(
     index: usize,
     at: &Seq<u32>,
 ) -> Result<Reduction, NoMemory>
-    requires ground { HasGround (function_of w.now.entries) }
+    requires ground { DefinesNot (function_of w.now.entries) }
     requires clause { KnownClause (function_of w.now.entries) c }
     requires choice { IsTrue (is_some (choice_in c index at.now)) }
     ensures stands { IfOk result (λ r. Reduces w.now r) }
     ensures made { IfOk result (λ r. split_made c index at.now ≡ Some r.says) }
 {
-    w.is_sound();
+    w.recall_sound();
     let Some(cases) = cases_at(alloc, &c, index, at.as_slice())? else {
         unreachable!()
     };

@@ -3,7 +3,7 @@ ghost use Rattle.ap_list.specs.Lists.{is_among};
 ghost use Rattle.ap_term.specs.Equal.{term_eq};
 ghost use Rattle.ap_world.specs.World.{function_of};
 ghost use Rattle.ap_world.specs.Shapes.{shape_of};
-ghost use Rattle.ap_kernel.specs.Standing.{HasGround};
+ghost use Rattle.ap_kernel.specs.Standing.{DefinesNot};
 ghost use Rattle.ap_kernel.specs.Reductions.{KnownClause, Reduces};
 ghost use Rattle.ap_kernel.specs.Tidying.{negated_bare, is_bare, is_plain, plain, tidied, is_opposed, decides, holds_by_itself, negates, is_denied, closes, tidy_goals, tidy_made};
 
@@ -163,12 +163,12 @@ fn tidy_goals(alloc: Global, terms: &[Term]) -> Result<Seq<Clause>, NoMemory>
 /// constant other than `nil`, or a literal and its negation. It copies the literals that it keeps, since
 /// the reduction owns both clauses.
 pub fn tidy(alloc: Global, w: &World, c: Clause) -> Result<Reduction, NoMemory>
-    requires ground { HasGround (function_of w.now.entries) }
+    requires ground { DefinesNot (function_of w.now.entries) }
     requires clause { KnownClause (function_of w.now.entries) c }
     ensures stands { IfOk result (λ r. Reduces w.now r) }
     ensures made { IfOk result (λ r. r.says ≡ tidy_made c) }
 {
-    w.is_sound();
+    w.recall_sound();
     let goals = tidy_goals(alloc, c.0.as_slice())?;
     Ok(Reduction::made(c, goals))
 }

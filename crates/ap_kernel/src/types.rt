@@ -4,7 +4,7 @@ ghost use Rattle.ap_world.specs.Sound.{known};
 ghost use Rattle.ap_world.specs.World.{function_of};
 ghost use Rattle.ap_world.specs.Facts.{KnownFacts};
 ghost use Rattle.ap_world.specs.Typing.{types};
-ghost use Rattle.ap_kernel.specs.Standing.{HasGround, Stands};
+ghost use Rattle.ap_kernel.specs.Standing.{DefinesNot, Stands};
 ghost use Rattle.ap_kernel.specs.Masks.{MaskHolds, others, has_only, leads_to, typed_mode, typed_made};
 
 use crate::constants::{is_nil, is_t};
@@ -12,7 +12,7 @@ use crate::objects::{Ctx, Equiv, Mode};
 use ap_list::NoMemory;
 use ap_term::Term;
 use ap_value::{Value, same};
-use ap_world::{Mask, World};
+use ap_world::{Mask, World, masks};
 use std::alloc::Global;
 
 /// What says which types a term's value can have. The kernel doesn't trust it: what it answers is proved
@@ -21,7 +21,7 @@ pub trait TypeOracle {
     /// The mask that the definition of types gives the term under the facts in the world, with the world's
     /// current theory. It holds of the term: wherever the facts hold, the type of its value is in the mask.
     fn mask(&self, alloc: Global, w: &World, ctx: &Ctx, t: &Term) -> Result<Mask, NoMemory>
-        requires ground { HasGround (function_of w.now.entries) }
+        requires ground { DefinesNot (function_of w.now.entries) }
         requires facts { KnownFacts (function_of w.now.entries) ctx.now.0 }
         requires term { IsTrue (known (function_of w.now.entries) t.now) }
         ensures made { IfOk result (λ m. m ≡ record { 0 = types w.now ctx.now.0 t.now }) }
@@ -41,15 +41,15 @@ fn others(v: &Value) -> u16
     ensures { result ≡ others (val_of v.now) }
 {
     if is_nil(v) {
-        return 1015;
+        return masks::ALL ^ masks::NIL;
     }
     if is_t(v) {
-        return 1007;
+        return masks::ALL ^ masks::T;
     }
     if is_zero(v) {
-        return 1022;
+        return masks::ALL ^ masks::ZERO;
     }
-    1023
+    masks::ALL
 }
 
 /// How a term leads to the one value, by its mask.
@@ -80,7 +80,7 @@ pub fn by_type(
     ensures stands { IfOk result (λ q. Stands w.now q) }
     ensures made { IfOk result (λ q. q.says ≡ typed_made ctx.now t.now mask value) }
 {
-    w.is_sound();
+    w.recall_sound();
     let mode = typed_mode(mask, &value);
     let answer = Equiv::from_copy(alloc, ctx, mode, t, Term::Quote(value))?;
     Ok(answer)

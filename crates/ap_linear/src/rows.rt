@@ -194,7 +194,7 @@ fn row_of(
     requires listed { Listed atoms.now p.now.parts }
     ensures { IfOk result (λ row. row_in atoms.now row ≡ record { poly = p.now; by = unit before after }) }
 {
-    p.is_poly();
+    p.recall_poly();
     let by = unit(alloc, before, after)?;
     let coefficients = spread(alloc, atoms, p.parts.as_slice())?;
     let constant = constant_in(p);

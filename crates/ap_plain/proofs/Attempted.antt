@@ -1,43 +1,23 @@
 -- What an attempt that didn't fail shows, and attempts one after another.
-use Rattle.std.proofs.Common.{◌≡◌, ℕ, ◌+◌, ◌<◌, ◌≤◌, suc, length, drop, get_or, drop-cons, add-one, List, [], ◌∷◌, ◌++◌, true≢false, IsTrue, IfOk, Result, Ok, Err, refl, sym, ap, ◌∙◌, subst, arith, append_assoc, append-nil}
+use Rattle.std.proofs.Common.{◌≡◌, ℕ, ◌+◌, ◌<◌, ◌≤◌, suc, length, drop, get_or, drop-cons, add-one, List, [], ◌∷◌, ◌++◌, IfOk, Result, Ok, Err, refl, sym, ap, ◌∙◌, subst, arith, append_assoc, append-nil}
 use Rattle.std.proofs.lemmas.List.{drop_all}
 use Rattle.ap_list.specs.Lists.{Each}
-use Rattle.ap_term.specs.declared.term.Clause.{Clause}
-use Rattle.ap_world.specs.Sound.{known, HasFunctions}
 use Rattle.ap_table.specs.declared.link.DropNote.{DropNote}
 use Rattle.ap_attempt.specs.declared.verdict.Verdict.{Verdict}
 use Rattle.ap_attempt.specs.Attempts.{RootedWalk}
 use Rattle.ap_attempt.proofs.Dividing.{divided_more}
-use Rattle.ap_hints.specs.Known.{KnownHints}
-use Rattle.ap_kernel.specs.Reductions.{KnownClause}
 use Rattle.ap_strategy.specs.declared.plan.Plan.{Plan}
-use Rattle.ap_strategy.specs.declared.plan.Settings.{Settings}
-use Rattle.ap_strategy.specs.Goals.{Goal, IsGoal, defs_of, first_settings}
+use Rattle.ap_strategy.specs.Goals.{Goal, defs_of, clause_goal}
 use Rattle.ap_strategy.specs.Steps.{step_of, depth_of}
 use Rattle.ap_walk.specs.declared.act.Reason.{Reason}
 use Rattle.ap_walk.specs.declared.rule.Rule.{Rule}
 use Rattle.ap_stated.specs.declared.owed.Owed.{Owed}
 use Rattle.ap_plain.specs.declared.attempting.Trial.{Trial}
-use Rattle.ap_plain.specs.Attempts.{clause_goal, Tried, tried_from, before, where_qed, then_tried, tried, Tries}
+use Rattle.ap_plain.specs.Attempts.{Tried, tried_from, before, where_qed, then_tried, tried, Tries}
 use Rattle.ap_plain.specs.Counts.{goals_of}
 use Rattle.ap_plain.specs.Drops.{DividedWalks}
 use Rattle.ap_plain.proofs.Counting.{goals_both}
 use Rattle.ap_stated.proofs.Places.{at_place}
-
--- the goal that the attempt on a clause starts from keeps what tasks keep
-pub clause_is_goal : (plan : Plan) (c : Clause) (s : Settings) → HasFunctions (defs_of plan) → KnownClause (defs_of plan) c → KnownHints plan.world.entries plan.hints → s ≡ first_settings plan
-    → IsGoal (record (clause_goal plan c) { settings = s })
-clause_is_goal plan c s functions c_known hints h = record {
-  functions = functions;
-  hints = hints;
-  clause = c_known;
-  expand = subst (λ (s : Settings). Each (λ u. IsTrue (known (defs_of plan) u)) s.expand) (sym h) tt;
-  scheme = tt;
-  depth = omega arith;
-  primes = omega arith;
-  induction = λ q. absurd (true≢false (sym q));
-  others = λ q. refl;
-}
 
 -- what is shown where no attempt failed
 pub where_proved : {E : Type 0} (r : Result Trial E) (G V : Type 0) → (G → V) → IfOk r (λ t. t.verdict ≡ Verdict.Qed → G) → IfOk r (λ t. t.verdict ≡ Verdict.Qed → V)

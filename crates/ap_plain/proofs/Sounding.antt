@@ -46,7 +46,7 @@ use Rattle.ap_attempt.specs.declared.verdict.Verdict.{Verdict}
 use Rattle.ap_attempt.specs.Attempts.{RootedWalk}
 use Rattle.ap_attempt.proofs.Keeping.{attempt_good}
 use Rattle.ap_strategy.specs.declared.plan.Plan.{Plan}
-use Rattle.ap_strategy.specs.Goals.{Goal, defs_of, inducted}
+use Rattle.ap_strategy.specs.Goals.{Goal, defs_of, clause_goal, inducted}
 use Rattle.ap_strategy.specs.Laws.{kernel_ground, tells, deeper, whole, by_induction}
 use Rattle.ap_strategy.specs.Steps.{step_of, depth_of, IsGood}
 use Rattle.ap_stated.specs.declared.definition.Terminating.{Terminating}
@@ -58,7 +58,7 @@ use Rattle.ap_stated.specs.declared.owed.Owed.{Owed}
 use Rattle.ap_plain.specs.declared.proposing.Proposal.{Proposal}
 use Rattle.ap_plain.specs.declared.proposing.Proposal.TheVariants as proposal
 use Rattle.ap_stated.specs.declared.refusing.Refusal.{Refusal}
-use Rattle.ap_plain.specs.Attempts.{Tried, clause_goal, first_rule, plan_for, tried_from, where_qed, tried}
+use Rattle.ap_plain.specs.Attempts.{Tried, first_rule, plan_for, tried_from, where_qed, tried}
 use Rattle.ap_plain.specs.Changes.{changes_of, changed_event, theory_event}
 use Rattle.ap_plain.specs.Constants.{valued_constant, stated_constant, written_constant, constant_event}
 use Rattle.ap_stated.specs.Definitions.{Ends, IsDefinition, without_measure, terminating, measured, stated_definition}

@@ -1,16 +1,14 @@
 -- Attempts on what an event owes, and what they print.
-use Rattle.std.specs.Prelude.{◌≡◌, ℕ, ◌≤◌, Bool, false, true, List, [], ◌∷◌, ◌++◌, None}
+use Rattle.std.specs.Prelude.{◌≡◌, ℕ, ◌≤◌, Bool, true, List, [], ◌∷◌, ◌++◌}
 use Rattle.std.proofs.Common.{arith}
-use Rattle.ap_term.specs.declared.term.Clause.{Clause}
 use Rattle.ap_world.specs.World.{Shown}
-use Rattle.ap_names.specs.Names.{root}
 use Rattle.ap_walk.specs.declared.rule.Rule.{Rule}
 use Rattle.ap_walk.specs.declared.mark.Walked.{Walked}
 use Rattle.ap_attempt.specs.declared.verdict.Verdict.{Verdict}
 use Rattle.ap_attempt.specs.Attempts.{Course, RootedWalk, walks_of, attempt}
 use Rattle.ap_hints.specs.declared.hint.Hints.{Hints}
 use Rattle.ap_strategy.specs.declared.plan.Plan.{Plan}
-use Rattle.ap_strategy.specs.Goals.{Goal, first_settings, inducted}
+use Rattle.ap_strategy.specs.Goals.{Goal, clause_goal, inducted}
 use Rattle.ap_strategy.specs.Steps.{step_of, depth_of}
 use Rattle.ap_plain.specs.declared.limits.Limits.{Limits}
 use Rattle.ap_stated.specs.declared.owed.Owed.{Owed}
@@ -36,19 +34,6 @@ first_rule limits otf = record {
 -- what an event's goals are worked by, where it gives these hints
 abbrev pub plan_for : Limits → Shown → Hints → Plan
 plan_for limits w hs = record { world = w; hints = hs; step_limit = limits.steps }
-
--- the goal that the attempt on a clause starts from has the name `Goal`
-abbrev pub clause_goal : Plan → Clause → Goal
-clause_goal plan c = record {
-  plan = plan;
-  name = root;
-  clause = c;
-  depth = 0;
-  under = false;
-  settings = first_settings plan;
-  induct = false;
-  scheme = None;
-}
 
 -- the attempt that starts from a goal, its first walk by this rule; a hint of its plan may forbid induction
 abbrev pub attempt_from : Rule → Goal → Course Goal

@@ -4,13 +4,12 @@ ghost use denote.Param.Send.{IsSend, IsSync};
 ghost use Rattle.ap_world.specs.Meaning.{Valid};
 ghost use Rattle.ap_world.specs.Sound.{HasFunctions, Sound};
 ghost use Rattle.ap_world.specs.World.{are_distinct};
-ghost use Rattle.ap_names.specs.Names.{root};
 ghost use Rattle.ap_attempt.specs.Laws.{mark_count};
 ghost use Rattle.ap_kernel.specs.Reductions.{KnownClause};
 ghost use Rattle.ap_hints.specs.Known.{KnownHints};
-ghost use Rattle.ap_strategy.specs.Goals.{defs_of};
+ghost use Rattle.ap_strategy.specs.Goals.{defs_of, clause_goal};
 ghost use Rattle.ap_strategy.specs.Steps.{IsGood};
-ghost use Rattle.ap_plain.specs.Attempts.{first_rule, unproved_text, tried_from, clause_goal, Tries};
+ghost use Rattle.ap_plain.specs.Attempts.{first_rule, unproved_text, tried_from, Tries};
 ghost use Rattle.ap_plain.specs.Lines.{walks_text};
 
 use crate::limits::Limits;
@@ -18,13 +17,12 @@ use crate::lines::{checkpoint_lines, walk_lines};
 use crate::prover::Proving;
 use ap_attempt::{DropNote, Gate, Verdict, prove};
 use ap_list::{Bytes, NoMemory, Seq};
-use ap_names::GoalName;
-use ap_strategy::{Acl2Step, Plan, Planned, Task, first_settings};
-use ap_term::{Clause, Term, copy_terms};
+use ap_strategy::{Acl2Step, Plan, Planned, Task, clause_task, copy_clause};
+use ap_term::{Clause, Term};
 use ap_value::Value;
 use ap_walk::{Rule, Walked};
 use std::alloc::Global;
-use std::marker::{Brand, PhantomData};
+use std::marker::Brand;
 use std::sync::Wait;
 use std::thread::Threads;
 
@@ -122,44 +120,6 @@ fn attempt_from<J: Planned + Send + Sync, R: Threads + Wait + Sync, G: Gate + Sy
     })
 }
 
-/// The name `Goal`.
-fn root_name(alloc: Global) -> GoalName
-    ensures { result ≡ root }
-{
-    GoalName {
-        induction: Seq::new(alloc),
-        case: None,
-        path: Seq::new(alloc),
-        primes: 0,
-    }
-}
-
-/// The task that the attempt on a clause, which is moved, starts from. The plan is the brand's.
-fn clause_task<'a, J: Planned>(
-    alloc: Global,
-    plan: &'a Plan,
-    clause: Clause,
-) -> Result<Task<'a, J>, NoMemory>
-    requires brand { plan.now ≡ J.plan }
-    requires functions { HasFunctions (defs_of plan.now) }
-    requires known { KnownClause (defs_of plan.now) clause }
-    requires hints { KnownHints plan.now.world.entries plan.now.hints }
-    ensures { IfOk result (λ t. t ≡ clause_goal plan.now clause) }
-{
-    let settings = first_settings(alloc, plan)?;
-    Ok(Task {
-        plan,
-        name: root_name(alloc),
-        clause,
-        depth: 0,
-        under: false,
-        settings,
-        induct: false,
-        scheme: None,
-        of: PhantomData,
-    })
-}
-
 /// Tries a clause, which is moved, by the brand's plan. Where it doesn't fail, the goal is good.
 fn attempt_as<J: Planned + Send + Sync, R: Threads + Wait + Sync, G: Gate + Sync>(
     crew: &Crew<'_, R, G>,
@@ -181,13 +141,13 @@ fn attempt_as<J: Planned + Send + Sync, R: Threads + Wait + Sync, G: Gate + Sync
 }
 
 /// A plan's world is sound, and its names are distinct. Costs nothing.
-fn is_sound(plan: &Plan)
+fn recall_sound(plan: &Plan)
     ensures sound { Sound plan.now.world.entries }
     ensures distinct { are_distinct plan.now.world.entries ≡ true }
 {
     let world = plan.world.world();
-    world.is_sound();
-    world.has_distinct_names();
+    world.recall_sound();
+    world.recall_distinct_names();
 }
 
 /// Tries to prove a clause of a plan's world, which is moved. Where it doesn't fail, the clause is valid. The brand of
@@ -206,15 +166,8 @@ fn attempt_moved<R: Threads + Wait + Sync, G: Gate + Sync>(
     ensures valid { IfOk result (λ t. t.verdict ≡ Verdict.Qed → Valid (defs_of plan.now) clause.0) }
     ensures alone { IfOk result (λ t. crew.now.workers ≤ 1 → t.drops ≡ []) }
 {
-    is_sound(plan);
+    recall_sound(plan);
     attempt_as::<Brand, R, G>(crew, alloc, plan, rule, clause)
-}
-
-/// A copy of a clause.
-fn copy_clause(alloc: Global, clause: &Clause) -> Result<Clause, NoMemory>
-    ensures { IfOk result (λ c. c ≡ clause.now) }
-{
-    Ok(Clause(copy_terms(alloc, clause.0.as_slice())?))
 }
 
 /// Tries to prove a clause of a plan's world. Where it doesn't fail, the clause is valid.

@@ -171,7 +171,7 @@ fn try_proposal<R: Threads + Wait + Sync, G: Gate + Sync>(
     ensures valid { IfOk result (λ t. t.verdict ≡ Verdict.Qed → Each (λ o. Valid (function_of w.old.entries) o.clause.0) (owed_of proposal.now)) }
     ensures alone { IfOk result (λ t. crew.now.workers ≤ 1 → t.drops ≡ []) }
 {
-    w.world().is_sound();
+    w.world().recall_sound();
     let owed = owed_of(alloc, proposal)?;
     let trial = try_owed(crew, alloc, w, limits, rule, hints, owed.as_slice())?;
     with_opening(alloc, proposal, trial)

@@ -123,7 +123,7 @@ fn add_disabled(alloc: Global, w: &mut Ruled, proposal: Proposal) -> Result<(), 
     ensures ok { OnOk result (w.new ≡ put false w.old proposal) }
     ensures err { OnErr result (w.new ≡ w.old) }
 {
-    w.world().is_sound();
+    w.world().recall_sound();
     let name = copy_symbol(alloc, name_of(&proposal))?;
     let before = remember(alloc, w)?;
     add(alloc, w, proposal)?;

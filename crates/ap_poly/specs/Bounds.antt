@@ -3,8 +3,10 @@ use Rattle.std.specs.Prelude.{◌≡◌, ℕ, Bool, true, cond, nat_eq, bit_and,
 use Rattle.ap_list.specs.Lists.{Each, is_among}
 use Rattle.ap_term.specs.declared.term.Term.{Term}
 use Rattle.ap_term.specs.Equal.{term_eq}
+use Rattle.ap_world.specs.Kinds.{without}
 use Rattle.ap_world.specs.Meaning.{Defs}
 use Rattle.ap_world.specs.Sound.{known}
+use Rattle.ap_world.specs.Types.{positive_bit, negative_bit}
 use Rattle.ap_poly.specs.Polynomials.{Parts, Polynomial}
 
 -- the atoms in order of first occurrence, after those that stand already
@@ -29,10 +31,10 @@ one_part n x k = record { constant = n; parts = (x, k) ∷ [] } ∷ []
 -- by the first that fits: x - 1 within {positive}, x without negative, -x - 1 within {negative}, -x without positive
 abbrev pub bound : Term → ℕ → List Polynomial
 bound x m =
-    cond (lacks m 1021) (one_part (negsuc 0) x (pos 1))
-    (cond (lacks m 4) (one_part (pos 0) x (pos 1))
-    (cond (lacks m 1019) (one_part (negsuc 0) x (negsuc 0))
-    (cond (lacks m 2) (one_part (pos 0) x (negsuc 0)) [])))
+    cond (lacks m (without positive_bit)) (one_part (negsuc 0) x (pos 1))
+    (cond (lacks m negative_bit) (one_part (pos 0) x (pos 1))
+    (cond (lacks m (without negative_bit)) (one_part (negsuc 0) x (negsuc 0))
+    (cond (lacks m positive_bit) (one_part (pos 0) x (negsuc 0)) [])))
 
 -- each atom is a term of the world
 abbrev pub PolyKnown : Defs → Polynomial → Type 0

@@ -33,7 +33,7 @@ impl Model for Poly {
 
 impl Poly {
     /// What the parts keep, for a proof that sees the polynomial as a whole.
-    pub fn is_poly(&self)
+    pub fn recall_poly(&self)
         ensures { IsPoly self.now }
     {
         let _ = &self.parts;

@@ -14,7 +14,7 @@ use Rattle.ap_poly.specs.Holding.{PolyHolds}
 use Rattle.ap_poly.specs.Bounds.{PolyKnown, first_atoms}
 use Rattle.ap_poly.proofs.AtomsKnown.{literals_known, atoms_known}
 use Rattle.ap_kernel.specs.declared.objects.Ctx.{Ctx}
-use Rattle.ap_kernel.specs.Standing.{HasGround}
+use Rattle.ap_kernel.specs.Standing.{DefinesNot}
 use Rattle.ap_kernel.specs.Linear.{PolysHold}
 use Rattle.ap_kernel.proofs.Reduced.{each_append, each_take}
 use Rattle.ap_rewrite.specs.InWorld.{world_setting}
@@ -37,7 +37,7 @@ module _ (w : Shown) (h : Theory) (us : List Term) where
       (each_append (PolyKnown (function_of w.entries)) (of_literal u s) (of_facts (world_setting w h us) fs) (literals_known (function_of w.entries) u s k) (facts_known fs ks))
 
   -- what is listed holds wherever the facts hold and the literal has the sign
-  pub all_listed : Sound w.entries → HasGround (function_of w.entries) → are_distinct w.entries ≡ true → SoundArithmetic (arithmetic_in w h) (function_of w.entries)
+  pub all_listed : Sound w.entries → DefinesNot (function_of w.entries) → are_distinct w.entries ≡ true → SoundArithmetic (arithmetic_in w h) (function_of w.entries)
       → (d : ℕ) (p : Place) (c : Ctx) → p.facts ≡ c.0 → KnownFacts (function_of w.entries) p.facts → (u : Term) (s : Bool) → known (function_of w.entries) u ≡ true
       → (n : ℕ) (qs : List Polynomial) (m : ℕ)
       → with_rules (world_setting w h us) (rewrite_to (world_setting w h us) d) p (arithmetic_in w h).rules (first_atoms (given (world_setting w h us) p.facts u s))

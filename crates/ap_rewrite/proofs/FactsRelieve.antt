@@ -32,7 +32,7 @@ use Rattle.ap_kernel.specs.Answers.{fact_made, ModeFits, IsArgument, said, cong_
 use Rattle.ap_kernel.specs.declared.shapes.ShapeRef.{ShapeRef}
 use Rattle.ap_kernel.specs.declared.shapes.ShapeRef.TheVariants as lent
 use Rattle.ap_kernel.specs.Shapes.{seen}
-use Rattle.ap_kernel.specs.Standing.{HasGround, Stands}
+use Rattle.ap_kernel.specs.Standing.{DefinesNot, Stands}
 use Rattle.ap_kernel.proofs.ChoicesStand.{known_not}
 use Rattle.ap_kernel.proofs.Typed.{each_at}
 use Rattle.ap_rewrite.specs.declared.facts.Matched.{Matched}
@@ -161,7 +161,7 @@ not_args w c q f args p h stands facts = subst (Each (IsArgument w c f)) (sym h)
     fits : ModeFits (symbol_eq f not_name) q.says.mode
     fits = subst (λ b. ModeFits b q.says.mode) (sym (ap (λ g. symbol_eq g not_name) p ∙ symbol_eq-same not_name)) tt
 
-pub not_head : (D : Defs) → HasGround D → (f : Symbol) (q : Equiv) (args : List Equiv) → f ≡ not_name → args ≡ q ∷ [] → is_head D f (prim_of f) (length args) ≡ true
+pub not_head : (D : Defs) → DefinesNot D → (f : Symbol) (q : Equiv) (args : List Equiv) → f ≡ not_name → args ≡ q ∷ [] → is_head D f (prim_of f) (length args) ≡ true
 not_head D ground f q args p h =
     let one : is_head D not_name (prim_of not_name) 1 ≡ true = known_head D not_name (nil_constant ∷ []) (known_not D ground nil_constant (known_quote D _)) in
     subst (λ qs. is_head D f (prim_of f) (length qs) ≡ true) (sym h) (subst (λ g. is_head D g (prim_of g) 1 ≡ true) (sym p) one)

@@ -8,7 +8,7 @@ use Rattle.ap_world.specs.World.{Shown, function_of}
 use Rattle.ap_world.specs.Meaning.{HasValue}
 use Rattle.ap_world.specs.Sound.{Sound}
 use Rattle.ap_world.specs.Units.{Outcome, gives, wide, spent, large, metered}
-use Rattle.ap_kernel.specs.Standing.{HasGround}
+use Rattle.ap_kernel.specs.Standing.{DefinesNot}
 use Rattle.ap_types.proofs.KeptHolds.{types_mask}
 use Rattle.ap_eval.proofs.Meant.{metered_means}
 use Rattle.ap_rewrite.specs.Arithmetic.{Arithmetic, no_arithmetic, arithmetic_in, SoundArithmetic}
@@ -41,7 +41,7 @@ sound_setting w h us l sound ground distinct arithmetic = record {
   value = λ u v k q. value_means w u v q;
 }
 
-pub in_world_stands : (l : Shown → Theory → Arithmetic) → ((w : Shown) (h : Theory) → Sound w.entries → HasGround (function_of w.entries) → SoundArithmetic (l w h) (function_of w.entries)) → InWorldStands l
+pub in_world_stands : (l : Shown → Theory → Arithmetic) → ((w : Shown) (h : Theory) → Sound w.entries → DefinesNot (function_of w.entries) → SoundArithmetic (l w h) (function_of w.entries)) → InWorldStands l
 in_world_stands l right w h us sound ground distinct =
     rewriting_stands (setting_in w h us (l w h)) (sound_setting w h us (l w h) sound ground distinct (right w h sound ground))
 

@@ -25,7 +25,7 @@ use Rattle.ap_kernel.specs.declared.objects.Mode.{Mode}
 use Rattle.ap_kernel.specs.declared.objects.Equiv.{Equiv}
 use Rattle.ap_kernel.specs.Answers.{said, rights}
 use Rattle.ap_kernel.specs.Applying.{AllLead}
-use Rattle.ap_kernel.specs.Standing.{HasGround, Stands}
+use Rattle.ap_kernel.specs.Standing.{DefinesNot, Stands}
 use Rattle.ap_rewrite.specs.declared.rewriter.Rewriter.{Rewriter}
 use Rattle.ap_rewrite.specs.declared.rewriter.Place.{Place}
 use Rattle.ap_rewrite.specs.declared.rewriter.Run.{Run}
@@ -47,7 +47,7 @@ defs_in r = function_of r.w.now.entries
 
 -- the world has the ground functions, and the index its rules
 pub record Ready {O : Type 0} (r : Rewriter O) : Type 0 where
-  pub ground : HasGround (defs_in r)
+  pub ground : DefinesNot (defs_in r)
   pub index : IsIndex r.rules.now r.w.now.entries
 
 -- what the definition goes by

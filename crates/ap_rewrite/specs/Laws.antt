@@ -10,7 +10,7 @@ use Rattle.ap_world.specs.Sound.{known, Sound}
 use Rattle.ap_world.specs.World.{Shown, function_of, are_distinct}
 use Rattle.ap_world.specs.Facts.{KnownFacts}
 use Rattle.ap_kernel.specs.declared.objects.Mode.{Mode}
-use Rattle.ap_kernel.specs.Standing.{HasGround, Holds}
+use Rattle.ap_kernel.specs.Standing.{DefinesNot, Holds}
 use Rattle.ap_kernel.specs.Reductions.{KnownClause, Follows}
 use Rattle.ap_term.specs.Metered.{first_that}
 use Rattle.ap_rewrite.specs.Costs.{Metered}
@@ -55,7 +55,7 @@ SimplifyingReduces = (S : Setting) → SoundSetting S → (c : Clause) (n : ℕ)
 
 -- a sound world with the ground functions, whose names are distinct, makes a sound setting
 abbrev pub WorldIsSoundSetting : Type 0
-WorldIsSoundSetting = (w : Shown) (h : Theory) (us : List Term) (l : Arithmetic) → Sound w.entries → HasGround (function_of w.entries) → are_distinct w.entries ≡ true
+WorldIsSoundSetting = (w : Shown) (h : Theory) (us : List Term) (l : Arithmetic) → Sound w.entries → DefinesNot (function_of w.entries) → are_distinct w.entries ≡ true
     → SoundArithmetic l (function_of w.entries) → SoundSetting (setting_in w h us l)
 
 -- arithmetic is right in a total world, that which decides nothing and that of polynomials; and that of a sound world
@@ -67,11 +67,11 @@ abbrev pub PolynomialsAreSound : Type 0
 PolynomialsAreSound = (D : Defs) → Total D → (gs : List LinearRule) → Each (LinearHolds D) gs → SoundArithmetic (linear_arithmetic gs) D
 
 abbrev pub WorldsIsSound : Type 0
-WorldsIsSound = (w : Shown) (h : Theory) → Sound w.entries → HasGround (function_of w.entries) → SoundArithmetic (arithmetic_in w h) (function_of w.entries)
+WorldsIsSound = (w : Shown) (h : Theory) → Sound w.entries → DefinesNot (function_of w.entries) → SoundArithmetic (arithmetic_in w h) (function_of w.entries)
 
 -- so what rewriting answers in such a world stands, with nothing else assumed
 abbrev pub InWorldStands : (Shown → Theory → Arithmetic) → Type 0
-InWorldStands l = (w : Shown) (h : Theory) (us : List Term) → Sound w.entries → HasGround (function_of w.entries) → are_distinct w.entries ≡ true
+InWorldStands l = (w : Shown) (h : Theory) (us : List Term) → Sound w.entries → DefinesNot (function_of w.entries) → are_distinct w.entries ≡ true
     → (d : ℕ) (o : Mode) (p : Place) (u : Term) (n : ℕ) (v : Term) (m : ℕ) → KnownFacts (function_of w.entries) p.facts → known (function_of w.entries) u ≡ true
     → rewrite_to (setting_in w h us (l w h)) d o p u n ≡ Some (v, m)
     → Holds (function_of w.entries) (record { ctx = record { 0 = p.facts }; mode = o; lhs = u; rhs = v })

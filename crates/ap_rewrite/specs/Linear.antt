@@ -6,8 +6,10 @@ use Rattle.ap_term.specs.declared.term.Term.{Term, Call}
 use Rattle.ap_term.specs.Terms.{subst_of}
 use Rattle.ap_world.specs.declared.primitive.Primitive.{Primitive as Prim}
 use Rattle.ap_world.specs.declared.primitive.Primitive.TheVariants as prim
+use Rattle.ap_world.specs.Kinds.{without}
 use Rattle.ap_world.specs.Primitives.{prim_of}
 use Rattle.ap_world.specs.Facts.{Facts}
+use Rattle.ap_world.specs.Types.{integers}
 use Rattle.ap_kernel.specs.Equations.{truth_constant}
 use Rattle.ap_kernel.specs.Linear.{less_of}
 use Rattle.ap_term.specs.Metered.{By, known, after}
@@ -52,7 +54,7 @@ module _ (S : Setting) where
   with_instance g ps (Some s) = ps ++ S.arithmetic.of_literal (subst_of s g.concl) g.sign
 
   abbrev pub are_integers : Facts → Term → Term → Bool
-  are_integers fs a b = lacks (S.types fs a) 1016 && lacks (S.types fs b) 1016
+  are_integers fs a b = lacks (S.types fs a) (without integers.0) && lacks (S.types fs b) (without integers.0)
 
   module _ (r : Inner) (p : Place) where
     abbrev pub at_match : LinearRule → List Polynomial → Option Pairs → By (List Polynomial)

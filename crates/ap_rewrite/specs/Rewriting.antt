@@ -12,10 +12,12 @@ use Rattle.ap_term.specs.Terms.{subst_of, term_size}
 use Rattle.ap_term.specs.Order.{term_less}
 use Rattle.ap_world.specs.declared.entry.Function.{Function}
 use Rattle.ap_world.specs.declared.theory.Rune.TheVariants as rune
+use Rattle.ap_world.specs.Kinds.{without}
 use Rattle.ap_world.specs.Primitives.{nil}
 use Rattle.ap_world.specs.Clauses.{not_of}
 use Rattle.ap_world.specs.Recursion.{nil_constant, t_constant}
 use Rattle.ap_world.specs.Ground.{zero_constant}
+use Rattle.ap_world.specs.Types.{zero_bit, nil_bit, t_bit}
 use Rattle.ap_world.specs.Theories.{is_enabled}
 use Rattle.ap_world.specs.Facts.{Facts}
 use Rattle.ap_world.specs.Shapes.{Shape, constant, choice, negation, shape_of, layer_shape}
@@ -64,10 +66,10 @@ is_iff Iff = true
 -- what a mask settles: nothing but nil, t or 0 is left, or under iff not nil
 abbrev pub by_mask : Mode → ℕ → Option Term
 by_mask o m =
-    cond (is_iff o && lacks m 8) (Some t_constant)
-    (cond (lacks m 1015) (Some nil_constant)
-    (cond (lacks m 1007) (Some t_constant)
-    (cond (lacks m 1022) (Some zero_constant) None)))
+    cond (is_iff o && lacks m nil_bit) (Some t_constant)
+    (cond (lacks m (without nil_bit)) (Some nil_constant)
+    (cond (lacks m (without t_bit)) (Some t_constant)
+    (cond (lacks m (without zero_bit)) (Some zero_constant) None)))
 
 -- another term than it was
 abbrev pub changed : Term → Term → Option Term

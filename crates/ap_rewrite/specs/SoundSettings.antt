@@ -10,7 +10,7 @@ use Rattle.ap_world.specs.Meaning.{Defs, HasValue}
 use Rattle.ap_world.specs.Sound.{known, Sound}
 use Rattle.ap_world.specs.World.{function_of, are_distinct}
 use Rattle.ap_world.specs.Facts.{Facts, KnownFacts}
-use Rattle.ap_kernel.specs.Standing.{HasGround}
+use Rattle.ap_kernel.specs.Standing.{DefinesNot}
 use Rattle.ap_kernel.specs.Masks.{MaskHolds}
 use Rattle.ap_world.specs.Holding.{RuleHolds}
 use Rattle.ap_rewrite.specs.Arithmetic.{SoundArithmetic}
@@ -24,7 +24,7 @@ defs_of S = function_of S.world.entries
 -- masks hold, a call's value is its value, and arithmetic is right
 pub record SoundSetting (S : Setting) : Type 0 where
   pub sound : Sound S.world.entries
-  pub ground : HasGround (defs_of S)
+  pub ground : DefinesNot (defs_of S)
   pub names : are_distinct S.world.entries ≡ true
   pub rules : Each (RuleHolds (defs_of S)) S.rules
   pub functions : (f : Symbol) (g : Function) → S.functions f ≡ Some g → defs_of S f ≡ Some g

@@ -16,6 +16,7 @@ use ap_kernel::{Ctx, Mask, NoMemory, Seq, Term, TypeOracle};
 use ap_poly::{Poly, of_literal};
 use ap_rules::first_atoms;
 use ap_term::copy_term;
+use ap_world::masks;
 use std::alloc::Global;
 
 /// The polynomials that hold where the facts hold and a term has a sign: the term's, then those of the facts in
@@ -51,16 +52,16 @@ fn push_part(
 fn push_bound(alloc: Global, polys: &mut Seq<Poly>, t: &Term, mask: Mask) -> Result<(), NoMemory>
     ensures { OnOk result (polys.new ≡ polys.old ++ bound t.now mask.0) }
 {
-    if lacks(mask, 1021) {
+    if lacks(mask, masks::ALL ^ masks::POSITIVE) {
         return push_part(alloc, polys, -1, t, 1);
     }
-    if lacks(mask, 4) {
+    if lacks(mask, masks::NEGATIVE) {
         return push_part(alloc, polys, 0, t, 1);
     }
-    if lacks(mask, 1019) {
+    if lacks(mask, masks::ALL ^ masks::NEGATIVE) {
         return push_part(alloc, polys, -1, t, -1);
     }
-    if lacks(mask, 2) {
+    if lacks(mask, masks::POSITIVE) {
         return push_part(alloc, polys, 0, t, -1);
     }
     Ok(())
@@ -130,11 +131,11 @@ pub(crate) fn integers<O: TypeOracle>(
     ensures within { IfOk result (λ o. IfSome o (λ m. IntegersWithin (defs_in r.now) ctx.now.0 a.now b.now m.0 m.1)) }
 {
     let left = r.oracle.mask(r.alloc, r.w, ctx, a)?;
-    if !lacks(left, 1016) {
+    if !lacks(left, masks::ALL ^ masks::INTEGERS) {
         return Ok(None);
     }
     let right = r.oracle.mask(r.alloc, r.w, ctx, b)?;
-    if !lacks(right, 1016) {
+    if !lacks(right, masks::ALL ^ masks::INTEGERS) {
         return Ok(None);
     }
     Ok(Some((left, right)))

@@ -12,7 +12,7 @@ ghost use Rattle.ap_rewrite.specs.Answering.{defs_in, Ready, setting_of, inner_o
 
 use crate::rewriter::{Level, Place, Rewriter, Run, deeper};
 use crate::rows::{follow, join, negate, plainest, simplest};
-use crate::testing::truth_of;
+use crate::sizes::truth_of;
 use ap_kernel::{
     Ctx, Equiv, Mode, NoMemory, Term, TypeOracle, assume, assumed_facts_hold, choose_branch,
 };

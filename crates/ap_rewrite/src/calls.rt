@@ -11,10 +11,10 @@ ghost use Rattle.ap_kernel.specs.declared.objects.Mode.TheVariants.{Equal};
 ghost use Rattle.ap_rewrite.specs.Rewriting.{rewrite_args, rewrite_call};
 ghost use Rattle.ap_rewrite.specs.Answering.{defs_in, Ready, setting_of, inner_of, seen_at, got, got_all, right_of, Leads, From, IsLevel};
 
+use crate::engines::tried;
 use crate::rewriter::{Level, Place, Rewriter, Run, deeper};
 use crate::rows::{follow, stay};
 use crate::settling::in_mode;
-use crate::trying::tried;
 use ap_kernel::{Ctx, Equiv, LinearOracle, Mode, NoMemory, Seq, Symbol, Term, TypeOracle, cong};
 
 /// The arguments of a call, from left to right, under equality.

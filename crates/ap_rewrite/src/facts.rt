@@ -8,7 +8,7 @@ ghost use Rattle.ap_world.specs.Holding.{KnownPairs};
 ghost use Rattle.ap_world.specs.World.{function_of};
 ghost use Rattle.ap_world.specs.Facts.{KnownFacts};
 ghost use Rattle.ap_world.specs.Shapes.{shape_of};
-ghost use Rattle.ap_kernel.specs.Standing.{HasGround, Stands};
+ghost use Rattle.ap_kernel.specs.Standing.{DefinesNot, Stands};
 ghost use Rattle.ap_kernel.specs.declared.objects.Mode.TheVariants.{Equal};
 ghost use Rattle.ap_world.specs.Clauses.{not_of};
 ghost use Rattle.ap_world.specs.Recursion.{nil_constant, t_constant};
@@ -101,7 +101,7 @@ fn by_facts(
 
 /// From the negation of a term to the negation of what it leads to.
 pub fn not_equiv(alloc: Global, w: &World, ctx: &Ctx, q: Equiv) -> Result<Equiv, NoMemory>
-    requires ground { HasGround (function_of w.now.entries) }
+    requires ground { DefinesNot (function_of w.now.entries) }
     requires facts { KnownFacts (function_of w.now.entries) ctx.now.0 }
     requires stands { Stands w.now q }
     requires ctx { q.says.ctx ≡ ctx.now }
@@ -115,7 +115,7 @@ pub fn not_equiv(alloc: Global, w: &World, ctx: &Ctx, q: Equiv) -> Result<Equiv,
 
 /// From the negation of `'NIL` to `'T`.
 fn nil_turned(alloc: Global, w: &World, ctx: &Ctx, t: &Term) -> Result<Equiv, NoMemory>
-    requires ground { HasGround (function_of w.now.entries) }
+    requires ground { DefinesNot (function_of w.now.entries) }
     requires facts { KnownFacts (function_of w.now.entries) ctx.now.0 }
     requires negation { t.now ≡ not_of nil_constant }
     ensures stands { IfOk result (λ r. Stands w.now r) }
@@ -128,7 +128,7 @@ fn nil_turned(alloc: Global, w: &World, ctx: &Ctx, t: &Term) -> Result<Equiv, No
 
 /// From the negation of what leads to `'NIL` to `'T`.
 fn not_nil(alloc: Global, w: &World, ctx: &Ctx, q: Equiv) -> Result<Equiv, NoMemory>
-    requires ground { HasGround (function_of w.now.entries) }
+    requires ground { DefinesNot (function_of w.now.entries) }
     requires facts { KnownFacts (function_of w.now.entries) ctx.now.0 }
     requires stands { Stands w.now q }
     requires ctx { q.says.ctx ≡ ctx.now }
@@ -171,7 +171,7 @@ fn shown_false(
     start: &Subst,
     found: Matched,
 ) -> Result<Relieved, NoMemory>
-    requires ground { HasGround (function_of w.now.entries) }
+    requires ground { DefinesNot (function_of w.now.entries) }
     requires facts { KnownFacts (function_of w.now.entries) ctx.now.0 }
     requires pairs { KnownPairs (function_of w.now.entries) start.now.0 }
     requires found { MatchedAt ctx.now.0 a.now false start.now.0 found }
@@ -214,7 +214,7 @@ fn by_false(
     a: &Term,
     start: &Subst,
 ) -> Result<Option<Relieved>, NoMemory>
-    requires ground { HasGround (function_of w.now.entries) }
+    requires ground { DefinesNot (function_of w.now.entries) }
     requires facts { KnownFacts (function_of w.now.entries) ctx.now.0 }
     requires pairs { KnownPairs (function_of w.now.entries) start.now.0 }
     ensures found { IfOk result (λ o. option_map (λ r. r.pairs.0) o ≡ by_facts a.now false start.now.0 ctx.now.0) }
@@ -238,7 +238,7 @@ pub fn by_sign(
     h: &Term,
     start: &Subst,
 ) -> Result<Option<Relieved>, NoMemory>
-    requires ground { HasGround (function_of w.now.entries) }
+    requires ground { DefinesNot (function_of w.now.entries) }
     requires facts { KnownFacts (function_of w.now.entries) ctx.now.0 }
     requires pairs { KnownPairs (function_of w.now.entries) start.now.0 }
     ensures found { IfOk result (λ o. option_map (λ r. r.pairs.0) o ≡ by_sign h.now (shape_of h.now) start.now.0 ctx.now.0) }

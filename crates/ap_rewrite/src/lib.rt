@@ -4,13 +4,15 @@
 //! `introduction-to-the-theorem-prover` and "The Rewriter" in "Computer-Aided Reasoning" (2000).
 #![tactic(auto)]
 
+mod arithmetic;
 mod bounding;
 mod branching;
 mod calls;
-mod deciding;
+mod engines;
 mod equating;
 mod facts;
 pub mod laws;
+mod linear_rules;
 mod literals;
 mod opening;
 mod ordering;
@@ -23,9 +25,7 @@ mod running;
 mod settling;
 mod shaping;
 mod simplifying;
-mod testing;
-mod trying;
-mod using;
+mod sizes;
 
 pub use literals::literal;
 pub use rewriter::{Place, Rewriter, Run};

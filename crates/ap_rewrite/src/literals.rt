@@ -4,7 +4,7 @@ ghost use Rattle.ap_world.specs.Facts.{KnownFacts};
 ghost use Rattle.ap_world.specs.Sound.{known};
 ghost use Rattle.ap_world.specs.World.{function_of};
 ghost use Rattle.ap_rules.specs.Index.{IsIndex};
-ghost use Rattle.ap_kernel.specs.Standing.{HasGround};
+ghost use Rattle.ap_kernel.specs.Standing.{DefinesNot};
 ghost use Rattle.ap_kernel.specs.declared.objects.Mode.TheVariants.{Iff};
 ghost use Rattle.ap_rewrite.specs.InWorld.{world_setting};
 ghost use Rattle.ap_rewrite.specs.Rewriting.{rewrite_of};
@@ -34,7 +34,7 @@ pub fn literal<O: TypeOracle + LinearOracle>(
     steps: &mut Steps,
     t: &Term,
 ) -> Result<Option<Equiv>, NoMemory>
-    requires ground { HasGround (function_of w.now.entries) }
+    requires ground { DefinesNot (function_of w.now.entries) }
     requires index { IsIndex rules.now w.now.entries }
     requires facts { KnownFacts (function_of w.now.entries) ctx.now.0 }
     requires term { IsTrue (known (function_of w.now.entries) t.now) }

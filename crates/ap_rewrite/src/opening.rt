@@ -17,10 +17,10 @@ ghost use Rattle.ap_rewrite.specs.Rewriting.{most_nodes, truth_of, is_recursive,
 ghost use Rattle.ap_rewrite.specs.Answering.{defs_in, Ready, setting_of, inner_of, seen_at, got, got_any, leaf_on, ends_on, open_within, open_closed, From, IsLevel};
 
 use crate::branching::{both, choose, go_on};
-use crate::rewriter::{Level, Place, Rewriter, Run, deeper};
+use crate::engines::answered;
+use crate::rewriter::{Level, Place, Rewriter, Run, Tried, deeper};
 use crate::rows::{follow, opened};
-use crate::testing::{has_small_instance, is_among, is_small, truth_of};
-use crate::trying::answered;
+use crate::sizes::{has_small_instance, is_among, is_small, truth_of};
 use ap_kernel::{
     Ctx, Equiv, Mode, NoMemory, Seq, ShapeRef, Symbol, Term, TypeOracle, pairs_of, shape_of, subst,
 };
@@ -83,7 +83,7 @@ fn walk_on<
     test: Equiv,
     b: &Term,
     c: &Term,
-) -> Result<Option<Option<Equiv>>, NoMemory>
+) -> Result<Tried<Equiv>, NoMemory>
     requires level { IsLevel (F.pre l.now.below.now) (F.post l.now.below.now) l.now.r.now l.now.levels }
     requires facts { KnownFacts (defs_in l.now.r.now) at.now.ctx.now.0 }
     requires inner { inner.now.ctx.now ≡ at.now.ctx.now }
@@ -115,7 +115,7 @@ fn follow_both<
     test: Equiv,
     b: &Term,
     c: &Term,
-) -> Result<Option<Option<Equiv>>, NoMemory>
+) -> Result<Tried<Equiv>, NoMemory>
     requires level { IsLevel (F.pre l.now.below.now) (F.post l.now.below.now) l.now.r.now l.now.levels }
     requires facts { KnownFacts (defs_in l.now.r.now) at.now.ctx.now.0 }
     requires sofar { From l.now.r.now.w.now mode at.now.ctx.now sofar.says.lhs sofar }
@@ -146,7 +146,7 @@ fn walk_ends<
     test: Equiv,
     b: &Term,
     c: &Term,
-) -> Result<Option<Option<Equiv>>, NoMemory>
+) -> Result<Tried<Equiv>, NoMemory>
     requires level { IsLevel (F.pre l.now.below.now) (F.post l.now.below.now) l.now.r.now l.now.levels }
     requires facts { KnownFacts (defs_in l.now.r.now) at.now.ctx.now.0 }
     requires sofar { From l.now.r.now.w.now mode at.now.ctx.now sofar.says.lhs sofar }
@@ -176,7 +176,7 @@ fn walk_body<
     sofar: Equiv,
     taken: bool,
     body: &Term,
-) -> Result<Option<Option<Equiv>>, NoMemory>
+) -> Result<Tried<Equiv>, NoMemory>
     requires level { IsLevel (F.pre l.now.below.now) (F.post l.now.below.now) l.now.r.now l.now.levels }
     requires facts { KnownFacts (defs_in l.now.r.now) at.now.ctx.now.0 }
     requires inner { inner.now.ctx.now ≡ at.now.ctx.now }
@@ -205,7 +205,7 @@ fn walk<O: TypeOracle, F: Fn(&mut Run, Mode, &Place<'_>, &Term) -> Result<Option
     inner: &Place<'_>,
     sofar: Equiv,
     taken: bool,
-) -> Result<Option<Option<Equiv>>, NoMemory>
+) -> Result<Tried<Equiv>, NoMemory>
     requires level { IsLevel (F.pre l.now.below.now) (F.post l.now.below.now) l.now.r.now l.now.levels }
     requires facts { KnownFacts (defs_in l.now.r.now) at.now.ctx.now.0 }
     requires inner { inner.now.ctx.now ≡ at.now.ctx.now }
@@ -228,7 +228,7 @@ fn walk_stops<
     at: &Place<'_>,
     sofar: Equiv,
     taken: bool,
-) -> Result<Option<Option<Equiv>>, NoMemory>
+) -> Result<Tried<Equiv>, NoMemory>
     requires level { IsLevel (F.pre l.now.below.now) (F.post l.now.below.now) l.now.r.now l.now.levels }
     requires facts { KnownFacts (defs_in l.now.r.now) at.now.ctx.now.0 }
     requires sofar { From l.now.r.now.w.now mode at.now.ctx.now sofar.says.lhs sofar }
@@ -254,7 +254,7 @@ fn open_within<
     at: &Place<'_>,
     inner: &Place<'_>,
     first: Equiv,
-) -> Result<Option<Option<Equiv>>, NoMemory>
+) -> Result<Tried<Equiv>, NoMemory>
     requires level { IsLevel (F.pre l.now.below.now) (F.post l.now.below.now) l.now.r.now l.now.levels }
     requires facts { KnownFacts (defs_in l.now.r.now) at.now.ctx.now.0 }
     requires inner { inner.now.ctx.now ≡ at.now.ctx.now }
@@ -281,7 +281,7 @@ fn open_recursive<
     at: &Place<'_>,
     f: &Symbol,
     first: Equiv,
-) -> Result<Option<Option<Equiv>>, NoMemory>
+) -> Result<Tried<Equiv>, NoMemory>
     requires level { IsLevel (F.pre l.now.below.now) (F.post l.now.below.now) l.now.r.now l.now.levels }
     requires facts { KnownFacts (defs_in l.now.r.now) at.now.ctx.now.0 }
     requires first { From l.now.r.now.w.now mode at.now.ctx.now first.says.lhs first }
@@ -309,7 +309,7 @@ fn open_instance<
     f: &Symbol,
     g: &Function,
     first: Equiv,
-) -> Result<Option<Option<Equiv>>, NoMemory>
+) -> Result<Tried<Equiv>, NoMemory>
     requires level { IsLevel (F.pre l.now.below.now) (F.post l.now.below.now) l.now.r.now l.now.levels }
     requires facts { KnownFacts (defs_in l.now.r.now) at.now.ctx.now.0 }
     requires first { From l.now.r.now.w.now mode at.now.ctx.now first.says.lhs first }
@@ -336,7 +336,7 @@ fn open_at_once<
     f: &Symbol,
     us: &[Term],
     g: &Function,
-) -> Result<Option<Option<Equiv>>, NoMemory>
+) -> Result<Tried<Equiv>, NoMemory>
     requires level { IsLevel (F.pre l.now.below.now) (F.post l.now.below.now) l.now.r.now l.now.levels }
     requires facts { KnownFacts (defs_in l.now.r.now) at.now.ctx.now.0 }
     requires term { IsTrue (known (defs_in l.now.r.now) t.now) }
@@ -399,7 +399,7 @@ fn walk_past<
     inner: &Place<'_>,
     first: Equiv,
     test: Equiv,
-) -> Result<Option<Option<Equiv>>, NoMemory>
+) -> Result<Tried<Equiv>, NoMemory>
     requires level { IsLevel (F.pre l.now.below.now) (F.post l.now.below.now) l.now.r.now l.now.levels }
     requires facts { KnownFacts (defs_in l.now.r.now) at.now.ctx.now.0 }
     requires inner { inner.now.ctx.now ≡ at.now.ctx.now }
@@ -429,7 +429,7 @@ fn open_tested<
     t: &Term,
     f: &Symbol,
     test: Equiv,
-) -> Result<Option<Option<Equiv>>, NoMemory>
+) -> Result<Tried<Equiv>, NoMemory>
     requires level { IsLevel (F.pre l.now.below.now) (F.post l.now.below.now) l.now.r.now l.now.levels }
     requires facts { KnownFacts (defs_in l.now.r.now) at.now.ctx.now.0 }
     requires term { IsTrue (known (defs_in l.now.r.now) t.now) }
@@ -463,7 +463,7 @@ fn open_by_test<
     us: &[Term],
     g: &Function,
     a: &Term,
-) -> Result<Option<Option<Equiv>>, NoMemory>
+) -> Result<Tried<Equiv>, NoMemory>
     requires level { IsLevel (F.pre l.now.below.now) (F.post l.now.below.now) l.now.r.now l.now.levels }
     requires facts { KnownFacts (defs_in l.now.r.now) at.now.ctx.now.0 }
     requires term { IsTrue (known (defs_in l.now.r.now) t.now) }
@@ -473,7 +473,7 @@ fn open_by_test<
     ensures is { IfOk result (λ o. got_any o run.new.left ≡ walk (setting_of l.now.r.now) (inner_of l.now.r.now l.now.levels) mode (seen_at at.now) (closing f.now (seen_at at.now)) (body_at g.now us.now) false run.old.left) }
     ensures from { IfOk result (λ o. IfSome o (λ a. IfSome a (From l.now.r.now.w.now mode at.now.ctx.now t.now))) }
 {
-    l.r.w.is_sound();
+    l.r.w.recall_sound();
     let Some(test) = rewrite_test(l, run, at, us, g, a)? else {
         return Ok(None);
     };
@@ -528,7 +528,7 @@ fn open_call<
     f: &Symbol,
     us: &[Term],
     g: &Function,
-) -> Result<Option<Option<Equiv>>, NoMemory>
+) -> Result<Tried<Equiv>, NoMemory>
     requires level { IsLevel (F.pre l.now.below.now) (F.post l.now.below.now) l.now.r.now l.now.levels }
     requires facts { KnownFacts (defs_in l.now.r.now) at.now.ctx.now.0 }
     requires term { IsTrue (known (defs_in l.now.r.now) t.now) }
@@ -558,7 +558,7 @@ pub fn by_definition<
     t: &Term,
     f: &Symbol,
     us: &[Term],
-) -> Result<Option<Option<Equiv>>, NoMemory>
+) -> Result<Tried<Equiv>, NoMemory>
     requires level { IsLevel (F.pre l.now.below.now) (F.post l.now.below.now) l.now.r.now l.now.levels }
     requires facts { KnownFacts (defs_in l.now.r.now) at.now.ctx.now.0 }
     requires term { IsTrue (known (defs_in l.now.r.now) t.now) }

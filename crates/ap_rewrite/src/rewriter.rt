@@ -35,6 +35,9 @@ pub struct Run {
     pub left: u32,
 }
 
+/// What something that may not apply came to: `None` where the steps ran out, `Some(None)` where it doesn't apply.
+pub type Tried<T> = Option<Option<T>>;
+
 /// How the terms within a term are rewritten: with so many levels left, by `below`.
 #[derive_where(Clone, Copy)]
 pub struct Level<'a, 'b, O, F> {

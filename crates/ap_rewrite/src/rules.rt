@@ -25,13 +25,13 @@ ghost use Rattle.ap_rewrite.specs.Answering.{defs_in, Ready, setting_of, inner_o
 ghost use Rattle.ap_rewrite.specs.Relieved.{RelievedFrom};
 
 use crate::branching::go_on;
+use crate::engines::answered;
 use crate::facts::{Relieved, by_sign, is_bound};
 use crate::laws::search_by_head;
 use crate::ordering::{fits_mode, in_order_first, in_order_then};
-use crate::rewriter::{Level, Place, Rewriter, Run, deeper};
+use crate::rewriter::{Level, Place, Rewriter, Run, Tried, deeper};
 use crate::settling::{in_mode, to_true};
-use crate::testing::is_small;
-use crate::trying::answered;
+use crate::sizes::is_small;
 use ap_kernel::{
     Ctx, Equiv, Mode, NoMemory, Seq, Subst, Symbol, Term, TypeOracle, World, apply_theorem,
     is_constant, subst,
@@ -107,7 +107,7 @@ fn by_rewriting<
     at: &Place<'_>,
     h: &Term,
     s: Subst,
-) -> Result<Option<Option<Relieved>>, NoMemory>
+) -> Result<Tried<Relieved>, NoMemory>
     requires level { IsLevel (F.pre l.now.below.now) (F.post l.now.below.now) l.now.r.now l.now.levels }
     requires facts { KnownFacts (defs_in l.now.r.now) at.now.ctx.now.0 }
     requires hyp { IsTrue (known (defs_in l.now.r.now) h.now) }
@@ -135,7 +135,7 @@ fn relieve_one<
     at: &Place<'_>,
     h: &Term,
     s: Subst,
-) -> Result<Option<Option<Relieved>>, NoMemory>
+) -> Result<Tried<Relieved>, NoMemory>
     requires level { IsLevel (F.pre l.now.below.now) (F.post l.now.below.now) l.now.r.now l.now.levels }
     requires facts { KnownFacts (defs_in l.now.r.now) at.now.ctx.now.0 }
     requires hyp { IsTrue (known (defs_in l.now.r.now) h.now) }
@@ -161,7 +161,7 @@ pub(crate) fn relieve<
     at: &Place<'_>,
     hs: &[Term],
     s: Subst,
-) -> Result<Option<Option<Reliefs>>, NoMemory>
+) -> Result<Tried<Reliefs>, NoMemory>
     requires level { IsLevel (F.pre l.now.below.now) (F.post l.now.below.now) l.now.r.now l.now.levels }
     requires facts { KnownFacts (defs_in l.now.r.now) at.now.ctx.now.0 }
     requires hyps { Each (λ h. IsTrue (known (defs_in l.now.r.now) h)) hs.now }
@@ -226,7 +226,7 @@ fn right<
     at: &Place<'_>,
     g: &RewriteRule,
     found: Reliefs,
-) -> Result<Option<Option<Equiv>>, NoMemory>
+) -> Result<Tried<Equiv>, NoMemory>
     requires level { IsLevel (F.pre l.now.below.now) (F.post l.now.below.now) l.now.r.now l.now.levels }
     requires facts { KnownFacts (defs_in l.now.r.now) at.now.ctx.now.0 }
     requires rule { IsRuleOf l.now.r.now.w.now (rule_in g.now) }
@@ -255,7 +255,7 @@ fn relieved<
     t: &Term,
     g: &RewriteRule,
     found: Reliefs,
-) -> Result<Option<Option<Equiv>>, NoMemory>
+) -> Result<Tried<Equiv>, NoMemory>
     requires level { IsLevel (F.pre l.now.below.now) (F.post l.now.below.now) l.now.r.now l.now.levels }
     requires facts { KnownFacts (defs_in l.now.r.now) at.now.ctx.now.0 }
     requires rule { IsRuleOf l.now.r.now.w.now (rule_in g.now) }
@@ -283,7 +283,7 @@ fn apply<
     t: &Term,
     g: &RewriteRule,
     s: Subst,
-) -> Result<Option<Option<Equiv>>, NoMemory>
+) -> Result<Tried<Equiv>, NoMemory>
     requires level { IsLevel (F.pre l.now.below.now) (F.post l.now.below.now) l.now.r.now l.now.levels }
     requires facts { KnownFacts (defs_in l.now.r.now) at.now.ctx.now.0 }
     requires term { IsTrue (known (defs_in l.now.r.now) t.now) }
@@ -321,7 +321,7 @@ fn try_rule<
     at: &Place<'_>,
     t: &Term,
     g: &RewriteRule,
-) -> Result<Option<Option<Equiv>>, NoMemory>
+) -> Result<Tried<Equiv>, NoMemory>
     requires level { IsLevel (F.pre l.now.below.now) (F.post l.now.below.now) l.now.r.now l.now.levels }
     requires facts { KnownFacts (defs_in l.now.r.now) at.now.ctx.now.0 }
     requires term { IsTrue (known (defs_in l.now.r.now) t.now) }
@@ -350,7 +350,7 @@ fn each_rule<
     at: &Place<'_>,
     t: &Term,
     gs: &[RewriteRule],
-) -> Result<Option<Option<Equiv>>, NoMemory>
+) -> Result<Tried<Equiv>, NoMemory>
     requires level { IsLevel (F.pre l.now.below.now) (F.post l.now.below.now) l.now.r.now l.now.levels }
     requires facts { KnownFacts (defs_in l.now.r.now) at.now.ctx.now.0 }
     requires term { IsTrue (known (defs_in l.now.r.now) t.now) }
@@ -380,7 +380,7 @@ pub fn by_rules<
     t: &Term,
     f: &Symbol,
     us: &[Term],
-) -> Result<Option<Option<Equiv>>, NoMemory>
+) -> Result<Tried<Equiv>, NoMemory>
     requires level { IsLevel (F.pre l.now.below.now) (F.post l.now.below.now) l.now.r.now l.now.levels }
     requires facts { KnownFacts (defs_in l.now.r.now) at.now.ctx.now.0 }
     requires term { IsTrue (known (defs_in l.now.r.now) t.now) }
@@ -391,8 +391,8 @@ pub fn by_rules<
     search_by_head();
     rules_are_parts();
     rules_hold();
-    l.r.w.is_sound();
-    l.r.w.has_distinct_names();
+    l.r.w.recall_sound();
+    l.r.w.recall_distinct_names();
     let gs = by_head(l.r.rules, f);
     each_rule(l, run, mode, at, t, gs)
 }

@@ -16,7 +16,7 @@ ghost use Rattle.ap_world.specs.Shapes.{is_constant};
 ghost use Rattle.ap_poly.specs.Bounds.{lacks};
 ghost use Rattle.ap_kernel.specs.declared.objects.Mode.TheVariants.{Iff};
 ghost use Rattle.ap_kernel.specs.Opening.{is_constant_call};
-ghost use Rattle.ap_kernel.specs.Standing.{HasGround, Stands};
+ghost use Rattle.ap_kernel.specs.Standing.{DefinesNot, Stands};
 ghost use Rattle.ap_kernel.specs.Masks.{MaskHolds, leads_to, typed_mode};
 ghost use Rattle.ap_rewrite.specs.Leading.{leads_made, said_of, Serves, plain_in};
 ghost use Rattle.ap_rewrite.specs.Rewriting.{is_iff, constant_in, by_mask, changed, settled};
@@ -27,6 +27,7 @@ use ap_kernel::{
 };
 use ap_term::is_same;
 use ap_value::{Fixed, named};
+use ap_world::masks;
 use std::alloc::Global;
 
 /// The value `t`. Takes no memory.
@@ -85,8 +86,8 @@ fn constant_truth(alloc: Global, w: &World, ctx: &Ctx, t: &Term) -> Result<Equiv
     ensures stands { IfOk result (λ q. Stands w.now q) }
     ensures made { IfOk result (λ q. q.says ≡ leads_made ctx.now Iff t.now t_constant) }
 {
-    w.is_sound();
-    let q = by_type(alloc, w, ctx, t, Mask(1015), t_value())?;
+    w.recall_sound();
+    let q = by_type(alloc, w, ctx, t, Mask(masks::ALL ^ masks::NIL), t_value())?;
     Ok(q)
 }
 
@@ -168,16 +169,16 @@ fn settled_value(mode: Mode, mask: Mask) -> Option<Value>
     ensures leads { IfSome result (λ v. IsTrue (leads_to mask (val_of v))) }
     ensures serves { IfSome result (λ v. Serves (typed_mode mask (val_of v)) mode) }
 {
-    if is_iff(mode) && lacks(mask, 8) {
+    if is_iff(mode) && lacks(mask, masks::NIL) {
         return Some(t_value());
     }
-    if lacks(mask, 1015) {
+    if lacks(mask, masks::ALL ^ masks::NIL) {
         return Some(nil_value());
     }
-    if lacks(mask, 1007) {
+    if lacks(mask, masks::ALL ^ masks::T) {
         return Some(t_value());
     }
-    if lacks(mask, 1022) {
+    if lacks(mask, masks::ALL ^ masks::ZERO) {
         return Some(Value::Int(0));
     }
     None
@@ -239,7 +240,7 @@ pub fn settled<O: TypeOracle>(
     mode: Mode,
     t: &Term,
 ) -> Result<Equiv, NoMemory>
-    requires ground { HasGround (function_of w.now.entries) }
+    requires ground { DefinesNot (function_of w.now.entries) }
     requires facts { KnownFacts (function_of w.now.entries) ctx.now.0 }
     requires term { IsTrue (known (function_of w.now.entries) t.now) }
     ensures stands { IfOk result (λ q. Stands w.now q) }
@@ -272,7 +273,7 @@ pub fn settle<O: TypeOracle>(
     mode: Mode,
     t: &Term,
 ) -> Result<Option<Equiv>, NoMemory>
-    requires ground { HasGround (function_of w.now.entries) }
+    requires ground { DefinesNot (function_of w.now.entries) }
     requires facts { KnownFacts (function_of w.now.entries) ctx.now.0 }
     requires term { IsTrue (known (function_of w.now.entries) t.now) }
     ensures stands { IfOk result (λ o. IfSome o (λ q. Stands w.now q)) }

@@ -11,7 +11,7 @@ ghost use Rattle.ap_world.specs.Shapes.{negation};
 ghost use Rattle.ap_kernel.specs.Answers.{if_of};
 ghost use Rattle.ap_kernel.specs.Choices.{is_truth};
 ghost use Rattle.ap_kernel.specs.Equations.{truth_constant};
-ghost use Rattle.ap_kernel.specs.Standing.{HasGround, Stands};
+ghost use Rattle.ap_kernel.specs.Standing.{DefinesNot, Stands};
 ghost use Rattle.ap_rewrite.specs.Leading.{leads_made, plain_in};
 ghost use Rattle.ap_rewrite.specs.Rewriting.{truth_of, shaped, unwrapped, negated};
 
@@ -20,6 +20,7 @@ use ap_kernel::{
     Ctx, Equiv, Mask, Mode, NoMemory, ShapeRef, Term, TypeOracle, Value, World, bare_test,
     double_not, if_shape, is_nil, refl, shape_of,
 };
+use ap_world::masks;
 use std::alloc::Global;
 
 /// From an `if` whose test is no constant to its simplest shape. The oracle is asked of its test, without the
@@ -32,7 +33,7 @@ pub fn shaped<O: TypeOracle>(
     mode: Mode,
     t: &Term,
 ) -> Result<Equiv, NoMemory>
-    requires ground { HasGround (function_of w.now.entries) }
+    requires ground { DefinesNot (function_of w.now.entries) }
     requires facts { KnownFacts (function_of w.now.entries) ctx.now.0 }
     requires term { IsTrue (known (function_of w.now.entries) t.now) }
     requires choice { (a : Term) × (b : Term) × (c : Term) × (t.now ≡ if_of a b c) × (truth_of a ≡ None) }
@@ -65,13 +66,13 @@ pub(crate) fn not_constant(
     t: &Term,
     v: &Value,
 ) -> Result<Equiv, NoMemory>
-    requires ground { HasGround (function_of w.now.entries) }
+    requires ground { DefinesNot (function_of w.now.entries) }
     requires facts { KnownFacts (function_of w.now.entries) ctx.now.0 }
     requires negation { t.now ≡ not_of (Quote v.now) }
     ensures stands { IfOk result (λ q. Stands w.now q) }
     ensures made { IfOk result (λ q. q.says ≡ leads_made ctx.now mode t.now (truth_constant (value_eq (val_of v.now) nil))) }
 {
-    w.is_sound();
+    w.recall_sound();
     let value = negation_of(v);
     let q = value_equiv(alloc, w, ctx, mode, t, value)?;
     Ok(q)
@@ -82,7 +83,7 @@ fn is_truth(mode: Mode, mask: Mask) -> bool
     ensures { result ≡ is_truth mode mask }
 {
     match mode {
-        Mode::Equal => lacks(mask, 999),
+        Mode::Equal => lacks(mask, masks::ALL ^ masks::TRUTHS),
         Mode::Iff => true,
     }
 }
@@ -97,7 +98,7 @@ fn not_not<O: TypeOracle>(
     t: &Term,
     z: &Term,
 ) -> Result<Equiv, NoMemory>
-    requires ground { HasGround (function_of w.now.entries) }
+    requires ground { DefinesNot (function_of w.now.entries) }
     requires facts { KnownFacts (function_of w.now.entries) ctx.now.0 }
     requires term { IsTrue (known (function_of w.now.entries) t.now) }
     requires negation { t.now ≡ not_of (not_of z.now) }
@@ -124,7 +125,7 @@ fn negated_by<O: TypeOracle>(
     t: &Term,
     a: &Term,
 ) -> Result<Equiv, NoMemory>
-    requires ground { HasGround (function_of w.now.entries) }
+    requires ground { DefinesNot (function_of w.now.entries) }
     requires facts { KnownFacts (function_of w.now.entries) ctx.now.0 }
     requires term { IsTrue (known (function_of w.now.entries) t.now) }
     requires negation { t.now ≡ not_of a.now }
@@ -168,7 +169,7 @@ pub fn negated<O: TypeOracle>(
     mode: Mode,
     t: &Term,
 ) -> Result<Equiv, NoMemory>
-    requires ground { HasGround (function_of w.now.entries) }
+    requires ground { DefinesNot (function_of w.now.entries) }
     requires facts { KnownFacts (function_of w.now.entries) ctx.now.0 }
     requires term { IsTrue (known (function_of w.now.entries) t.now) }
     requires negation { (a : Term) × (t.now ≡ not_of a) }

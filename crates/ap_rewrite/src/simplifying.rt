@@ -5,7 +5,7 @@ ghost use Rattle.ap_term.specs.declared.term.Term.{Term};
 ghost use Rattle.ap_term.specs.Metered.{mapped};
 ghost use Rattle.ap_world.specs.World.{function_of};
 ghost use Rattle.ap_world.specs.Shapes.{is_constant};
-ghost use Rattle.ap_kernel.specs.Standing.{HasGround, Stands};
+ghost use Rattle.ap_kernel.specs.Standing.{DefinesNot, Stands};
 ghost use Rattle.ap_kernel.specs.Reductions.{KnownClause, Reduces, put_at, others, all_false, to_one, rewritten};
 ghost use Rattle.ap_clausify.specs.Splitting.{settled_left, steps_left};
 ghost use Rattle.ap_rewrite.specs.Literals.{rewrite_literal, rewrite_literals, rewritten_to, split_left, simplify_of};
@@ -98,7 +98,7 @@ fn with_literal(
     place: usize,
     q: Equiv,
 ) -> Result<Reduction, NoMemory>
-    requires ground { HasGround (function_of w.now.entries) }
+    requires ground { DefinesNot (function_of w.now.entries) }
     requires stands { Reduces w.now so_far }
     requires place { HasPlace so_far.says place }
     requires leads { Stands w.now q }
@@ -148,7 +148,7 @@ fn is_proved(q: &Reduction, place: usize) -> bool
 
 /// From a clause to none, where the one that is left holds by itself.
 fn close(alloc: Global, w: &World, q: Reduction) -> Result<Reduction, NoMemory>
-    requires ground { HasGround (function_of w.now.entries) }
+    requires ground { DefinesNot (function_of w.now.entries) }
     requires stands { Reduces w.now q }
     requires holds { LeavesTrue q.says }
     ensures stands { IfOk result (λ p. Reduces w.now p) }
@@ -194,7 +194,7 @@ fn split_left(
     q: Reduction,
     steps: &mut Steps,
 ) -> Result<Option<Reduction>, NoMemory>
-    requires ground { HasGround (function_of w.now.entries) }
+    requires ground { DefinesNot (function_of w.now.entries) }
     requires stands { Reduces w.now q }
     requires one { q.says ≡ rewritten_to q.says.from (literals_left q.says.to) }
     ensures stands { IfOk result (λ o. IfSome o (Reduces w.now)) }

@@ -106,7 +106,7 @@ impl Ruled {
         ensures err { OnErr result (self.new ≡ self.old) }
         ensures taken { IsErrOf result AddError.NameTaken ↔ IsTrue (has_clash self.old.entries kept.now.entries) }
     {
-        self.world.is_sound();
+        self.world.recall_sound();
         if self.world.clashes_with(kept) {
             return Err(AddError::NameTaken);
         }

@@ -67,10 +67,10 @@ impl<'a, G> Model for Admitting<'a, G> {
 }
 
 /// A world is sound by its type.
-fn is_sound(world: &Ruled)
+fn recall_sound(world: &Ruled)
     ensures { Sound world.now.entries }
 {
-    world.world().is_sound();
+    world.world().recall_sound();
 }
 
 /// Does an event again, where the first pass admitted it.
@@ -120,7 +120,7 @@ fn work_both<R: Threads + Wait + Sync, G: Gate + Sync>(
     again_is_covered();
     worlds_grow();
     let done = work(rt, alloc, world, earlier, form, limits, workers, gate)?;
-    is_sound(world);
+    recall_sound(world);
     pass_on(second, alloc, earlier, form, done.admitted)?;
     Ok(done)
 }
@@ -132,7 +132,7 @@ fn keep_world(earlier: &mut Seq<KeptBook>, name: Bytes, world: World) -> Result<
     ensures err { OnErr result (earlier.new ≡ earlier.old) }
     ensures distinct { Each (λ p. are_distinct p.1.entries ≡ true) earlier.old → Each (λ p. are_distinct p.1.entries ≡ true) earlier.new }
 {
-    world.has_distinct_names();
+    world.recall_distinct_names();
     earlier.push(KeptBook::new(name, world))
 }
 

@@ -202,7 +202,7 @@ fn last_world<G>(admitting: Admitting<'_, G>) -> World
     ensures sound { Sound result.entries }
 {
     let world = admitting.into_world();
-    world.is_sound();
+    world.recall_sound();
     world
 }
 
@@ -399,7 +399,7 @@ fn usage_report<S: Sink>(alloc: Global, world: Ruled, sink: &mut S) -> Report
 {
     let status = usage_status(sink);
     let world = world.into_world();
-    world.is_sound();
+    world.recall_sound();
     Report {
         status,
         books: Seq::new(alloc),
@@ -416,7 +416,7 @@ fn no_report(alloc: Global, world: World) -> Report
     ensures sound { Sound result.world.entries }
     ensures drops { result.drops ≡ [] }
 {
-    world.is_sound();
+    world.recall_sound();
     Report {
         status: Status::NoMemory,
         books: Seq::new(alloc),

@@ -25,7 +25,8 @@ use Rattle.ap_world.proofs.Written.{vars_quote}
 use Rattle.ap_kernel.specs.Reductions.{KnownClause}
 use Rattle.ap_translate.specs.Laws.{HasMacroFunctions}
 use Rattle.ap_admit.specs.Admission.{with_function}
-use Rattle.ap_admit.specs.Condition.{admitted_by, admitted, owed, clause_of, IsAdmissible}
+use Rattle.ap_terminate.specs.Distinct.{clause_of}
+use Rattle.ap_admit.specs.Condition.{admitted_by, admitted, owed, IsAdmissible}
 use Rattle.ap_admit.proofs.Definitions.{admitted_is_sound, owed_is_known}
 use Rattle.ap_admit.proofs.Masked.{stubs_know}
 use Rattle.ap_stated.specs.declared.owed.Owed.{Owed}

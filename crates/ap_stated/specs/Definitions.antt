@@ -11,7 +11,8 @@ use Rattle.ap_world.specs.World.{Shown, has_name}
 use Rattle.ap_world.specs.KeptTypes.{kept_types}
 use Rattle.ap_terminate.specs.declared.measures.TerminateError.{TerminateError}
 use Rattle.ap_terminate.specs.Refusals.{is_nested, has_bad_measure}
-use Rattle.ap_admit.specs.Condition.{owed, clause_of}
+use Rattle.ap_terminate.specs.Distinct.{clause_of}
+use Rattle.ap_admit.specs.Condition.{owed}
 use Rattle.ap_stated.specs.declared.definition.Terminating.{Terminating}
 use Rattle.ap_stated.specs.declared.owed.Owed.{Owed}
 use Rattle.ap_stated.specs.declared.refusing.Refusal.{Refusal}

@@ -164,7 +164,7 @@ fn kept(alloc: Global, w: &Ruled, d: &Defun) -> Result<Mask, NoMemory>
     ensures mask { IfOk result (λ k. k ≡ record { 0 = kept_types w.now d.now.name d.now.body }) }
 {
     let world = w.world();
-    world.is_sound();
+    world.recall_sound();
     kept_mask(alloc, world, &d.name, &d.body)
 }
 

@@ -125,7 +125,7 @@ pub fn add_theorem(alloc: Global, w: &mut Ruled, theorem: Theorem) -> Result<(),
     ensures ok { OnOk result (w.new ≡ added w.old (entry.Theorem theorem)) }
     ensures err { OnErr result (w.new ≡ w.old) }
 {
-    w.world().is_sound();
+    w.world().recall_sound();
     let Theorem {
         name,
         term,

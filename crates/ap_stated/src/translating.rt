@@ -23,7 +23,7 @@ use ap_term::{Term, copy_symbols};
 use ap_terminate::cases_of;
 use ap_translate::{TransError, TransKind, can_be_bound, translate};
 use ap_value::{Symbol, copy_symbol};
-use ap_world::{AddError, Defun, Function, Mask, Measure, World, copy_theory};
+use ap_world::{AddError, Defun, Function, Mask, Measure, World, copy_theory, masks};
 use std::alloc::{AllocError, Global};
 use std::slice::from_ref;
 
@@ -157,7 +157,7 @@ fn stub(alloc: Global, name: &Symbol, formals: &Seq<Symbol>) -> Result<Function,
         body: nil_term(),
         measure: None,
         cases: Seq::new(alloc),
-        mask: Mask(1023),
+        mask: Mask(masks::ALL),
     })
 }
 
@@ -184,10 +184,10 @@ fn add_stub(
 }
 
 /// A ruled world is sound. Costs nothing.
-fn is_sound(w: &Ruled)
+fn recall_sound(w: &Ruled)
     ensures { Sound w.now.entries }
 {
-    w.world().is_sound();
+    w.world().recall_sound();
 }
 
 /// The term of a body, which may call the function: a stub of it is added to the world while the body is
@@ -207,7 +207,7 @@ fn body(
     ensures speaks { IfOk result (λ u. IsTrue (speaks_of formals.now u)) }
     ensures known { IfOk result (λ u. IsTrue (known (function_of (with_function w.old.entries (stub name.now formals.now))) u)) }
 {
-    is_sound(w);
+    recall_sound(w);
     let count = w.world().count();
     let theory = copy_theory(alloc, w.world().theory())?;
     add_stub(alloc, w, name, formals)?;

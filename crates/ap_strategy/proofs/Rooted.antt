@@ -9,14 +9,15 @@ use Rattle.ap_clausify.specs.Flattening.{Clausifies}
 use Rattle.ap_strategy.specs.declared.plan.Plan.{Plan}
 use Rattle.ap_strategy.specs.declared.plan.Settings.{Settings}
 use Rattle.ap_strategy.specs.Laws.{kernel_ground}
-use Rattle.ap_strategy.specs.Goals.{IsGoal, defs_of, first_settings, root_goal}
+use Rattle.ap_kernel.specs.Reductions.{KnownClause}
+use Rattle.ap_strategy.specs.Goals.{IsGoal, defs_of, first_settings, clause_goal}
 
-pub root_is_goal : (plan : Plan) (u : Term) (c : Clause) (s : Settings) → Sound plan.world.entries → HasFunctions (defs_of plan) → known (defs_of plan) u ≡ true
-    → KnownHints plan.world.entries plan.hints → Clausifies u c → s ≡ first_settings plan → IsGoal (record (root_goal plan u) { clause = c; settings = s })
-root_is_goal plan u c s sound functions k said stands h = record {
+pub clause_is_goal : (plan : Plan) (c : Clause) (s : Settings) → HasFunctions (defs_of plan) → KnownClause (defs_of plan) c → KnownHints plan.world.entries plan.hints → s ≡ first_settings plan
+    → IsGoal (record (clause_goal plan c) { settings = s })
+clause_is_goal plan c s functions c_known hints h = record {
   functions = functions;
-  hints = said;
-  clause = (stands plan.world.entries sound (kernel_ground (defs_of plan) functions) k).0;
+  hints = hints;
+  clause = c_known;
   expand = subst (λ (s : Settings). Each (λ u. IsTrue (known (defs_of plan) u)) s.expand) (sym h) tt;
   scheme = tt;
   depth = omega arith;
@@ -24,3 +25,7 @@ root_is_goal plan u c s sound functions k said stands h = record {
   induction = λ q. absurd (true≢false (sym q));
   others = λ q. refl;
 }
+
+-- the clause of a term of the world is known there
+pub flat_known : (plan : Plan) (u : Term) (c : Clause) → Sound plan.world.entries → HasFunctions (defs_of plan) → known (defs_of plan) u ≡ true → Clausifies u c → KnownClause (defs_of plan) c
+flat_known plan u c sound functions k stands = (stands plan.world.entries sound (kernel_ground (defs_of plan) functions) k).0

@@ -51,18 +51,22 @@ pub record IsGoal (g : Goal) : Type 0 where
 abbrev pub first_settings : Plan → Settings
 first_settings plan = record { theory = plan.world.theory; expand = []; skip = [] }
 
--- the goal that the attempt on a term starts from
-abbrev pub root_goal : Plan → Term → Goal
-root_goal plan u = record {
+-- the goal that the attempt on a clause starts from has the name `Goal`
+abbrev pub clause_goal : Plan → Clause → Goal
+clause_goal plan c = record {
   plan = plan;
   name = root;
-  clause = record { 0 = flat u };
+  clause = c;
   depth = 0;
   under = false;
   settings = first_settings plan;
   induct = false;
   scheme = None;
 }
+
+-- and that on a term, from the term's clause
+abbrev pub root_goal : Plan → Term → Goal
+root_goal plan u = clause_goal plan (record { 0 = flat u })
 
 -- the hint of a name, the first that is for it
 abbrev pub hint_among : List Hint → Name → Option Hint

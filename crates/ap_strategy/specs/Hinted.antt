@@ -12,7 +12,7 @@ use Rattle.ap_world.specs.World.{function_of, theorem_of}
 use Rattle.ap_names.specs.Names.{Name, name_eq}
 use Rattle.ap_hints.specs.declared.hint.Hint.{Hint}
 use Rattle.ap_hints.specs.Known.{KnownTerm, KnownUse, KnownHint, KnownHints}
-use Rattle.ap_kernel.specs.Standing.{HasGround}
+use Rattle.ap_kernel.specs.Standing.{DefinesNot}
 use Rattle.ap_kernel.specs.Reductions.{KnownClause, Follows}
 use Rattle.ap_kernel.proofs.Hinted.{cased_follows, used_follows}
 use Rattle.ap_strategy.specs.declared.plan.Plan.{Plan}
@@ -42,7 +42,7 @@ scheme_known plan name said = go (hint_for plan name) refl
     go None q = tt
     go (Some h) q = (hint_known plan name h said q).scheme
 
-module _ (W : List Entry) (sound : Sound W) (grounded : HasGround (function_of W)) where
+module _ (W : List Entry) (sound : Sound W) (grounded : DefinesNot (function_of W)) where
   -- one clause, with an instance of a theorem
   used_step : (x : Symbol) (s : Subst) (c : Clause) (o : Option Theorem) → theorem_of W x ≡ o → KnownClause (function_of W) c → KnownUse W (x, s) → Follows (function_of W) (reduced_to c (used_in o s c ∷ []))
   used_step x s c None q k u = record { start = k; goals = (k, tt); valid = λ v. v.0 }

@@ -12,7 +12,7 @@ use Rattle.ap_walk.specs.declared.act.Process.{Process}
 use Rattle.ap_kernel.specs.declared.reductions.Inference.{Inference}
 use Rattle.ap_kernel.specs.Eliminating.{consp_term, taken_apart, without_first, elim_goals, eliminated}
 use Rattle.ap_kernel.specs.Reductions.{KnownClause, Follows}
-use Rattle.ap_kernel.specs.Standing.{HasGround}
+use Rattle.ap_kernel.specs.Standing.{DefinesNot}
 use Rattle.ap_kernel.proofs.Eliminated.{eliminated_follows}
 use Rattle.ap_kernel.proofs.Splitting.{then_some}
 use Rattle.ap_types.proofs.KeptHolds.{types_mask}
@@ -61,7 +61,7 @@ pub record Makes (D : Defs) (c : Clause) (ds : List Clause) : Type 0 where
   pub few : length ds ≤ 2
   pub follows : Follows D (reduced_to c ds)
 
-elim_makes : (D : Defs) → Total D → HasGround D → (h : ShownTheory) (c : Clause) (i : Inference) → KnownClause D c → elim_made h c ≡ Some i → Makes D c i.to
+elim_makes : (D : Defs) → Total D → DefinesNot D → (h : ShownTheory) (c : Clause) (i : Inference) → KnownClause D c → elim_made h c ≡ Some i → Makes D c i.to
 elim_makes D total grounded h c i k e =
     let (p, found, made) = then_some (taken h c.0) (λ (p : Symbol × Symbol × Symbol). Some (eliminated c p.0 p.1 p.2)) i e in
     let same : eliminated c p.0 p.1 p.2 ≡ i = cc in
@@ -82,7 +82,7 @@ one_made D c i l = record {
     one_few : length i.to ≡ 1 → length i.to ≤ 2
     one_few q = omega arith
 
-pub later_makes : (g : Goal) → HasGround (defs_of g.plan) → HasFunctions (defs_of g.plan) → Sound g.plan.world.entries → KnownClause (defs_of g.plan) g.clause → (p : Process × List Clause) → later g ≡ Some p
+pub later_makes : (g : Goal) → DefinesNot (defs_of g.plan) → HasFunctions (defs_of g.plan) → Sound g.plan.world.entries → KnownClause (defs_of g.plan) g.clause → (p : Process × List Clause) → later g ≡ Some p
     → Makes (defs_of g.plan) g.clause p.1
 later_makes g grounded functions sound k p e =
     of_later g (λ p. Makes (defs_of g.plan) g.clause p.1) (λ i q. elim_makes (defs_of g.plan) sound.total grounded g.settings.theory g.clause i k q)

@@ -17,7 +17,7 @@ use Rattle.ap_walk.specs.declared.act.Process.{Process}
 use Rattle.ap_walk.specs.declared.act.Out.{Out}
 use Rattle.ap_walk.specs.declared.act.Stepped.{Stepped}
 use Rattle.ap_walk.specs.Visits.{Tells, IsSplit, out_children}
-use Rattle.ap_kernel.specs.Standing.{HasGround}
+use Rattle.ap_kernel.specs.Standing.{DefinesNot}
 use Rattle.ap_kernel.specs.declared.reductions.Inference.{Inference}
 use Rattle.ap_kernel.specs.Reductions.{KnownClause}
 use Rattle.ap_rewrite.specs.Arithmetic.{arithmetic_in}
@@ -33,7 +33,7 @@ use Rattle.ap_strategy.specs.Reduced.{simplified_reduces}
 use Rattle.ap_strategy.specs.Later.{of_later, later_makes}
 
 -- what the kernel asks of a world is the first of its functions
-pub kernel_ground : (D : Defs) → HasFunctions D → HasGround D
+pub kernel_ground : (D : Defs) → HasFunctions D → DefinesNot D
 unfolding ground_functions not_function
 kernel_ground D functions = functions.0
 

@@ -6,7 +6,7 @@ use Rattle.ap_term.specs.declared.term.Term.{Term}
 use Rattle.ap_term.specs.declared.term.Clause.{Clause}
 use Rattle.ap_world.specs.Meaning.{Defs, Total, Valid}
 use Rattle.ap_kernel.specs.declared.reductions.Inference.{Inference}
-use Rattle.ap_kernel.specs.Standing.{HasGround}
+use Rattle.ap_kernel.specs.Standing.{DefinesNot}
 use Rattle.ap_kernel.specs.Reductions.{KnownClause, Follows, all_from, all_to}
 use Rattle.ap_kernel.specs.Splits.{and_then}
 use Rattle.ap_kernel.specs.Solving.{solved_by, replaced_in, solved_made}
@@ -32,11 +32,11 @@ to_settled : (cs : List Clause) → all_to (map tidy_made cs) ≡ joined (map se
 to_settled [] = refl
 to_settled (c ∷ cs) = ap (λ ds. settled c ++ ds) (to_settled cs)
 
-all_settled : (D : Defs) → Total D → HasGround D → (cs : List Clause) → Each (KnownClause D) cs → Each (Follows D) (map tidy_made cs)
+all_settled : (D : Defs) → Total D → DefinesNot D → (cs : List Clause) → Each (KnownClause D) cs → Each (Follows D) (map tidy_made cs)
 all_settled D total base [] ks = tt
 all_settled D total base (c ∷ cs) ks = (tidy_reduces D total base c ks.0, all_settled D total base cs ks.1)
 
-split_settled : (D : Defs) → Total D → HasGround D → (c : Clause) (cs : List Clause) → Follows D (record { from = c; to = cs }) → Follows D (record { from = c; to = joined (map settled cs) })
+split_settled : (D : Defs) → Total D → DefinesNot D → (c : Clause) (cs : List Clause) → Follows D (record { from = c; to = cs }) → Follows D (record { from = c; to = joined (map settled cs) })
 split_settled D total base c cs r =
     subst (λ ds. Follows D (record { from = c; to = ds })) (to_settled cs)
     (chained_reduces D (record { from = c; to = cs }) (map tidy_made cs) r (all_settled D total base cs r.goals) (from_settled cs))

@@ -29,7 +29,7 @@ fn is_same_clause(a: &Clause, b: &Clause) -> bool
 }
 
 /// A copy of a clause.
-pub(crate) fn copy_clause(alloc: Global, c: &Clause) -> Result<Clause, NoMemory>
+pub fn copy_clause(alloc: Global, c: &Clause) -> Result<Clause, NoMemory>
     ensures { IfOk result (λ d. d ≡ c.now) }
 {
     Ok(Clause(copy_terms(alloc, c.0.as_slice())?))

@@ -4,7 +4,7 @@ ghost use Rattle.std.specs.Option.{option_copied};
 ghost use Rattle.ap_list.specs.Lists.{Each};
 ghost use Rattle.ap_world.specs.World.{function_of, theorem_of};
 ghost use Rattle.ap_hints.specs.Known.{KnownUse, KnownHint};
-ghost use Rattle.ap_kernel.specs.Standing.{HasGround};
+ghost use Rattle.ap_kernel.specs.Standing.{DefinesNot};
 ghost use Rattle.ap_kernel.specs.Reductions.{KnownClause};
 ghost use Rattle.ap_strategy.specs.Goals.{hint_among, hint_for, with_hint, scheme_by};
 ghost use Rattle.ap_strategy.specs.Steps.{makes_goals, used_in, used_all, hint_goals};
@@ -103,7 +103,7 @@ pub(crate) fn makes_goals(hint: &Hint) -> bool
 
 /// A clause, which is moved, with the negated instance of a theorem before it.
 fn with_use(alloc: Global, w: &World, c: Clause, fact: &(Symbol, Subst)) -> Result<Clause, NoMemory>
-    requires ground { HasGround (function_of w.now.entries) }
+    requires ground { DefinesNot (function_of w.now.entries) }
     requires clause { KnownClause (function_of w.now.entries) c }
     requires fact { KnownUse w.now.entries fact.now }
     ensures made { IfOk result (λ d. d ≡ used_in (theorem_of w.now.entries fact.now.0) fact.now.1 c) }
@@ -124,7 +124,7 @@ fn with_uses(
     c: Clause,
     uses: &[(Symbol, Subst)],
 ) -> Result<Clause, NoMemory>
-    requires ground { HasGround (function_of w.now.entries) }
+    requires ground { DefinesNot (function_of w.now.entries) }
     requires clause { KnownClause (function_of w.now.entries) c }
     requires uses { Each (KnownUse w.now.entries) uses.now }
     ensures made { IfOk result (λ d. d ≡ used_all w.now.entries uses.now c) }
@@ -146,7 +146,7 @@ fn all_with_uses(
     clauses: Seq<Clause>,
     uses: &[(Symbol, Subst)],
 ) -> Result<Seq<Clause>, NoMemory>
-    requires ground { HasGround (function_of w.now.entries) }
+    requires ground { DefinesNot (function_of w.now.entries) }
     requires clauses { Each (KnownClause (function_of w.now.entries)) clauses }
     requires uses { Each (KnownUse w.now.entries) uses.now }
     ensures made { IfOk result (λ ds. ds ≡ map (used_all w.now.entries uses.now) clauses) }
@@ -166,7 +166,7 @@ pub(crate) fn hint_goals(
     hint: &Hint,
     c: Clause,
 ) -> Result<Seq<Clause>, NoMemory>
-    requires ground { HasGround (function_of w.now.entries) }
+    requires ground { DefinesNot (function_of w.now.entries) }
     requires clause { KnownClause (function_of w.now.entries) c }
     requires hint { KnownHint w.now.entries hint.now }
     ensures made { IfOk result (λ ds. ds ≡ hint_goals w.now.entries hint.now c) }

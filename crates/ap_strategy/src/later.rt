@@ -80,7 +80,7 @@ fn by_elim<J: Planned>(alloc: Global, task: &Task<'_, J>) -> Result<Option<Made>
     if is_skipped(task, Process::Elim) {
         return Ok(None);
     }
-    task.is_goal();
+    task.recall_goal();
     let w = task.plan.world.world();
     let made = elim(alloc, w, &task.settings.theory, &task.clause)?;
     Ok(made_by(Process::Elim, made))
@@ -93,7 +93,7 @@ fn by_fertilize<J: Planned>(alloc: Global, task: &Task<'_, J>) -> Result<Option<
     if is_skipped(task, Process::Fertilize) {
         return Ok(None);
     }
-    task.is_goal();
+    task.recall_goal();
     let made = fertilize(alloc, task.plan.world.world(), &task.clause)?;
     Ok(made_by(Process::Fertilize, made))
 }
@@ -105,7 +105,7 @@ fn by_generalize<J: Planned>(alloc: Global, task: &Task<'_, J>) -> Result<Option
     if is_skipped(task, Process::Generalize) {
         return Ok(None);
     }
-    task.is_goal();
+    task.recall_goal();
     let made = generalize(alloc, task.plan.world.world(), &Oracles, &task.clause)?;
     Ok(made_by(Process::Generalize, made))
 }
@@ -117,7 +117,7 @@ fn by_irrelevance<J: Planned>(alloc: Global, task: &Task<'_, J>) -> Result<Optio
     if is_skipped(task, Process::Irrelevance) {
         return Ok(None);
     }
-    task.is_goal();
+    task.recall_goal();
     let made = irrelevance(alloc, task.plan.world.world(), &task.clause)?;
     Ok(made_by(Process::Irrelevance, made))
 }
@@ -148,8 +148,8 @@ pub(crate) fn later<J: Planned>(alloc: Global, task: &Task<'_, J>) -> Result<Opt
     ensures known { IfOk result (λ o. IfSome o (λ p. Each (KnownClause (defs_of task.now.plan)) p.1)) }
     ensures few { IfOk result (λ o. IfSome o (λ p. length p.1 < 2 ^ 32)) }
 {
-    task.is_goal();
-    task.plan.world.world().is_sound();
+    task.recall_goal();
+    task.plan.world.world().recall_sound();
     let made = first_that_applies(alloc, task)?;
     Ok(made)
 }

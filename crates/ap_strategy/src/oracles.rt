@@ -7,7 +7,7 @@ ghost use Rattle.ap_world.specs.Typing.{types};
 ghost use Rattle.ap_poly.specs.Elimination.{lin};
 ghost use Rattle.ap_poly.specs.Holding.{IsCertificate};
 ghost use Rattle.ap_kernel.specs.Masks.{MaskHolds};
-ghost use Rattle.ap_kernel.specs.Standing.{HasGround};
+ghost use Rattle.ap_kernel.specs.Standing.{DefinesNot};
 
 use ap_kernel::{Ctx, LinearOracle, TypeOracle, World};
 use ap_linear::refute;
@@ -24,7 +24,7 @@ pub struct Oracles;
 
 impl TypeOracle for Oracles {
     fn mask(&self, alloc: Global, w: &World, ctx: &Ctx, t: &Term) -> Result<Mask, NoMemory>
-        requires ground { HasGround (function_of w.now.entries) }
+        requires ground { DefinesNot (function_of w.now.entries) }
         requires facts { KnownFacts (function_of w.now.entries) ctx.now.0 }
         requires term { IsTrue (known (function_of w.now.entries) t.now) }
         ensures made { IfOk result (λ m. m ≡ record { 0 = types w.now ctx.now.0 t.now }) }

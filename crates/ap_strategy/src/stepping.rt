@@ -236,7 +236,7 @@ fn hint_step<'a, J: Planned>(
     if !makes_goals(hint) {
         return pushed_or_open(alloc, task, &hint.scheme, shares);
     }
-    task.is_goal();
+    task.recall_goal();
     let clause = copy_clause(alloc, &task.clause)?;
     let clauses = hint_goals(alloc, task.plan.world.world(), hint, clause)?;
     Ok(split(Process::Hint, children(alloc, task, task.under, clauses)?))
@@ -252,7 +252,7 @@ fn hinted_step<'a, J: Planned>(
     requires plain { task.now.induct ≡ false }
     ensures { IfOk result (λ s. s ≡ hint_step (hinted task.now) (hint_for task.now.plan task.now.name)) }
 {
-    task.is_goal();
+    task.recall_goal();
     let Some(hint) = hint_for(task.plan, &task.name) else {
         return open_step(alloc, task, shares);
     };
@@ -285,7 +285,7 @@ fn cases<J: Planned>(alloc: Global, task: &Task<'_, J>) -> Result<Option<Seq<Cla
     ensures known { IfOk result (λ o. IfSome o (Each (KnownClause (defs_of task.now.plan)))) }
     ensures few { IfOk result (λ o. IfSome o (λ cs. length cs < 2 ^ 32)) }
 {
-    task.is_goal();
+    task.recall_goal();
     let w = task.plan.world.world();
     let theory = &task.settings.theory;
     let Some(found) = scheme(alloc, w, theory, &task.clause, task.scheme.as_ref())? else {

@@ -2,7 +2,8 @@ ghost use Rattle.std.specs.Prelude.{◌≡◌, ◌≤◌, ◌↔◌, IfOk, IsTru
 ghost use Rattle.ap_world.specs.Sound.{known, HasFunctions};
 ghost use Rattle.ap_names.specs.Names.{root};
 ghost use Rattle.ap_hints.specs.Known.{KnownHints};
-ghost use Rattle.ap_strategy.specs.Goals.{IsGoal, defs_of, root_goal, hinted, inducted};
+ghost use Rattle.ap_kernel.specs.Reductions.{KnownClause};
+ghost use Rattle.ap_strategy.specs.Goals.{IsGoal, defs_of, clause_goal, root_goal, hinted, inducted};
 
 use crate::clauses::{copy_scheme, same_terms};
 use crate::hinting::{scheme_of_hint, settings_with_hint};
@@ -58,7 +59,7 @@ impl<'a, J: Planned> Model for Task<'a, J> {
 
 impl<'a, J: Planned> Task<'a, J> {
     /// What every task keeps, for a proof that sees a task as a whole. Costs nothing.
-    pub fn is_goal(&self)
+    pub fn recall_goal(&self)
         ensures { IsGoal self.now }
     {
         let _ = &self.depth;
@@ -77,8 +78,34 @@ fn root_name(alloc: Global) -> GoalName
     }
 }
 
-/// The task that the attempt on a term starts from: its name is `Goal`, and its clause the term's. The plan is the
-/// brand's. The only error is want of memory.
+/// The task that the attempt on a clause, which is moved, starts from: its name is `Goal`. The plan is the brand's. The only
+/// error is want of memory.
+pub fn clause_task<'a, J: Planned>(
+    alloc: Global,
+    plan: &'a Plan,
+    clause: Clause,
+) -> Result<Task<'a, J>, NoMemory>
+    requires brand { plan.now ≡ J.plan }
+    requires functions { HasFunctions (defs_of plan.now) }
+    requires known { KnownClause (defs_of plan.now) clause }
+    requires hints { KnownHints plan.now.world.entries plan.now.hints }
+    ensures { IfOk result (λ t. t ≡ clause_goal plan.now clause) }
+{
+    let settings = first_settings(alloc, plan)?;
+    Ok(Task {
+        plan,
+        name: root_name(alloc),
+        clause,
+        depth: 0,
+        under: false,
+        settings,
+        induct: false,
+        scheme: None,
+        of: PhantomData,
+    })
+}
+
+/// The task that the attempt on a term starts from: that of the term's clause.
 pub fn root_task<'a, J: Planned>(
     alloc: Global,
     plan: &'a Plan,
@@ -90,21 +117,9 @@ pub fn root_task<'a, J: Planned>(
     requires hints { KnownHints plan.now.world.entries plan.now.hints }
     ensures { IfOk result (λ t. t ≡ root_goal plan.now term.now) }
 {
-    plan.world.world().is_sound();
-    let name = root_name(alloc);
+    plan.world.world().recall_sound();
     let clause = flat(alloc, term)?;
-    let settings = first_settings(alloc, plan)?;
-    Ok(Task {
-        plan,
-        name,
-        clause,
-        depth: 0,
-        under: false,
-        settings,
-        induct: false,
-        scheme: None,
-        of: PhantomData,
-    })
+    clause_task(alloc, plan, clause)
 }
 
 /// A copy of a task. The plan isn't copied. The only error is want of memory.
@@ -144,7 +159,7 @@ fn hinted_settings<J: Planned>(
 ) -> Result<(Settings, Option<Term>), NoMemory>
     ensures { IfOk result (λ p. (p.0 ≡ (hinted task.now).settings) × (p.1 ≡ task.now.scheme)) }
 {
-    task.is_goal();
+    task.recall_goal();
     let settings = settings_with_hint(alloc, task.plan, &task.name, &task.settings)?;
     let scheme = copy_scheme(alloc, &task.scheme)?;
     Ok((settings, scheme))

@@ -73,7 +73,7 @@ fn redone(
     requires admitted { (worked limits.now [] w form.now).next ≡ Some from.now }
 {
     let _ = limits;
-    from.is_sound();
+    from.recall_sound();
     event_again(alloc, w, form, from)
 }
 

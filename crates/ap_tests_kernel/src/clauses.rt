@@ -1,7 +1,7 @@
 //! The rows that answer clauses.
 ghost use Rattle.std.specs.Prelude.{IsTrue};
 ghost use Rattle.ap_world.specs.World.{function_of};
-ghost use Rattle.ap_kernel.specs.Standing.{HasGround};
+ghost use Rattle.ap_kernel.specs.Standing.{DefinesNot};
 ghost use Rattle.ap_kernel.specs.Reductions.{KnownClause};
 
 use crate::known::are_known;
@@ -31,7 +31,7 @@ fn clause(alloc: Global, literals: &[Term]) -> Result<Clause, NoMemory> {
 
 /// The clause split at the `if` that is the first argument of its first literal, if it is one.
 fn halves(alloc: Global, w: &World, c: Clause) -> Result<Option<Reduction>, NoMemory>
-    requires ground { HasGround (function_of w.now.entries) }
+    requires ground { DefinesNot (function_of w.now.entries) }
     requires clause { KnownClause (function_of w.now.entries) c }
 {
     let at = Seq::from_slice(alloc, &[0])?;
@@ -43,7 +43,7 @@ fn halves(alloc: Global, w: &World, c: Clause) -> Result<Option<Reduction>, NoMe
 
 /// The clause with the equation of its first literal used, if it solves a variable.
 fn solved(alloc: Global, w: &World, c: Clause) -> Result<Option<Reduction>, NoMemory>
-    requires ground { HasGround (function_of w.now.entries) }
+    requires ground { DefinesNot (function_of w.now.entries) }
     requires clause { KnownClause (function_of w.now.entries) c }
 {
     if is_solvable(&c, 0) {
@@ -64,7 +64,7 @@ fn dropped(alloc: Global, w: &World, c: Clause) -> Result<Option<Reduction>, NoM
 
 /// What a clause is reduced to by what a word says.
 fn reduction(alloc: Global, w: &World, word: &str, c: Clause) -> Result<Option<Reduction>, NoMemory>
-    requires ground { HasGround (function_of w.now.entries) }
+    requires ground { DefinesNot (function_of w.now.entries) }
     requires clause { KnownClause (function_of w.now.entries) c }
 {
     match word {
@@ -90,7 +90,7 @@ pub(crate) fn reduced(
     word: &str,
     literals: &[Term],
 ) -> Result<Bytes, NoMemory>
-    requires ground { HasGround (function_of w.now.entries) }
+    requires ground { DefinesNot (function_of w.now.entries) }
 {
     let c = clause(alloc, literals)?;
     if !is_clause(w, &c) {
@@ -126,7 +126,7 @@ pub(crate) fn halved(
     left: &Term,
     literals: &[Term],
 ) -> Result<Bytes, NoMemory>
-    requires ground { HasGround (function_of w.now.entries) }
+    requires ground { DefinesNot (function_of w.now.entries) }
 {
     let c = clause(alloc, literals)?;
     if !is_clause(w, &c) {

@@ -1,6 +1,6 @@
 //! The rows that answer an equivalence.
 ghost use Rattle.ap_world.specs.World.{function_of};
-ghost use Rattle.ap_kernel.specs.Standing.{HasGround};
+ghost use Rattle.ap_kernel.specs.Standing.{DefinesNot};
 
 use crate::known::are_facts;
 use ap_eval::is_known;
@@ -65,7 +65,7 @@ pub(crate) fn led(
 
 /// Where an `if` leads under no facts.
 fn shape(alloc: Global, w: &World, mode: Mode, t: &Term) -> Result<Equiv, NoMemory>
-    requires ground { HasGround (function_of w.now.entries) }
+    requires ground { DefinesNot (function_of w.now.entries) }
 {
     let ctx = Ctx::new(alloc, Seq::new(alloc))?;
     if !is_known(w, t) || !is_choice(t) || !are_facts(w, ctx.facts()) {
@@ -77,7 +77,7 @@ fn shape(alloc: Global, w: &World, mode: Mode, t: &Term) -> Result<Equiv, NoMemo
 
 /// The same in a mode, as text.
 pub(crate) fn shaped(alloc: Global, w: &World, is_iff: bool, t: &Term) -> Result<Bytes, NoMemory>
-    requires ground { HasGround (function_of w.now.entries) }
+    requires ground { DefinesNot (function_of w.now.entries) }
 {
     let mode = if is_iff { Mode::Iff } else { Mode::Equal };
     let q = shape(alloc, w, mode, t)?;

@@ -4,7 +4,7 @@ ghost use Rattle.ap_list.specs.Lists.{all_true};
 ghost use Rattle.ap_world.specs.Sound.{known};
 ghost use Rattle.ap_world.specs.World.{function_of};
 ghost use Rattle.ap_world.specs.Facts.{KnownFacts};
-ghost use Rattle.ap_kernel.specs.Standing.{HasGround};
+ghost use Rattle.ap_kernel.specs.Standing.{DefinesNot};
 
 use ap_eval::is_known;
 use ap_ground::ground_world;
@@ -16,7 +16,7 @@ use std::alloc::Global;
 
 /// The ground world, which every book begins with.
 pub(crate) fn first_world(alloc: Global) -> Result<World, NoMemory>
-    ensures { IfOk result (λ w. HasGround (function_of w.entries)) }
+    ensures { IfOk result (λ w. DefinesNot (function_of w.entries)) }
 {
     ground_has_its_functions();
     let world = ground_world(alloc)?;

@@ -1,6 +1,6 @@
 //! The tables on the kernel, on clauses and on terms: a word and forms a line, and behind ` => ` what is answered.
 ghost use Rattle.ap_world.specs.World.{function_of};
-ghost use Rattle.ap_kernel.specs.Standing.{HasGround};
+ghost use Rattle.ap_kernel.specs.Standing.{DefinesNot};
 
 use crate::expect::expect;
 use crate::known::first_world;
@@ -133,7 +133,7 @@ fn of_terms(alloc: Global, word: &str, row: &[Term]) -> Result<Bytes, NoMemory> 
 
 /// What a row on the kernel answers.
 fn of_kernel(alloc: Global, w: &World, word: &str, row: &[Term]) -> Result<Bytes, NoMemory>
-    requires ground { HasGround (function_of w.now.entries) }
+    requires ground { DefinesNot (function_of w.now.entries) }
 {
     let sign = word == "true";
     match (word, row) {
@@ -147,7 +147,7 @@ fn of_kernel(alloc: Global, w: &World, word: &str, row: &[Term]) -> Result<Bytes
 
 /// What a row answers.
 fn answered(alloc: Global, w: &World, word: &str, row: &[Term]) -> Result<Bytes, NoMemory>
-    requires ground { HasGround (function_of w.now.entries) }
+    requires ground { DefinesNot (function_of w.now.entries) }
 {
     match (word, row) {
         ("tidy" | "solve" | "split" | "drop", literals) => {
@@ -160,7 +160,7 @@ fn answered(alloc: Global, w: &World, word: &str, row: &[Term]) -> Result<Bytes,
 
 /// The same as it is written.
 fn found(alloc: Global, w: &World, line: &str) -> Result<Bytes, NoMemory>
-    requires ground { HasGround (function_of w.now.entries) }
+    requires ground { DefinesNot (function_of w.now.entries) }
 {
     let (word, text) = sides(line).0.split_once(' ').unwrap_or((line, ""));
     let row = terms(alloc, text)?;
@@ -168,7 +168,7 @@ fn found(alloc: Global, w: &World, line: &str) -> Result<Bytes, NoMemory>
 }
 
 fn expect_lines(rt: &impl Abort, alloc: Global, w: &World, table: &str) -> Result<(), NoMemory>
-    requires ground { HasGround (function_of w.now.entries) }
+    requires ground { DefinesNot (function_of w.now.entries) }
 {
     for line in table.lines() {
         let found = found(alloc, w, line)?;
@@ -178,7 +178,7 @@ fn expect_lines(rt: &impl Abort, alloc: Global, w: &World, table: &str) -> Resul
 }
 
 fn expect_tables(rt: &impl Abort, alloc: Global, w: &World) -> Result<(), NoMemory>
-    requires ground { HasGround (function_of w.now.entries) }
+    requires ground { DefinesNot (function_of w.now.entries) }
 {
     for (table, count) in TABLES {
         assert_eq!(rt; table.lines().count(), *count);

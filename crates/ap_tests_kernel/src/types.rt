@@ -4,7 +4,7 @@ ghost use Rattle.ap_value.specs.Values.{acl2};
 ghost use Rattle.ap_world.specs.Names.{integerp_name, nfix_name};
 ghost use Rattle.ap_world.specs.Ground.{one, x};
 ghost use Rattle.ap_world.specs.World.{function_of};
-ghost use Rattle.ap_kernel.specs.Standing.{HasGround};
+ghost use Rattle.ap_kernel.specs.Standing.{DefinesNot};
 
 use crate::known::{are_facts, first_world};
 use ap_eval::is_known;
@@ -46,7 +46,7 @@ const ALL: u16 = 1023;
 
 /// The types of a known term under known facts.
 fn known_types(alloc: Global, w: &World, ctx: &Ctx, t: &Term) -> Result<u16, NoMemory>
-    requires ground { HasGround (function_of w.now.entries) }
+    requires ground { DefinesNot (function_of w.now.entries) }
 {
     if !are_facts(w, ctx.facts()) || !is_known(w, t) {
         return Err(AllocError);
@@ -67,7 +67,7 @@ type Row = (&'static str, bool, &'static str, u16);
 
 /// Whether a term has the types of its row.
 fn is_as_said(alloc: Global, w: &World, row: &Row) -> Result<bool, NoMemory>
-    requires ground { HasGround (function_of w.now.entries) }
+    requires ground { DefinesNot (function_of w.now.entries) }
 {
     let ctx = context(alloc, row.0, row.1)?;
     let t = term(alloc, row.2)?;
@@ -77,7 +77,7 @@ fn is_as_said(alloc: Global, w: &World, row: &Row) -> Result<bool, NoMemory>
 
 /// Whether each term has the types of its row.
 fn are_as_said(alloc: Global, w: &World, rows: &[Row]) -> Result<bool, NoMemory>
-    requires ground { HasGround (function_of w.now.entries) }
+    requires ground { DefinesNot (function_of w.now.entries) }
 {
     for row in rows {
         if !is_as_said(alloc, w, row)? {
@@ -238,8 +238,8 @@ const TERMS: &[Row] = &[
 
 /// The world where the type-prescription rune of this name is disabled.
 fn without_types(alloc: Global, mut world: World, name: &[u8]) -> Result<World, NoMemory>
-    requires ground { HasGround (function_of world.entries) }
-    ensures { IfOk result (λ w. HasGround (function_of w.entries)) }
+    requires ground { DefinesNot (function_of world.entries) }
+    ensures { IfOk result (λ w. DefinesNot (function_of w.entries)) }
 {
     let mut disabled = Seq::new(alloc);
     disabled.push(Rune::TypePrescription(acl2(alloc, name)?))?;
@@ -281,7 +281,7 @@ fn integer_nfix(alloc: Global) -> Result<Term, NoMemory>
 
 /// The ground world with the type-prescription theorem `integerp-nfix`, `(integerp (nfix x))`.
 fn world_with_rule(alloc: Global) -> Result<World, NoMemory>
-    ensures { IfOk result (λ w. HasGround (function_of w.entries)) }
+    ensures { IfOk result (λ w. DefinesNot (function_of w.entries)) }
 {
     ground_has_its_functions();
     let mut world = ground_world(alloc)?;
@@ -305,7 +305,7 @@ fn nfix_has(alloc: Global, disabled: &[u8], types: u16) -> Result<bool, NoMemory
 
 /// Whether all terms have the types of their rows, and the world's functions keep theirs.
 fn hold(alloc: Global, w: &World) -> Result<bool, NoMemory>
-    requires ground { HasGround (function_of w.now.entries) }
+    requires ground { DefinesNot (function_of w.now.entries) }
 {
     Ok(each_keeps(alloc, w)? && are_as_said(alloc, w, TERMS)?)
 }

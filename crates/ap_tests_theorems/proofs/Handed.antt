@@ -25,17 +25,17 @@ use Rattle.ap_poly.specs.Literals.{of_literal}
 use Rattle.ap_poly.proofs.LiteralsHold.{literals_hold}
 use Rattle.ap_kernel.specs.declared.objects.Ctx.{Ctx}
 use Rattle.ap_kernel.specs.Linear.{PolysHold}
-use Rattle.ap_kernel.specs.Standing.{HasGround}
+use Rattle.ap_kernel.specs.Standing.{DefinesNot}
 
 -- what the kernel asks of a world is the first of its functions
-pub kernel_ground : (D : Defs) → HasFunctions D → HasGround D
+pub kernel_ground : (D : Defs) → HasFunctions D → DefinesNot D
 unfolding ground_functions not_function
 kernel_ground D functions = functions.0
 
 -- the ground world, which was made, has it
 pub begun : {E : Type 0} (r : Result Shown E) (w : Shown) → IfOk r (λ v. v ≡ record { entries = ground; theory = record { disabled = [] } }) → r ≡ Ok w
-    → HasFunctions (function_of ground) → HasGround (function_of w.entries)
-begun r w h is functions = subst (λ (v : Shown). HasGround (function_of v.entries)) (sym (made r w h is)) (kernel_ground (function_of ground) functions)
+    → HasFunctions (function_of ground) → DefinesNot (function_of w.entries)
+begun r w h is functions = subst (λ (v : Shown). DefinesNot (function_of v.entries)) (sym (made r w h is)) (kernel_ground (function_of ground) functions)
   where
     made : {E : Type 0} (r : Result Shown E) (w : Shown) → IfOk r (λ v. v ≡ record { entries = ground; theory = record { disabled = [] } }) → r ≡ Ok w
         → w ≡ record { entries = ground; theory = record { disabled = [] } }
@@ -43,10 +43,10 @@ begun r w h is functions = subst (λ (v : Shown). HasGround (function_of v.entri
     made (Err e) w h is = cc
 
 -- a theorem more makes no other functions
-pub with_theorem : {A E : Type 0} (r : Result A E) (x : A) (w v : Shown) (u : Theorem) → HasGround (function_of w.entries) → OnOk r (v ≡ added w (entry.Theorem u)) → r ≡ Ok x
-    → HasGround (function_of v.entries)
+pub with_theorem : {A E : Type 0} (r : Result A E) (x : A) (w v : Shown) (u : Theorem) → DefinesNot (function_of w.entries) → OnOk r (v ≡ added w (entry.Theorem u)) → r ≡ Ok x
+    → DefinesNot (function_of v.entries)
 with_theorem r x w v u ground h is =
-    subst HasGround (sym (ap (λ (v : Shown). function_of v.entries) (made r x h is) ∙ function_of-theorem w.entries u)) ground
+    subst DefinesNot (sym (ap (λ (v : Shown). function_of v.entries) (made r x h is) ∙ function_of-theorem w.entries u)) ground
   where
     made : {A E : Type 0} (r : Result A E) (x : A) → OnOk r (v ≡ added w (entry.Theorem u)) → r ≡ Ok x → v ≡ added w (entry.Theorem u)
     made (Ok y) x h is = h

@@ -3,7 +3,7 @@ ghost use Rattle.std.specs.Prelude.{◌≡◌, IsTrue};
 ghost use Rattle.ap_value.specs.Values.{acl2};
 ghost use Rattle.ap_world.specs.Sound.{known};
 ghost use Rattle.ap_world.specs.World.{function_of};
-ghost use Rattle.ap_kernel.specs.Standing.{HasGround};
+ghost use Rattle.ap_kernel.specs.Standing.{DefinesNot};
 
 use crate::expect::expect as compare;
 use ap_eval::is_known;
@@ -21,7 +21,7 @@ use std::process::Abort;
 
 /// The ground world, which every book begins with.
 pub(crate) fn first_world(rt: &impl Abort, alloc: Global) -> World
-    ensures { HasGround (function_of result.entries) }
+    ensures { DefinesNot (function_of result.entries) }
 {
     ground_has_its_functions();
     ground_world(alloc).expect(rt, "memory")

@@ -6,7 +6,7 @@ ghost use Rattle.ap_world.specs.World.{function_of};
 ghost use Rattle.ap_poly.specs.Literals.{of_literal};
 ghost use Rattle.ap_kernel.specs.Linear.{is_within_integers, less_of};
 ghost use Rattle.ap_kernel.specs.Masks.{MaskHolds};
-ghost use Rattle.ap_kernel.specs.Standing.{HasGround};
+ghost use Rattle.ap_kernel.specs.Standing.{DefinesNot};
 
 use crate::given::{symbol, term};
 use ap_eval::is_known;
@@ -53,7 +53,7 @@ pub(crate) fn refuted(
     let fact = term(rt, alloc, w, fact);
     let polys = polys_of(rt, alloc, &t, sign, &fact);
     let ctx = one_fact(rt, alloc, fact);
-    w.is_sound();
+    w.recall_sound();
     match refute(alloc, w, &polys).expect(rt, "memory") {
         Some(by) if is_comparison(&t) => {
             let answer = by_certificate(alloc, w, &ctx, &t, sign, polys, by);
@@ -125,7 +125,7 @@ pub(crate) fn equated(
     a: &Form,
     b: &Form,
 ) -> Option<Equiv>
-    requires ground { HasGround (function_of w.now.entries) }
+    requires ground { DefinesNot (function_of w.now.entries) }
 {
     let a = term(rt, alloc, w, a);
     let b = term(rt, alloc, w, b);

@@ -1,6 +1,6 @@
 //! The tables: a word and forms a line, and behind ` => ` the equivalence that is answered.
 ghost use Rattle.ap_world.specs.World.{function_of};
-ghost use Rattle.ap_kernel.specs.Standing.{HasGround};
+ghost use Rattle.ap_kernel.specs.Standing.{DefinesNot};
 
 use crate::given::{expect, first_world};
 use crate::inequalities::{equated, refuted};
@@ -50,7 +50,7 @@ neither x 3 => none"#;
 
 /// What a row on the ground world answers.
 fn on_ground(rt: &impl Abort, alloc: Global, w: &World, word: &str, row: &[Form]) -> Option<Equiv>
-    requires ground { HasGround (function_of w.now.entries) }
+    requires ground { DefinesNot (function_of w.now.entries) }
 {
     match (word, row) {
         ("open", [t]) => opened(rt, alloc, w, t),
@@ -63,7 +63,7 @@ fn on_ground(rt: &impl Abort, alloc: Global, w: &World, word: &str, row: &[Form]
 
 /// Compares what a row on the ground world answers with what its line says.
 fn expect_row(rt: &impl Abort, alloc: Global, w: &World, line: &str)
-    requires ground { HasGround (function_of w.now.entries) }
+    requires ground { DefinesNot (function_of w.now.entries) }
 {
     let (word, text) = sides(line).0.split_once(' ').unwrap_or((line, ""));
     let row = read(alloc, text);

@@ -9,7 +9,7 @@ ghost use Rattle.ap_world.specs.Meaning.{HasValue};
 ghost use Rattle.ap_world.specs.Sound.{known};
 ghost use Rattle.ap_world.specs.Names.{implies_name, x_name};
 ghost use Rattle.ap_world.specs.World.{function_of};
-ghost use Rattle.ap_kernel.specs.Standing.{HasGround, Stands};
+ghost use Rattle.ap_kernel.specs.Standing.{DefinesNot, Stands};
 
 use crate::given::{first_world, symbol, term};
 use ap_eval::{Env, eval, is_known};
@@ -41,13 +41,13 @@ fn implies_itself(rt: &impl Abort, alloc: Global, h: &Term) -> Term
 
 /// The ground world with the theorem `rule`, `(implies h h)`.
 fn world_with(rt: &impl Abort, alloc: Global, form: &Form) -> World
-    ensures { HasGround (function_of result.entries) }
+    ensures { DefinesNot (function_of result.entries) }
 {
     let mut world = first_world(rt, alloc);
     let h = term(rt, alloc, &world, form);
     let t = implies_itself(rt, alloc, &h);
     assert!(rt; is_known(&world, &t));
-    world.is_sound();
+    world.recall_sound();
     let added = world.add_theorem(alloc, symbol(rt, alloc, b"RULE"), t, Seq::new(alloc));
     added.expect(rt, "a new name");
     world
@@ -99,7 +99,7 @@ fn applied(
     part: u32,
     s: &Subst,
 ) -> Option<Equiv>
-    requires ground { HasGround (function_of w.now.entries) }
+    requires ground { DefinesNot (function_of w.now.entries) }
     requires facts { KnownFacts (function_of w.now.entries) ctx.now.0 }
     requires pairs { KnownPairs (function_of w.now.entries) s.now.0 }
 {
@@ -122,7 +122,7 @@ fn in_world(
     form: &Form,
     others: &[Form],
 ) -> Option<Equiv>
-    requires ground { HasGround (function_of w.now.entries) }
+    requires ground { DefinesNot (function_of w.now.entries) }
 {
     let s = for_x(rt, alloc, w, form);
     let ctx = facts(rt, alloc, w, others);

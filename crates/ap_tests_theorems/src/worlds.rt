@@ -20,7 +20,7 @@ fn without_one(rt: &impl Abort, alloc: Global) -> Theory {
 
 /// Adds the constant `*d*`, and goes back to the entries before it with that theory.
 fn go_back(rt: &impl Abort, alloc: Global, world: &mut World) {
-    world.is_sound();
+    world.recall_sound();
     let count = world.count();
     let theory = without_one(rt, alloc);
     let added = world.add_constant(alloc, symbol(rt, alloc, b"*D*"), Value::Int(8));

@@ -58,7 +58,7 @@ fn add(alloc: Global, world: &mut Ruled, name: &[u8], text: &str) -> Result<(), 
     let t = implies_itself(alloc, &term(alloc, text)?)?;
     let name = acl2(alloc, name)?;
     let classes = classes(alloc, "l")?;
-    world.world().is_sound();
+    world.world().recall_sound();
     if !is_known(world.world(), &t) {
         return Err(AllocError);
     }
@@ -177,7 +177,7 @@ fn expect_there_and_back(
     alloc: Global,
     world: &mut Ruled,
 ) -> Result<(), NoMemory> {
-    world.world().is_sound();
+    world.world().recall_sound();
     let count = world.world().count();
     let theory = copy_theory(alloc, world.world().theory())?;
     add(alloc, world, b"D", "(< (car x) '9)")?;

@@ -192,7 +192,7 @@ fn a_function_is_added(rt: HostRuntime) -> Result<(), NoMemory> {
 /// Adds the theorem that 7 equals itself.
 fn add_same_sides(alloc: Global, world: &mut World, name: Symbol) -> Result<(), AddError> {
     equal_sides_are_valid();
-    world.is_sound();
+    world.recall_sound();
     let term = same_sides(alloc)?;
     world.add_theorem(alloc, name, term, Seq::new(alloc))
 }

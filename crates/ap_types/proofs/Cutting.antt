@@ -29,7 +29,7 @@ use Rattle.ap_world.proofs.Shaped.{Says, shape_says}
 use Rattle.ap_world.proofs.Assumed.{Signed, fact_says}
 use Rattle.ap_world.proofs.Sets.{In, in_own, all_in, in_both, in_without, one_or_none, meets_own, recognises, nil_recognised, without_recognised, signed_in}
 use Rattle.ap_world.proofs.Recognising.{TrueLists, tests, recognised_tested, negatives_recognised, positives_recognised}
-use Rattle.ap_kernel.specs.Standing.{HasGround}
+use Rattle.ap_kernel.specs.Standing.{DefinesNot}
 use Rattle.ap_term.proofs.Equals.{tests_same}
 use Rattle.ap_types.proofs.RowsHold.{same_kind, kinds_apart}
 
@@ -67,7 +67,7 @@ value_eq-turned x y = tests_same (value_eq x y) (value_eq y x) (turn x y) (turn 
     turn : (a b : V) → value_eq a b ≡ true → value_eq b a ≡ true
     turn a b h = subst (λ z. value_eq z a ≡ true) (value_eq-true a b h) (value_eq-same a)
 
-module _ (D : Defs) (A : Apply) (m : Models D A) (ground : HasGround D) (lists : TrueLists D) (e : Env) where
+module _ (D : Defs) (A : Apply) (m : Models D A) (ground : DefinesNot D) (lists : TrueLists D) (e : Env) where
   constant_in : (s : Bool) (x : V) (b : Term) (y : Shape Term) → Says b y → value_eq x (val A b e) ≡ s → In (by_constant s y) x
   constant_in s x b (constant w) says h =
       let is : val A b e ≡ val_of w = ap (λ u. val A u e) says ∙ val_quote A w e in

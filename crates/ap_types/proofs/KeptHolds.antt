@@ -25,7 +25,7 @@ use Rattle.ap_world.proofs.Adding.{call_defined}
 use Rattle.ap_world.proofs.Looking.{good_of}
 use Rattle.ap_world.proofs.Sets.{In, all_in}
 use Rattle.ap_world.proofs.Recognising.{TrueLists}
-use Rattle.ap_kernel.specs.Standing.{HasGround}
+use Rattle.ap_kernel.specs.Standing.{DefinesNot}
 use Rattle.ap_kernel.specs.Masks.{MaskHolds}
 use Rattle.ap_types.specs.Laws.{KeptMaskHolds}
 use Rattle.ap_types.proofs.TypesHold.{types_hold}
@@ -42,7 +42,7 @@ alike_given f is h = subst (λ o. IfSome o (DefinedAlike f)) (ap given_function 
 pub lists_of : (W : List Entry) → Sound W → TrueLists (function_of W)
 lists_of W sound g here = let (good, is) = good_of W sound true_listp_name g here in alike_given g is good.given
 
-pub types_mask : (w : Shown) → Sound w.entries → HasGround (function_of w.entries) → (fs : Facts) (u : Term) → KnownFacts (function_of w.entries) fs → known (function_of w.entries) u ≡ true
+pub types_mask : (w : Shown) → Sound w.entries → DefinesNot (function_of w.entries) → (fs : Facts) (u : Term) → KnownFacts (function_of w.entries) fs → known (function_of w.entries) u ≡ true
     → MaskHolds (function_of w.entries) fs u (record { 0 = types w fs u })
 types_mask w sound ground fs u ks k = λ e hs v is. at e hs v is
   where
@@ -94,7 +94,7 @@ undefined W x fresh g h =
     no : None ≡ Some g → ⊥
     no k = cc
 
-pub plain_kept : (w : Shown) (name : Symbol) (body : Term) → Sound w.entries → HasGround (function_of w.entries) → has_name w.entries name ≡ false → known (function_of w.entries) body ≡ true
+pub plain_kept : (w : Shown) (name : Symbol) (body : Term) → Sound w.entries → DefinesNot (function_of w.entries) → has_name w.entries name ≡ false → known (function_of w.entries) body ≡ true
     → (e : Env) (v : V) → HasValue (function_of w.entries) body e v → In (kept_types w name body) v
 plain_kept w name body sound ground fresh k e v (n, is) =
     let (A, m) = models D sound.total in
@@ -118,7 +118,7 @@ plain_kept w name body sound ground fresh k e v (n, is) =
             absurd (undefined w.entries name fresh g (subst (λ x. D x ≡ Some g) (symbol_eq-true f name q) here))
         go false q = function_in w sound ground lists f vs v p (n, h)
 
-module _ (w : Shown) (f : Function) (sound : Sound w.entries) (ground : HasGround (function_of w.entries)) (fresh : has_name w.entries f.name ≡ false)
+module _ (w : Shown) (f : Function) (sound : Sound w.entries) (ground : DefinesNot (function_of w.entries)) (fresh : has_name w.entries f.name ≡ false)
     (total : Total (function_of (w.entries ++ entry.Function f ∷ []))) (body_known : known (function_of (w.entries ++ entry.Function f ∷ [])) f.body ≡ true)
     (given : IfSome (given_function f.name) (DefinedAlike f)) where
   abbrev D : Defs
@@ -133,7 +133,7 @@ module _ (w : Shown) (f : Function) (sound : Sound w.entries) (ground : HasGroun
   extends : Extends D E
   extends = extends-append w.entries (entry.Function f ∷ [])
 
-  ground_with : HasGround E
+  ground_with : DefinesNot E
   ground_with = extends not_name not_function ground
 
   lists_with : TrueLists E

@@ -36,7 +36,7 @@ use Rattle.ap_world.proofs.Adding.{call_defined}
 use Rattle.ap_world.proofs.Looking.{mask_holds}
 use Rattle.ap_world.proofs.Sets.{In, all_in, in_both, recognises, recognised_in}
 use Rattle.ap_world.proofs.Recognising.{TrueLists, tests, recognised_tested}
-use Rattle.ap_kernel.specs.Standing.{HasGround}
+use Rattle.ap_kernel.specs.Standing.{DefinesNot}
 
 -- an assignment of a value to a variable doesn't change another variable
 apart_vars : (x y : Symbol) → term_eq (Var x) (Var y) ≡ false → symbol_eq y x ≡ false
@@ -105,7 +105,7 @@ module _ (A : Apply) where
       shorter : (n k : ℕ) → suc n ≡ suc k → n ≡ k
       shorter n k h = cc
 
-module _ (D : Defs) (A : Apply) (m : Models D A) (ground : HasGround D) (lists : TrueLists D) where
+module _ (D : Defs) (A : Apply) (m : Models D A) (ground : DefinesNot D) (lists : TrueLists D) where
   -- the value of a call of f is among these types
   abbrev pub Leaves : Symbol → ℕ → Type 0
   Leaves f n = (vs : List V) (v : V) → prim_of f ≡ None → CallValue D f vs v → In n v
@@ -212,7 +212,7 @@ module _ (D : Defs) (A : Apply) (m : Models D A) (ground : HasGround D) (lists :
   narrowed_in h f vs v p value (u ∷ us) ls n k = narrowed_in h f vs v p value us ls.1 (bit_and n (left_by h u)) (in_both n (left_by h u) (type_of v) k (ls.0 vs v p value))
 
 -- the types of a function's calls
-pub function_in : (w : Shown) → Sound w.entries → HasGround (function_of w.entries) → TrueLists (function_of w.entries)
+pub function_in : (w : Shown) → Sound w.entries → DefinesNot (function_of w.entries) → TrueLists (function_of w.entries)
     → (f : Symbol) (vs : List V) (v : V) → prim_of f ≡ None → CallValue (function_of w.entries) f vs v → In (function_types w f) v
 function_in w sound ground lists f vs v p value = go (is_enabled w.theory (rune.TypePrescription f))
   where

@@ -29,7 +29,7 @@ use Rattle.ap_world.proofs.Shaped.{Says, shape_says}
 use Rattle.ap_world.proofs.Assumed.{assume_known, assume_holds}
 use Rattle.ap_world.proofs.Sets.{In, all_in, in_own, in_left, in_right, in_without, meets_at, union_at, test_in, recognises, nil_recognised, unrecognised_out, nil_has}
 use Rattle.ap_world.proofs.Recognising.{TrueLists, tests}
-use Rattle.ap_kernel.specs.Standing.{HasGround}
+use Rattle.ap_kernel.specs.Standing.{DefinesNot}
 use Rattle.ap_types.proofs.Formed.{typed, types_var, types_quote, types_call, parts_some, head_if, head_other}
 use Rattle.ap_types.proofs.RowsHold.{one_in, two_in, coerce_constant, coerce_any}
 use Rattle.ap_types.proofs.Cutting.{cut_in}
@@ -94,7 +94,7 @@ coerce_in A e b x = go (shape_of b) (shape_says b)
     go (constant w) says = rw (ap (λ u. val A u e) says ∙ val_quote A w e) (coerce_constant x (val_of w))
     go y says = coerce_any x (val A b e)
 
-module _ (D : Defs) (A : Apply) (m : Models D A) (ground : HasGround D) (lists : TrueLists D) (K : Symbol → ℕ) (c : Calls)
+module _ (D : Defs) (A : Apply) (m : Models D A) (ground : DefinesNot D) (lists : TrueLists D) (K : Symbol → ℕ) (c : Calls)
     (agrees : (u : Term) (e : Env) (v : V) → meaning c u e ≡ Some v → v ≡ val A u e)
     (called : (f : Symbol) (vs : List V) (v : V) → prim_of f ≡ None → c f vs ≡ Some v → In (K f) v) where
   abbrev pub Holds : Term → Type 0

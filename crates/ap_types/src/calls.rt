@@ -3,13 +3,12 @@ ghost use Rattle.ap_world.specs.Primitives.{prim_of};
 ghost use Rattle.ap_world.specs.Typing.{any_empty, one_types, two_types, other_types, table, call_types};
 ghost use Rattle.ap_types.specs.Settings.{types_in};
 
-use crate::kinds::ALL;
 use crate::rows::{coerce_types, over_one, over_two, test_types, tested};
 use crate::rules::function_types;
 use ap_kernel::is_symbol;
 use ap_term::Term;
 use ap_value::Symbol;
-use ap_world::{Primitive, World};
+use ap_world::{Primitive, World, masks};
 use std::alloc::Global;
 
 /// A function whose calls have a mask of their own, whatever the world keeps of it.
@@ -97,7 +96,7 @@ fn other_types(s: &Setting<'_, '_>, f: &Symbol, p: Option<Primitive>) -> u16
     ensures { result ≡ other_types (types_in s.now.w.now s.now.own) f.now p }
 {
     match p {
-        Some(_) => ALL,
+        Some(_) => masks::ALL,
         None => types_in(s, f),
     }
 }

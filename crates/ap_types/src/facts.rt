@@ -8,12 +8,12 @@ ghost use Rattle.ap_world.specs.Narrowing.{signed, by_itself, by_recogniser, by_
 ghost use Rattle.ap_types.specs.Sides.{by_value, by_side};
 
 use crate::constants::{is_zero_value, kind_of};
-use crate::kinds::{ALL, NIL, bit, without};
+use crate::kinds::{bit, without};
 use crate::rows::{is_single, recognised};
 use ap_kernel::is_same;
 use ap_term::Term;
 use ap_value::{Symbol, Value};
-use ap_world::{Kind, Primitive, primitive_of};
+use ap_world::{Kind, Primitive, masks, primitive_of};
 
 /// The types where the sign is true, the others where it is false.
 fn signed(sign: bool, mask: u16) -> u16
@@ -27,9 +27,9 @@ fn by_itself(t: &Term, fact: &Term, sign: bool) -> u16
     ensures { result ≡ by_itself t.now fact.now sign }
 {
     if is_same(fact, t) {
-        signed(sign, without(NIL))
+        signed(sign, without(masks::NIL))
     } else {
-        ALL
+        masks::ALL
     }
 }
 
@@ -39,7 +39,7 @@ fn by_recogniser(sign: bool, types: Option<u16>) -> u16
 {
     match types {
         Some(types) => signed(sign, types),
-        None => ALL,
+        None => masks::ALL,
     }
 }
 
@@ -53,7 +53,7 @@ fn by_kind(sign: bool, kind: Kind) -> u16
     if is_single(kind) {
         return without(bit(kind));
     }
-    ALL
+    masks::ALL
 }
 
 /// What an equation or an inequality with a value leaves of its other side: an inequality with 0 leaves this mask or
@@ -67,10 +67,10 @@ fn by_value(sign: bool, head: Option<Primitive>, mask: u16, v: &Value) -> u16
             if is_zero_value(v) {
                 signed(sign, mask)
             } else {
-                ALL
+                masks::ALL
             }
         }
-        _ => ALL,
+        _ => masks::ALL,
     }
 }
 
@@ -84,10 +84,10 @@ fn by_side(t: &Term, sign: bool, f: &Symbol, mask: u16, a: &Term, b: &Term) -> u
             if is_same(a, t) {
                 by_value(sign, primitive_of(f), mask, v)
             } else {
-                ALL
+                masks::ALL
             }
         }
-        _ => ALL,
+        _ => masks::ALL,
     }
 }
 
@@ -109,13 +109,13 @@ fn by_parts(t: &Term, sign: bool, fact: &Term) -> u16
                 if is_same(a, t) {
                     by_recogniser(sign, recognised(f))
                 } else {
-                    ALL
+                    masks::ALL
                 }
             }
             [a, b] => by_pair(t, sign, f, a, b),
-            _ => ALL,
+            _ => masks::ALL,
         },
-        _ => ALL,
+        _ => masks::ALL,
     }
 }
 

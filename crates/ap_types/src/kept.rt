@@ -5,15 +5,14 @@ ghost use Rattle.ap_world.specs.Types.{Has};
 ghost use Rattle.ap_world.specs.Sound.{known};
 ghost use Rattle.ap_world.specs.World.{function_of, has_name};
 ghost use Rattle.ap_world.specs.KeptTypes.{body_types, settled, kept_types};
-ghost use Rattle.ap_kernel.specs.Standing.{HasGround};
+ghost use Rattle.ap_kernel.specs.Standing.{DefinesNot};
 
 use crate::calls::{Own, Setting};
-use crate::kinds::ALL;
 use crate::typing::types_at;
 use ap_list::{NoMemory, Seq};
 use ap_term::Term;
 use ap_value::Symbol;
-use ap_world::{Mask, World};
+use ap_world::{Mask, World, masks};
 use std::alloc::Global;
 
 /// What a body gives back where the calls of its function have this mask.
@@ -48,7 +47,7 @@ fn settled(
     ensures { IfOk result (λ m. m ≡ settled (body_types w.now name.now body.now) rounds mask) }
 {
     if rounds == 0 {
-        return Ok(ALL);
+        return Ok(masks::ALL);
     }
     let next = body_types(alloc, w, name, body, mask)?;
     if next == mask {
@@ -65,8 +64,8 @@ fn settled(
 /// is [`crate::laws::kept_masks_hold`].
 pub fn kept_mask(alloc: Global, w: &World, name: &Symbol, body: &Term) -> Result<Mask, NoMemory>
     ensures made { IfOk result (λ m. m ≡ record { 0 = kept_types w.now name.now body.now }) }
-    ensures holds { IfOk result (λ m. HasGround (function_of w.now.entries) → has_name w.now.entries name.now ≡ false → IsTrue (known (function_of w.now.entries) body.now) → (e : Env) (v : V) → HasValue (function_of w.now.entries) body.now e v → Has m v) }
+    ensures holds { IfOk result (λ m. DefinesNot (function_of w.now.entries) → has_name w.now.entries name.now ≡ false → IsTrue (known (function_of w.now.entries) body.now) → (e : Env) (v : V) → HasValue (function_of w.now.entries) body.now e v → Has m v) }
 {
-    w.is_sound();
+    w.recall_sound();
     Ok(Mask(settled(alloc, w, name, body, 11, 0)?))
 }

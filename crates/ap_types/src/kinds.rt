@@ -2,15 +2,7 @@ ghost use Rattle.std.specs.Prelude.{◌≡◌};
 ghost use Rattle.ap_world.specs.Kinds.{kinds, bit, all, without, meets};
 ghost use Rattle.ap_world.specs.Rows.{sign_of, sign_bit};
 
-use ap_world::{Kind, Sign};
-
-/// The mask of all ten.
-pub(crate) const ALL: u16 = 1023;
-
-/// The bits of `nil` and `t`.
-pub(crate) const NIL: u16 = 8;
-
-pub(crate) const T: u16 = 16;
+use ap_world::{Kind, Sign, masks};
 
 /// The ten types.
 pub(crate) fn kinds() -> [Kind; 10]
@@ -35,16 +27,16 @@ pub(crate) fn bit(kind: Kind) -> u16
     ensures { result ≡ bit kind }
 {
     match kind {
-        Kind::Zero => 1,
-        Kind::Positive => 2,
-        Kind::Negative => 4,
-        Kind::Nil => 8,
-        Kind::True => 16,
-        Kind::OtherSymbol => 32,
-        Kind::Proper => 64,
-        Kind::Improper => 128,
-        Kind::Text => 256,
-        Kind::Character => 512,
+        Kind::Zero => masks::ZERO,
+        Kind::Positive => masks::POSITIVE,
+        Kind::Negative => masks::NEGATIVE,
+        Kind::Nil => masks::NIL,
+        Kind::True => masks::T,
+        Kind::OtherSymbol => masks::OTHER_SYMBOLS,
+        Kind::Proper => masks::PROPER,
+        Kind::Improper => masks::IMPROPER,
+        Kind::Text => masks::STRINGS,
+        Kind::Character => masks::CHARACTERS,
     }
 }
 
@@ -52,7 +44,7 @@ pub(crate) fn bit(kind: Kind) -> u16
 pub(crate) fn without(mask: u16) -> u16
     ensures { result ≡ without mask }
 {
-    ALL ^ mask
+    masks::ALL ^ mask
 }
 
 /// Whether two masks share a type.

@@ -3,7 +3,7 @@ ghost use Rattle.ap_world.specs.Sound.{known};
 ghost use Rattle.ap_world.specs.World.{function_of};
 ghost use Rattle.ap_world.specs.Facts.{KnownFacts};
 ghost use Rattle.ap_world.specs.Typing.{types};
-ghost use Rattle.ap_kernel.specs.Standing.{HasGround};
+ghost use Rattle.ap_kernel.specs.Standing.{DefinesNot};
 ghost use Rattle.ap_kernel.specs.Masks.{MaskHolds};
 
 use crate::calls::Setting;
@@ -21,13 +21,13 @@ use std::alloc::Global;
 /// the world only the functions that are called and the theorems about them are looked up. See the manual's
 /// topics `type-set` and `type-prescription`.
 pub fn types_of(alloc: Global, w: &World, ctx: &Ctx, t: &Term) -> Result<Mask, NoMemory>
-    requires ground { HasGround (function_of w.now.entries) }
+    requires ground { DefinesNot (function_of w.now.entries) }
     requires facts { KnownFacts (function_of w.now.entries) ctx.now.0 }
     requires term { IsTrue (known (function_of w.now.entries) t.now) }
     ensures made { IfOk result (λ m. m ≡ record { 0 = types w.now ctx.now.0 t.now }) }
     ensures holds { IfOk result (λ m. MaskHolds (function_of w.now.entries) ctx.now.0 t.now m) }
 {
-    w.is_sound();
+    w.recall_sound();
     let setting = Setting {
         alloc,
         w,
@@ -44,7 +44,7 @@ pub struct Types;
 
 impl TypeOracle for Types {
     fn mask(&self, alloc: Global, w: &World, ctx: &Ctx, t: &Term) -> Result<Mask, NoMemory>
-        requires ground { HasGround (function_of w.now.entries) }
+        requires ground { DefinesNot (function_of w.now.entries) }
         requires facts { KnownFacts (function_of w.now.entries) ctx.now.0 }
         requires term { IsTrue (known (function_of w.now.entries) t.now) }
         ensures made { IfOk result (λ m. m ≡ record { 0 = types w.now ctx.now.0 t.now }) }

@@ -6,10 +6,10 @@ ghost use Rattle.ap_world.specs.Kinds.{bit, union_from, union};
 ghost use Rattle.ap_world.specs.Rows.{recognised, tested, test_types, plus_row, times_row, minus_row, less_row, is_single, equal_row, cons_row, car_row, cdr_row, char_code_row, row_one, row_two, over_one, over_two, coerce_by, coerce_types};
 
 use crate::constants::is_list_name;
-use crate::kinds::{ALL, NIL, T, bit, kinds, meets, sign_bit, sign_of, without};
+use crate::kinds::{bit, kinds, meets, sign_bit, sign_of, without};
 use ap_term::Term;
 use ap_value::{Symbol, is_named};
-use ap_world::{Kind, Primitive, Sign};
+use ap_world::{Kind, Primitive, Sign, masks};
 
 /// What stands beside the bytes in a table.
 fn find_bytes(bytes: &[u8], table: &[(&'static [u8], u16)]) -> Option<u16>
@@ -40,12 +40,12 @@ pub(crate) fn recognised(name: &Symbol) -> Option<u16>
     find_named(
         name,
         &[
-            (b"CONSP", 64 + 128),
-            (b"INTEGERP", 1 + 2 + 4),
-            (b"SYMBOLP", 8 + 16 + 32),
-            (b"STRINGP", 256),
-            (b"CHARACTERP", 512),
-            (b"TRUE-LISTP", 8 + 64),
+            (b"CONSP", masks::PROPER + masks::IMPROPER),
+            (b"INTEGERP", masks::INTEGERS),
+            (b"SYMBOLP", masks::TRUTHS + masks::OTHER_SYMBOLS),
+            (b"STRINGP", masks::STRINGS),
+            (b"CHARACTERP", masks::CHARACTERS),
+            (b"TRUE-LISTP", masks::TRUE_LISTS),
         ],
     )
 }
@@ -56,7 +56,7 @@ pub(crate) fn tested(name: &Symbol) -> Option<u16>
     ensures { result ≡ tested name.now }
 {
     if is_named(name, b"NOT") {
-        return Some(NIL);
+        return Some(masks::NIL);
     }
     recognised(name)
 }
@@ -65,8 +65,12 @@ pub(crate) fn tested(name: &Symbol) -> Option<u16>
 pub(crate) fn test_types(types: u16, mask: u16) -> u16
     ensures { result ≡ test_types types mask }
 {
-    let yes = if meets(mask, types) { T } else { 0 };
-    let no = if meets(mask, without(types)) { NIL } else { 0 };
+    let yes = if meets(mask, types) { masks::T } else { 0 };
+    let no = if meets(mask, without(types)) {
+        masks::NIL
+    } else {
+        0
+    };
     yes | no
 }
 
@@ -76,9 +80,9 @@ fn plus_row(a: Sign, b: Sign) -> u16
 {
     match (a, b) {
         (Sign::Zero, s) | (s, Sign::Zero) => sign_bit(s),
-        (Sign::Positive, Sign::Positive) => 2,
-        (Sign::Negative, Sign::Negative) => 4,
-        _ => 1 + 2 + 4,
+        (Sign::Positive, Sign::Positive) => masks::POSITIVE,
+        (Sign::Negative, Sign::Negative) => masks::NEGATIVE,
+        _ => masks::INTEGERS,
     }
 }
 
@@ -87,9 +91,9 @@ fn times_row(a: Sign, b: Sign) -> u16
     ensures { result ≡ times_row a b }
 {
     match (a, b) {
-        (Sign::Zero, _) | (_, Sign::Zero) => 1,
+        (Sign::Zero, _) | (_, Sign::Zero) => masks::ZERO,
         (Sign::Positive, s) | (s, Sign::Positive) => sign_bit(s),
-        (Sign::Negative, Sign::Negative) => 2,
+        (Sign::Negative, Sign::Negative) => masks::POSITIVE,
     }
 }
 
@@ -98,9 +102,9 @@ fn minus_row(a: Sign) -> u16
     ensures { result ≡ minus_row a }
 {
     match a {
-        Sign::Zero => 1,
-        Sign::Positive => 4,
-        Sign::Negative => 2,
+        Sign::Zero => masks::ZERO,
+        Sign::Positive => masks::NEGATIVE,
+        Sign::Negative => masks::POSITIVE,
     }
 }
 
@@ -109,9 +113,10 @@ fn less_row(a: Sign, b: Sign) -> u16
     ensures { result ≡ less_row a b }
 {
     match (a, b) {
-        (Sign::Negative, Sign::Negative) | (Sign::Positive, Sign::Positive) => NIL | T,
-        (Sign::Negative, _) | (Sign::Zero, Sign::Positive) => T,
-        (Sign::Zero, _) | (Sign::Positive, _) => NIL,
+        (Sign::Negative, Sign::Negative) | (Sign::Positive, Sign::Positive) => masks::NIL
+            | masks::T,
+        (Sign::Negative, _) | (Sign::Zero, Sign::Positive) => masks::T,
+        (Sign::Zero, _) | (Sign::Positive, _) => masks::NIL,
     }
 }
 
@@ -119,7 +124,7 @@ fn less_row(a: Sign, b: Sign) -> u16
 pub(crate) fn is_single(kind: Kind) -> bool
     ensures { result ≡ is_single kind }
 {
-    meets(bit(kind), 1 + 8 + 16)
+    meets(bit(kind), masks::ZERO + masks::TRUTHS)
 }
 
 /// `(equal x y)`.
@@ -127,9 +132,13 @@ fn equal_row(a: Kind, b: Kind) -> u16
     ensures { result ≡ equal_row a b }
 {
     if !meets(bit(a), bit(b)) {
-        return NIL;
+        return masks::NIL;
     }
-    if is_single(a) { T } else { NIL | T }
+    if is_single(a) {
+        masks::T
+    } else {
+        masks::NIL | masks::T
+    }
 }
 
 /// `(cons x y)`, by the type of y.
@@ -137,8 +146,8 @@ fn cons_row(kind: Kind) -> u16
     ensures { result ≡ cons_row kind }
 {
     match kind {
-        Kind::Nil | Kind::Proper => 64,
-        _ => 128,
+        Kind::Nil | Kind::Proper => masks::PROPER,
+        _ => masks::IMPROPER,
     }
 }
 
@@ -147,8 +156,8 @@ fn car_row(kind: Kind) -> u16
     ensures { result ≡ car_row kind }
 {
     match kind {
-        Kind::Proper | Kind::Improper => ALL,
-        _ => NIL,
+        Kind::Proper | Kind::Improper => masks::ALL,
+        _ => masks::NIL,
     }
 }
 
@@ -157,9 +166,9 @@ fn cdr_row(kind: Kind) -> u16
     ensures { result ≡ cdr_row kind }
 {
     match kind {
-        Kind::Proper => 8 + 64,
-        Kind::Improper => without(8 + 64),
-        _ => NIL,
+        Kind::Proper => masks::TRUE_LISTS,
+        Kind::Improper => without(masks::TRUE_LISTS),
+        _ => masks::NIL,
     }
 }
 
@@ -168,8 +177,8 @@ fn char_code_row(kind: Kind) -> u16
     ensures { result ≡ char_code_row kind }
 {
     match kind {
-        Kind::Character => 1 + 2,
-        _ => 1,
+        Kind::Character => masks::NATURALS,
+        _ => masks::ZERO,
     }
 }
 
@@ -182,9 +191,9 @@ fn row_one(p: Primitive, kind: Kind) -> u16
         Primitive::Cdr => cdr_row(kind),
         Primitive::Minus => minus_row(sign_of(kind)),
         Primitive::CharCode => char_code_row(kind),
-        Primitive::CodeChar => 512,
-        Primitive::SymbolName => 256,
-        _ => ALL,
+        Primitive::CodeChar => masks::CHARACTERS,
+        Primitive::SymbolName => masks::STRINGS,
+        _ => masks::ALL,
     }
 }
 
@@ -198,7 +207,7 @@ fn row_two(p: Primitive, a: Kind, b: Kind) -> u16
         Primitive::Plus => plus_row(sign_of(a), sign_of(b)),
         Primitive::Times => times_row(sign_of(a), sign_of(b)),
         Primitive::Cons => cons_row(b),
-        _ => ALL,
+        _ => masks::ALL,
     }
 }
 
@@ -276,8 +285,14 @@ fn coerce_by(t: &Term) -> u16
     ensures { result ≡ coerce_by (shape_of t.now) }
 {
     match t {
-        Term::Quote(v) => { if is_list_name(v) { 8 + 64 } else { 256 } }
-        _ => 8 + 64 + 256,
+        Term::Quote(v) => {
+            if is_list_name(v) {
+                masks::TRUE_LISTS
+            } else {
+                masks::STRINGS
+            }
+        }
+        _ => masks::TRUE_LISTS + masks::STRINGS,
     }
 }
 
@@ -287,6 +302,6 @@ pub(crate) fn coerce_types(arguments: &[Term]) -> u16
 {
     match arguments {
         [_, kind] => coerce_by(kind),
-        _ => ALL,
+        _ => masks::ALL,
     }
 }

@@ -6,12 +6,11 @@ ghost use Rattle.ap_world.specs.World.{function_of};
 ghost use Rattle.ap_world.specs.Prescribing.{theorems_about};
 ghost use Rattle.ap_world.specs.Typing.{is_variable, are_distinct_variables, types_on, prescribed_types, left_by, narrowed, kept_of, function_types};
 
-use crate::kinds::ALL;
 use crate::rows::recognised;
 use ap_kernel::is_among;
 use ap_term::Term;
 use ap_value::Symbol;
-use ap_world::{RuneKind, Theorem, Theory, World};
+use ap_world::{RuneKind, Theorem, Theory, World, masks};
 
 /// Whether a term is a variable.
 fn is_variable(t: &Term) -> bool
@@ -62,10 +61,10 @@ fn types_on(types: Option<u16>, t: &Term) -> u16
             if are_distinct_variables(ts.as_slice()) {
                 types
             } else {
-                ALL
+                masks::ALL
             }
         }
-        _ => ALL,
+        _ => masks::ALL,
     }
 }
 
@@ -76,9 +75,9 @@ fn prescribed_types(t: &Term) -> u16
     match t {
         Term::Call(r, ts) => match ts.as_slice() {
             [a] => types_on(recognised(r), a),
-            _ => ALL,
+            _ => masks::ALL,
         },
-        _ => ALL,
+        _ => masks::ALL,
     }
 }
 
@@ -89,7 +88,7 @@ fn left_by(theory: &Theory, theorem: &Theorem) -> u16
     if theory.is_enabled(RuneKind::TypePrescription, &theorem.name) {
         prescribed_types(&theorem.term)
     } else {
-        ALL
+        masks::ALL
     }
 }
 
@@ -113,7 +112,7 @@ fn kept_of(w: &World, f: &Symbol) -> u16
 {
     match w.lookup_fun(f) {
         Some(function) => function.mask.0,
-        None => ALL,
+        None => masks::ALL,
     }
 }
 
@@ -124,6 +123,6 @@ pub(crate) fn function_types(w: &World, f: &Symbol) -> u16
     if w.enabled_for(RuneKind::TypePrescription, f) {
         narrowed(w, f, kept_of(w, f))
     } else {
-        ALL
+        masks::ALL
     }
 }

@@ -10,13 +10,13 @@ ghost use Rattle.ap_types.specs.Settings.{types_in};
 
 use crate::calls::{Setting, call_types};
 use crate::constants::kind_of;
-use crate::kinds::{ALL, NIL, bit, meets, without};
+use crate::kinds::{bit, meets, without};
 use crate::scopes::{cut_by_each, enter};
 use ap_kernel::Ctx;
 use ap_list::{NoMemory, Seq};
 use ap_term::Term;
 use ap_value::Symbol;
-use ap_world::{Primitive, primitive_of};
+use ap_world::{Primitive, masks, primitive_of};
 
 /// The types of a term under the setting's facts and those of the contexts. On the way contexts are added and taken
 /// away again.
@@ -40,7 +40,7 @@ fn form_types(s: &Setting<'_, '_>, scopes: &mut Seq<Ctx>, t: &Term) -> Result<u1
     ensures scopes { OnOk result (scopes.new ≡ scopes.old) }
 {
     match t {
-        Term::Var(_) => Ok(ALL),
+        Term::Var(_) => Ok(masks::ALL),
         Term::Quote(v) => Ok(bit(kind_of(v))),
         Term::Call(f, ts) => head_types(s, scopes, f, ts.as_slice()),
     }
@@ -145,8 +145,8 @@ fn if_types(
     ensures scopes { OnOk result (scopes.new ≡ scopes.old) }
 {
     let test = types_at(s, scopes, a)?;
-    let yes = types_under(s, scopes, meets(test, without(NIL)), a, true, b)?;
-    let no = types_under(s, scopes, meets(test, NIL), a, false, c)?;
+    let yes = types_under(s, scopes, meets(test, without(masks::NIL)), a, true, b)?;
+    let no = types_under(s, scopes, meets(test, masks::NIL), a, false, c)?;
     Ok(yes | no)
 }
 

@@ -13,7 +13,7 @@ use Rattle.ap_world.specs.World.{Shown, function_of}
 use Rattle.ap_kernel.specs.declared.reductions.Inference.{Inference}
 use Rattle.ap_kernel.specs.Masks.{MaskHolds}
 use Rattle.ap_kernel.specs.Reductions.{KnownClause, Follows}
-use Rattle.ap_kernel.specs.Standing.{HasGround}
+use Rattle.ap_kernel.specs.Standing.{DefinesNot}
 use Rattle.ap_induct.specs.Choosing.{calls_among}
 use Rattle.ap_elim.specs.Naming as naming
 use Rattle.ap_weaken.specs.Fertilize.{can_use, use_of, fertilize_made}
@@ -27,7 +27,7 @@ pub record LeavesOne (D : Defs) (c : Clause) (i : Inference) : Type 0 where
   pub follows : Follows D i
 
 abbrev pub FertilizeFollows : Type 0
-FertilizeFollows = (D : Defs) → Total D → HasGround D → (c : Clause) → KnownClause D c → (i : Inference) → fertilize_made c ≡ Some i → LeavesOne D c i
+FertilizeFollows = (D : Defs) → Total D → DefinesNot D → (c : Clause) → KnownClause D c → (i : Inference) → fertilize_made c ≡ Some i → LeavesOne D c i
 
 -- where the masks of the world's terms hold
 abbrev pub GeneralizeFollows : Type 0

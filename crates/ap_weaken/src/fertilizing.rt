@@ -2,7 +2,7 @@ ghost use Rattle.std.specs.Prelude.{◌≡◌, IfOk, IfSome, is_some};
 ghost use Rattle.std.specs.Option.{option_map};
 ghost use Rattle.ap_world.specs.Shapes.{shape_of};
 ghost use Rattle.ap_world.specs.World.{function_of};
-ghost use Rattle.ap_kernel.specs.Standing.{HasGround};
+ghost use Rattle.ap_kernel.specs.Standing.{DefinesNot};
 ghost use Rattle.ap_kernel.specs.Reductions.{KnownClause, Reduces};
 ghost use Rattle.ap_kernel.specs.Fertilising.{is_constant_shape, sides_of, negated_sides, literal_fertilised, fertilise_made};
 ghost use Rattle.ap_weaken.specs.Fertilize.{can_use, used_in, hypothesis, use_of, fertilize_made};
@@ -109,7 +109,7 @@ fn use_of(c: &Clause) -> Option<(usize, usize)>
 /// used in. `None` exactly where there is no such literal. The only error is want of memory. In `:do-not` of
 /// the manual's topic `hints` it is `fertilize`.
 pub fn fertilize(alloc: Global, w: &World, c: &Clause) -> Result<Option<Reduction>, NoMemory>
-    requires ground { HasGround (function_of w.now.entries) }
+    requires ground { DefinesNot (function_of w.now.entries) }
     requires clause { KnownClause (function_of w.now.entries) c.now }
     ensures stands { IfOk result (λ o. IfSome o (λ r. Reduces w.now r)) }
     ensures made { IfOk result (λ o. option_map (λ r. r.says) o ≡ fertilize_made c.now) }

@@ -6,7 +6,7 @@ ghost use Rattle.ap_term.specs.Terms.{term_size};
 ghost use Rattle.ap_world.specs.Sound.{known, HasFunctions};
 ghost use Rattle.ap_world.specs.World.{function_of};
 ghost use Rattle.ap_kernel.specs.Masks.{MaskHolds};
-ghost use Rattle.ap_kernel.specs.Standing.{HasGround};
+ghost use Rattle.ap_kernel.specs.Standing.{DefinesNot};
 ghost use Rattle.ap_kernel.specs.Reductions.{KnownClause, Reduces};
 ghost use Rattle.ap_elim.specs.Naming.{new_name};
 ghost use Rattle.ap_weaken.specs.Generalize.{calls_recursive, mask_in, isnt_boolean, may_generalise, smaller, smallest, chosen, is_letter, first_letter, letter_of, generalised_at, generalize_made};
@@ -18,7 +18,7 @@ use ap_kernel::{Ctx, Reduction, TypeOracle, generalise};
 use ap_list::{NoMemory, Seq};
 use ap_term::{Clause, Term, copy_term, copy_terms, size};
 use ap_value::Symbol;
-use ap_world::{Mask, World};
+use ap_world::{Mask, World, masks};
 use std::alloc::{AllocError, Global};
 
 /// Whether a term is a call of a recursive function. Takes no memory.
@@ -37,7 +37,7 @@ fn calls_recursive(w: &World, t: &Term) -> bool
 
 /// The mask of a term under no facts.
 fn mask_of<O: TypeOracle>(alloc: Global, w: &World, oracle: &O, t: &Term) -> Result<Mask, NoMemory>
-    requires ground { HasGround (function_of w.now.entries) }
+    requires ground { DefinesNot (function_of w.now.entries) }
     requires term { IsTrue (known (function_of w.now.entries) t.now) }
     ensures made { IfOk result (λ m. m ≡ mask_in w.now t.now) }
     ensures holds { IfOk result (λ m. MaskHolds (function_of w.now.entries) [] t.now m) }
@@ -51,7 +51,7 @@ fn mask_of<O: TypeOracle>(alloc: Global, w: &World, oracle: &O, t: &Term) -> Res
 fn isnt_boolean(mask: Mask) -> bool
     ensures { result ≡ isnt_boolean mask }
 {
-    mask.0 & (1023 ^ 24) != 0
+    mask.0 & (masks::ALL ^ masks::TRUTHS) != 0
 }
 
 /// Whether a call may become a variable.
@@ -62,7 +62,7 @@ fn may_generalise<O: TypeOracle>(
     literals: &[Term],
     t: &Term,
 ) -> Result<bool, NoMemory>
-    requires ground { HasGround (function_of w.now.entries) }
+    requires ground { DefinesNot (function_of w.now.entries) }
     requires term { IsTrue (known (function_of w.now.entries) t.now) }
     ensures { IfOk result (λ b. b ≡ may_generalise w.now literals.now t.now) }
 {
@@ -106,7 +106,7 @@ fn with_next<'a, O: TypeOracle>(
     t: &'a Term,
     behind: Option<&'a Term>,
 ) -> Result<Option<&'a Term>, NoMemory>
-    requires ground { HasGround (function_of w.now.entries) }
+    requires ground { DefinesNot (function_of w.now.entries) }
     requires term { IsTrue (known (function_of w.now.entries) t.now) }
     ensures { IfOk result (λ o. option_copied o ≡ cond (may_generalise w.now literals.now t.now) (smaller t.now (option_copied behind.entry)) (option_copied behind.entry)) }
 {
@@ -124,7 +124,7 @@ fn smallest<'a, O: TypeOracle>(
     literals: &[Term],
     calls: &'a [Term],
 ) -> Result<Option<&'a Term>, NoMemory>
-    requires ground { HasGround (function_of w.now.entries) }
+    requires ground { DefinesNot (function_of w.now.entries) }
     requires terms { Each (λ u. IsTrue (known (function_of w.now.entries) u)) calls.now }
     ensures { IfOk result (λ o. option_copied o ≡ smallest (may_generalise w.now literals.now) calls.now) }
 {
@@ -144,7 +144,7 @@ fn chosen<O: TypeOracle>(
     oracle: &O,
     literals: &[Term],
 ) -> Result<Option<Term>, NoMemory>
-    requires ground { HasGround (function_of w.now.entries) }
+    requires ground { DefinesNot (function_of w.now.entries) }
     requires terms { Each (λ u. IsTrue (known (function_of w.now.entries) u)) literals.now }
     ensures { IfOk result (λ o. o ≡ chosen w.now literals.now) }
 {

@@ -1,7 +1,7 @@
 ghost use Rattle.std.specs.Prelude.{◌≡◌, ◌<◌, ◌∷◌, ◌++◌, [], IfOk, IfSome, length};
 ghost use Rattle.std.specs.Option.{option_map};
 ghost use Rattle.ap_world.specs.World.{function_of};
-ghost use Rattle.ap_kernel.specs.Standing.{HasGround};
+ghost use Rattle.ap_kernel.specs.Standing.{DefinesNot};
 ghost use Rattle.ap_kernel.specs.Reductions.{KnownClause, Reduces, others, to_one};
 ghost use Rattle.ap_weaken.specs.Irrelevance.{some_irrelevant, some_relevant, left_out, irrelevance_made};
 
@@ -100,7 +100,7 @@ fn without_next(
 
 /// From a clause to the clause itself: there are no cases.
 fn itself(alloc: Global, w: &World, c: &Clause) -> Result<Reduction, NoMemory>
-    requires ground { HasGround (function_of w.now.entries) }
+    requires ground { DefinesNot (function_of w.now.entries) }
     requires clause { KnownClause (function_of w.now.entries) c.now }
     ensures stands { IfOk result (λ r. Reduces w.now r) }
     ensures made { IfOk result (λ r. r.says ≡ to_one c.now c.now.0) }
@@ -113,7 +113,7 @@ fn itself(alloc: Global, w: &World, c: &Clause) -> Result<Reduction, NoMemory>
 
 /// From a clause to the clause without the literals of irrelevant parts, which are dropped one after another.
 fn left_out(alloc: Global, w: &World, c: &Clause) -> Result<Reduction, NoMemory>
-    requires ground { HasGround (function_of w.now.entries) }
+    requires ground { DefinesNot (function_of w.now.entries) }
     requires clause { KnownClause (function_of w.now.entries) c.now }
     ensures stands { IfOk result (λ r. Reduces w.now r) }
     ensures made { IfOk result (λ r. r.says ≡ left_out c.now) }
@@ -139,7 +139,7 @@ fn left_out(alloc: Global, w: &World, c: &Clause) -> Result<Reduction, NoMemory>
 /// The only error is want of memory. In `:do-not` of the manual's topic `hints` it is
 /// `eliminate-irrelevance`.
 pub fn irrelevance(alloc: Global, w: &World, c: &Clause) -> Result<Option<Reduction>, NoMemory>
-    requires ground { HasGround (function_of w.now.entries) }
+    requires ground { DefinesNot (function_of w.now.entries) }
     requires clause { KnownClause (function_of w.now.entries) c.now }
     ensures stands { IfOk result (λ o. IfSome o (λ r. Reduces w.now r)) }
     ensures made { IfOk result (λ o. option_map (λ r. r.says) o ≡ irrelevance_made c.now) }

@@ -102,7 +102,7 @@ impl Entries {
     }
 
     /// The names are distinct, and no primitive's. Costs nothing: a caller's proof learns it so.
-    pub(crate) fn has_distinct_names(&self)
+    pub(crate) fn recall_distinct_names(&self)
         ensures { are_distinct self.now ≡ true }
     {
         let _ = &self.list;
@@ -228,7 +228,7 @@ impl Entries {
     pub(crate) fn copy(&self, alloc: Global) -> Result<Entries, NoMemory>
         ensures { IfOk result (λ entries. entries ≡ self.now) }
     {
-        self.has_distinct_names();
+        self.recall_distinct_names();
         let mut out = Entries::new(alloc);
         for entry in self.as_slice() {
             out.push_copy(alloc, entry)?;

@@ -7,6 +7,7 @@ mod entry;
 mod including;
 mod kinds;
 pub mod laws;
+pub mod masks;
 mod names;
 mod prescribing;
 mod primitive;

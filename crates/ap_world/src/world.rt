@@ -90,7 +90,7 @@ impl World {
     }
 
     /// The world is sound. Costs nothing: a caller's proof learns it so.
-    pub fn is_sound(&self)
+    pub fn recall_sound(&self)
         ensures { Sound self.now.entries }
     {
         let _ = &self.entries;
@@ -98,10 +98,10 @@ impl World {
 
     /// The names of the entries are distinct, and no primitive's. Costs nothing: a caller's proof learns it
     /// so.
-    pub fn has_distinct_names(&self)
+    pub fn recall_distinct_names(&self)
         ensures { are_distinct self.now.entries ≡ true }
     {
-        self.entries.has_distinct_names();
+        self.entries.recall_distinct_names();
     }
 
     /// A copy of the world.
@@ -279,7 +279,7 @@ impl World {
         ensures err { OnErr result (self.new ≡ self.old) }
         ensures taken { IsErrOf result AddError.NameTaken ↔ IsTrue (has_name self.old.entries name) }
     {
-        self.is_sound();
+        self.recall_sound();
         let theorem = Theorem {
             name,
             term,
@@ -300,7 +300,7 @@ impl World {
         ensures err { OnErr result (self.new ≡ self.old) }
         ensures taken { IsErrOf result AddError.NameTaken ↔ IsTrue (has_name self.old.entries name) }
     {
-        self.is_sound();
+        self.recall_sound();
         self.add(alloc, Entry::Constant(name, value))
     }
 
@@ -313,9 +313,9 @@ impl World {
         ensures err { OnErr result (self.new ≡ self.old) }
         ensures taken { IsErrOf result AddError.NameTaken ↔ IsTrue (has_clash self.old.entries kept.now.entries) }
     {
-        self.is_sound();
-        kept.is_sound();
-        kept.has_distinct_names();
+        self.recall_sound();
+        kept.recall_sound();
+        kept.recall_distinct_names();
         if self.clashes_with(kept) {
             return Err(AddError::NameTaken);
         }
@@ -339,7 +339,7 @@ impl World {
         ensures ok { OnOk result (self.new ≡ record self.old { entries = with_missing self.old.entries kept.now.entries }) }
         ensures err { OnErr result (self.new ≡ self.old) }
     {
-        kept.has_distinct_names();
+        kept.recall_distinct_names();
         add_missing(alloc, &mut self.entries, kept.entries())?;
         Ok(())
     }

@@ -14,4 +14,4 @@ add-requires-clause-sound c =
     c.function.ensures ∙ ap (function_by (has_no_call c.args.d.name c.args.d.body) c.args.d c.args.m) c.in_ok-mask.ensures.made in
     subst (λ (f : Function). Sound (c.in_ok-world.world.entries ++ entry.Function f ∷ [])) (sym made)
     (subst (λ (w : Shown). Sound (w.entries ++ entry.Function (admitted c.args.w.now c.args.d c.args.m) ∷ [])) (sym c.in_ok-world.ensures)
-    (admitted_is_sound c.args.w.now c.args.d c.args.m c.args.obligations.now c.is_sound.ensures c.requires.functions c.requires.admissible c.requires.paid))
+    (admitted_is_sound c.args.w.now c.args.d c.args.m c.args.obligations.now c.recall_sound.ensures c.requires.functions c.requires.admissible c.requires.paid))

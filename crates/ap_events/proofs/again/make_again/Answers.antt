@@ -15,7 +15,7 @@ put-requires-clause-valid c =
     let p = c.args.proposal in
     let U = c.requires.backed.0 in
     let b = c.requires.backed.1 in
-    owed_again w U (subst (λ (x : Shown). Sound x.entries) c.world.ensures c.is_sound.ensures) c.requires.functions b.sound b.before p c.requires.stated
+    owed_again w U (subst (λ (x : Shown). Sound x.entries) c.world.ensures c.recall_sound.ensures) c.requires.functions b.sound b.before p c.requires.stated
     (subst (λ X. CoversAdded w.entries X U) (put_entries c.args.enabled w p) b.made.0)
 
 pub returns-clause-done : goal.returns-clause-done

@@ -83,7 +83,7 @@ first_each-returns-clause-done g t c =
 
 pub first_all-settle-requires : goal.first_all-settle-requires
 first_all-settle-requires g t c =
-    back_sound c.args.w.now c.first_each-done.new.w c.in_ok-before.before c.first_each-done.ensures.grown c.in_ok-before.ensures.0 (subst (λ (x : Shown). Sound x.entries) c.world.ensures c.is_sound.ensures)
+    back_sound c.args.w.now c.first_each-done.new.w c.in_ok-before.before c.first_each-done.ensures.grown c.in_ok-before.ensures.0 (subst (λ (x : Shown). Sound x.entries) c.world.ensures c.recall_sound.ensures)
 
 pub first_all-returns-clause-done : goal.first_all-returns-clause-done
 first_all-returns-clause-done g t c =
@@ -102,7 +102,7 @@ first_all-returns-clause-error g t c =
 pub first_closed-close-requires-clause-sound : goal.first_closed-close-requires-clause-sound
 first_closed-close-requires-clause-sound g t c =
     closing_sound (firsts (first_event c.args.crew.now.limits.now c.args.earlier.now) (again_event c.args.earlier.now) c.args.depth) (worked_step c.args.crew.now.limits.now c.args.earlier.now c.args.depth) c.args.forms.now c.args.w.now c.first_all.new.w c.in_ok-first.first
-    c.in_ok-before.before c.in_ok-first.ensures.done c.in_ok-before.ensures.0 c.in_ok-before.ensures.1 (subst (λ (x : Shown). Sound x.entries) c.world.ensures c.is_sound.ensures)
+    c.in_ok-before.before c.in_ok-first.ensures.done c.in_ok-before.ensures.0 c.in_ok-before.ensures.1 (subst (λ (x : Shown). Sound x.entries) c.world.ensures c.recall_sound.ensures)
 
 pub first_closed-close-requires-clause-functions : goal.first_closed-close-requires-clause-functions
 first_closed-close-requires-clause-functions g t c =
@@ -118,7 +118,7 @@ first_closed-close-requires-clause-backed g t c =
     closing_backed h steps c.args.forms.now c.args.w.now v c.in_ok-first.first c.in_ok-before.before c.in_ok-first.ensures.done c.in_ok-before.ensures.0 c.in_ok-before.ensures.1
     (agains (again_event c.args.earlier.now) c.args.depth)
     (λ yes. events_backed c.args.crew.now.limits.now c.args.earlier.now c.have_distinct_names.ensures c.args.depth c.args.forms.now c.args.w.now v
-    (subst (λ (x : Shown). Sound x.entries) c.world-2.ensures c.is_sound-2.ensures) (next yes))
+    (subst (λ (x : Shown). Sound x.entries) c.world-2.ensures c.recall_sound-2.ensures) (next yes))
 
 pub first_closed-returns-clause-done : goal.first_closed-returns-clause-done
 first_closed-returns-clause-done g t c =

@@ -14,7 +14,7 @@ work_again-requires-clause-functions c = subst (λ (x : Shown). HasFunctions (fu
 pub work_again-requires-clause-backed : goal.work_again-requires-clause-backed
 work_again-requires-clause-backed c =
     subst (λ (x : Shown). IsBacked (worked_again [] x c.args.f.now) x) (sym c.in_ok-ruled.ensures)
-    (c.args.from.now.entries, record { sound = c.is_sound.ensures; before = c.requires.has.functions; made = c.requires.made })
+    (c.args.from.now.entries, record { sound = c.recall_sound.ensures; before = c.requires.has.functions; made = c.requires.made })
 
 pub returns-clause-text : goal.returns-clause-text
 returns-clause-text c =

@@ -104,7 +104,7 @@ again_each-returns-clause-done t c =
 -- the world goes back
 pub again_all-settle-requires : goal.again_all-settle-requires
 again_all-settle-requires t c =
-    back_sound c.args.w.now c.again_each-done.new.w c.in_ok-before.before c.again_each-done.ensures.grown c.in_ok-before.ensures.0 (subst (λ (x : Shown). Sound x.entries) c.world.ensures c.is_sound.ensures)
+    back_sound c.args.w.now c.again_each-done.new.w c.in_ok-before.before c.again_each-done.ensures.grown c.in_ok-before.ensures.0 (subst (λ (x : Shown). Sound x.entries) c.world.ensures c.recall_sound.ensures)
 
 pub again_all-returns-clause-done : goal.again_all-returns-clause-done
 again_all-returns-clause-done t c =

@@ -14,7 +14,7 @@ pub returns-clause-stands : goal.returns-clause-stands
 returns-clause-stands c =
     let found : conjunct_at c.args.part (theorem_of c.args.w.now.entries c.args.name.now) ≡ Some c.in-Some.conjunct.now = search rules in
     stands_by c.args.w.now c.made.result _ (search rules) c.made.ensures.unchanged
-    (conjunct_stands c.args.w.now c.is_sound.ensures c.requires.ground c.args.ctx.now c.args.name.now c.args.part c.args.s.now.0 c.args.hyps c.in-Some.conjunct.now found
+    (conjunct_stands c.args.w.now c.recall_sound.ensures c.requires.ground c.args.ctx.now c.args.name.now c.args.part c.args.s.now.0 c.args.hyps c.in-Some.conjunct.now found
     c.requires.facts c.requires.pairs c.requires.hyps c.requires.relieved)
 
 pub returns-clause-made : goal.returns-clause-made

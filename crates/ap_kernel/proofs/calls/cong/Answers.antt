@@ -10,7 +10,7 @@ returns-then-are_unchanged-clause-stands c =
     stands_same c.args.w.now c.in_ok-answer.answer (cong_made c.args.ctx.now c.args.f.now (said c.args.args.now))
     (cong_of_one c.args.w.now c.args.ctx.now c.args.f.now c.args.args.now c.in_ok-answer.answer.says c.requires.args k (search rules))
     (λ z. cong_same c.args.w.now c.args.ctx.now c.args.f.now c.args.args.now c.requires.args k)
-    (cong_holds c.args.w.now c.is_sound.ensures.total c.requires.ground c.args.ctx.now c.args.f.now c.args.args.now c.requires.facts c.requires.head c.requires.args)
+    (cong_holds c.args.w.now c.recall_sound.ensures.total c.requires.ground c.args.ctx.now c.args.f.now c.args.args.now c.requires.facts c.requires.head c.requires.args)
 
 pub returns-then-are_unchanged-clause-made : goal.returns-then-are_unchanged-clause-made
 returns-then-are_unchanged-clause-made c =
@@ -19,4 +19,4 @@ returns-then-are_unchanged-clause-made c =
 pub returns-clause-stands : goal.returns-clause-stands
 returns-clause-stands c =
     stands_by c.args.w.now c.made.result _ (search rules) c.made.ensures.unchanged
-    (cong_holds c.args.w.now c.is_sound.ensures.total c.requires.ground c.args.ctx.now c.args.f.now c.args.args.now c.requires.facts c.requires.head c.requires.args)
+    (cong_holds c.args.w.now c.recall_sound.ensures.total c.requires.ground c.args.ctx.now c.args.f.now c.args.args.now c.requires.facts c.requires.head c.requires.args)

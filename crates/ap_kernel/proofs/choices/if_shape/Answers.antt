@@ -7,5 +7,5 @@ use Rattle.ap_kernel.proofs.choices.if_shape.Goals as goal
 pub returns-clause-stands : goal.returns-clause-stands
 returns-clause-stands c =
     stands_by c.args.w.now c.in_ok-answer.answer _ (search rules) c.in_ok-answer.ensures.unchanged
-    (choice_stands (function_of c.args.w.now.entries) c.is_sound.ensures.total c.requires.ground c.args.ctx.now c.args.mode c.args.t.now c.args.mask
+    (choice_stands (function_of c.args.w.now.entries) c.recall_sound.ensures.total c.requires.ground c.args.ctx.now c.args.mode c.args.t.now c.args.mask
     c.requires.facts c.requires.term c.requires.choice c.requires.mask)

@@ -7,5 +7,5 @@ use Rattle.ap_kernel.proofs.eliminating.eliminate.Goals as goal
 pub returns-clause-stands : goal.returns-clause-stands
 returns-clause-stands c =
     reduces_by c.args.w.now c.made.result _ (search rules)
-    (eliminated_follows (function_of c.args.w.now.entries) c.is_sound.ensures.total c.requires.ground c.args.c c.args.v.now c.args.a c.args.b
+    (eliminated_follows (function_of c.args.w.now.entries) c.recall_sound.ensures.total c.requires.ground c.args.c c.args.v.now c.args.a c.args.b
     c.requires.clause c.requires.first c.requires.second c.requires.apart)

@@ -9,4 +9,4 @@ pub returns-clause-stands : goal.returns-clause-stands
 returns-clause-stands c =
     let leads : equation_leads c.args.ctx.now.0 c.args.t.now ≡ Some c.in_ok-rhs.rhs = search rules in
     stands_by c.args.w.now c.in_ok-answer.answer _ (search rules) c.in_ok-answer.ensures.unchanged
-    (equation_stands (function_of c.args.w.now.entries) c.is_sound.ensures.total c.args.ctx.now c.args.t.now c.in_ok-rhs.rhs c.requires.facts c.requires.term leads)
+    (equation_stands (function_of c.args.w.now.entries) c.recall_sound.ensures.total c.args.ctx.now c.args.t.now c.in_ok-rhs.rhs c.requires.facts c.requires.term leads)

@@ -12,4 +12,4 @@ pub returns-clause-stands : goal.returns-clause-stands
 returns-clause-stands c =
     let e : fertilise_made c.args.c c.args.i c.args.j ≡ Some c.in_ok-answer.answer.says = search rules in
     reduces_by c.args.w.now c.in_ok-answer.answer _ refl
-    (fertilised_follows (function_of c.args.w.now.entries) c.is_sound.ensures.total c.requires.ground c.args.c c.args.i c.args.j c.in_ok-answer.answer.says c.requires.clause e)
+    (fertilised_follows (function_of c.args.w.now.entries) c.recall_sound.ensures.total c.requires.ground c.args.c c.args.i c.args.j c.in_ok-answer.answer.says c.requires.clause e)

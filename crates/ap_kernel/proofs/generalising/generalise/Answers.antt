@@ -7,5 +7,5 @@ use Rattle.ap_kernel.proofs.generalising.generalise.Goals as goal
 pub returns-clause-stands : goal.returns-clause-stands
 returns-clause-stands c =
     reduces_by c.args.w.now c.in_ok-answer.answer _ (search rules)
-    (generalised_follows (function_of c.args.w.now.entries) c.is_sound.ensures.total c.requires.functions c.args.c c.args.t.now c.args.v c.args.mask
+    (generalised_follows (function_of c.args.w.now.entries) c.recall_sound.ensures.total c.requires.functions c.args.c c.args.t.now c.args.v c.args.mask
     c.requires.clause c.requires.term c.requires.mask c.requires.new)

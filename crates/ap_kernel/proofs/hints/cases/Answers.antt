@@ -7,4 +7,4 @@ use Rattle.ap_kernel.proofs.hints.cases.Goals as goal
 pub returns-clause-stands : goal.returns-clause-stands
 returns-clause-stands c =
     reduces_by c.args.w.now c.made.result _ (search rules)
-    (cased_follows (function_of c.args.w.now.entries) c.is_sound.ensures.total c.requires.ground c.args.c c.args.on.now c.requires.clause c.requires.terms)
+    (cased_follows (function_of c.args.w.now.entries) c.recall_sound.ensures.total c.requires.ground c.args.c c.args.on.now c.requires.clause c.requires.terms)

@@ -8,4 +8,4 @@ pub returns-clause-stands : goal.returns-clause-stands
 returns-clause-stands c =
     let found : theorem_of c.args.w.now.entries c.args.name.now ≡ Some c.in-Some.theorem.now = search rules in
     reduces_by c.args.w.now c.in_ok-answer.answer _ (search rules)
-    (used_follows c.args.w.now.entries c.is_sound.ensures c.requires.ground c.args.c c.args.name.now c.in-Some.theorem.now c.args.s.now.0 found c.requires.clause c.requires.pairs)
+    (used_follows c.args.w.now.entries c.recall_sound.ensures c.requires.ground c.args.c c.args.name.now c.in-Some.theorem.now c.args.s.now.0 found c.requires.clause c.requires.pairs)

@@ -14,5 +14,5 @@ pub returns-clause-stands : goal.returns-clause-stands
 returns-clause-stands c =
     let e : induct_made (function_of c.args.w.now.entries c.args.f.now) c.args.c c.args.actuals.now ≡ Some c.made.result.says = search rules in
     reduces_by c.args.w.now c.made.result _ refl
-    (made_follows c.args.w.now.entries c.is_sound.ensures c.has_distinct_names.ensures c.requires.functions c.args.f.now c.args.actuals.now c.args.c c.made.result.says
+    (made_follows c.args.w.now.entries c.recall_sound.ensures c.recall_distinct_names.ensures c.requires.functions c.args.f.now c.args.actuals.now c.args.c c.made.result.says
     c.requires.call c.requires.candidate c.requires.clause e)

@@ -16,7 +16,7 @@ returns-clause-stands c =
     let k = c.requires.sides in
     stands_by c.args.w.now c.in_ok-answer.answer (equal_made c.args.ctx.now k.left k.right)
     (c.in_ok-answer.ensures.says k.left k.right (c.left_of.ensures ∙ ap (λ (s : Sequent). s.lhs) k.less)) c.in_ok-answer.ensures.unchanged
-    (neither_stands (function_of c.args.w.now.entries) c.is_sound.ensures.total c.args.ctx.now c.args.less.says c.args.more.says c.args.left c.args.right
+    (neither_stands (function_of c.args.w.now.entries) c.recall_sound.ensures.total c.args.ctx.now c.args.less.says c.args.more.says c.args.left c.args.right
     c.requires.less.says c.requires.more.says k c.requires.left c.requires.right)
 
 pub returns-clause-made : goal.returns-clause-made

@@ -6,5 +6,5 @@ use Rattle.ap_kernel.proofs.literals.rewrite_literal.Goals as goal
 pub returns-clause-stands : goal.returns-clause-stands
 returns-clause-stands c =
     reduces_by c.args.w.now c.in_ok-answer.answer _ (search rules)
-    (rewritten_reduces (function_of c.args.w.now.entries) c.is_sound.ensures.total c.requires.ground c.args.c c.args.index c.args.e.says
+    (rewritten_reduces (function_of c.args.w.now.entries) c.recall_sound.ensures.total c.requires.ground c.args.c c.args.index c.args.e.says
     c.requires.clause c.requires.leads.says c.requires.place c.requires.facts)

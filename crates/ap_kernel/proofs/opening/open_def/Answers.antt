@@ -9,4 +9,4 @@ pub returns-clause-stands : goal.returns-clause-stands
 returns-clause-stands c =
     let leads : opened (function_of c.args.w.now.entries) c.args.call.now ≡ Some c.in-Some.rhs = search rules in
     stands_by c.args.w.now c.in_ok-answer.answer _ (search rules) c.in_ok-answer.ensures.unchanged
-    (open_stands c.args.w.now.entries c.is_sound.ensures c.has_distinct_names.ensures c.args.ctx.now c.args.call.now c.in-Some.rhs c.requires.facts c.requires.term leads)
+    (open_stands c.args.w.now.entries c.recall_sound.ensures c.recall_distinct_names.ensures c.args.ctx.now c.args.call.now c.in-Some.rhs c.requires.facts c.requires.term leads)

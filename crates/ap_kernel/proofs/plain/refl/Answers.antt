@@ -7,4 +7,4 @@ use Rattle.ap_kernel.proofs.plain.refl.Goals as goal
 pub returns-clause-stands : goal.returns-clause-stands
 returns-clause-stands c =
     stands_same c.args.w.now c.in_ok-answer.answer (refl_made c.args.ctx.now c.args.mode c.args.t.now) (search rules) (λ k. refl)
-    (refl_stands (function_of c.args.w.now.entries) c.is_sound.ensures.total c.args.ctx.now c.args.mode c.args.t.now c.requires.facts c.requires.term)
+    (refl_stands (function_of c.args.w.now.entries) c.recall_sound.ensures.total c.args.ctx.now c.args.mode c.args.t.now c.requires.facts c.requires.term)

@@ -14,4 +14,4 @@ pub returns-clause-stands : goal.returns-clause-stands
 returns-clause-stands c =
     let e : split_made c.args.c c.args.index c.args.at.now ≡ Some c.made.result.says = search rules in
     reduces_by c.args.w.now c.made.result _ refl
-    (split_reduces (function_of c.args.w.now.entries) c.is_sound.ensures.total c.requires.ground c.args.c c.args.index c.args.at.now c.made.result.says c.requires.clause e)
+    (split_reduces (function_of c.args.w.now.entries) c.recall_sound.ensures.total c.requires.ground c.args.c c.args.index c.args.at.now c.made.result.says c.requires.clause e)

@@ -6,4 +6,4 @@ use Rattle.ap_kernel.proofs.tidying.tidy.Goals as goal
 
 pub returns-clause-stands : goal.returns-clause-stands
 returns-clause-stands c =
-    reduces_by c.args.w.now c.made.result _ (search rules) (tidy_reduces (function_of c.args.w.now.entries) c.is_sound.ensures.total c.requires.ground c.args.c c.requires.clause)
+    reduces_by c.args.w.now c.made.result _ (search rules) (tidy_reduces (function_of c.args.w.now.entries) c.recall_sound.ensures.total c.requires.ground c.args.c c.requires.clause)

@@ -7,5 +7,5 @@ use Rattle.ap_kernel.proofs.types.by_type.Goals as goal
 pub returns-clause-stands : goal.returns-clause-stands
 returns-clause-stands c =
     stands_by c.args.w.now c.in_ok-answer.answer _ (search rules) c.in_ok-answer.ensures.unchanged
-    (typed_stands (function_of c.args.w.now.entries) c.is_sound.ensures.total c.args.ctx.now c.args.t.now c.args.mask c.args.value
+    (typed_stands (function_of c.args.w.now.entries) c.recall_sound.ensures.total c.args.ctx.now c.args.t.now c.args.mask c.args.value
     c.requires.facts c.requires.term c.requires.mask c.requires.value)

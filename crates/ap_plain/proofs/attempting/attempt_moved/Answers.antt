@@ -4,5 +4,5 @@ use Rattle.ap_plain.proofs.attempting.attempt_moved.Goals as goal
 pub returns-clause-valid : goal.returns-clause-valid
 returns-clause-valid g c =
     where_proved c.attempt_as.result _ _
-    (λ good. good c.requires.functions c.is_sound.ensures.sound c.is_sound.ensures.distinct c.requires.known c.requires.hints tt)
+    (λ good. good c.requires.functions c.recall_sound.ensures.sound c.recall_sound.ensures.distinct c.requires.known c.requires.hints tt)
     c.attempt_as.ensures.good

@@ -13,7 +13,7 @@ use Rattle.ap_plain.proofs.named.try_proposal.Goals as goal
 -- what is owed speaks of the world
 pub try_owed-requires-clause-known : goal.try_owed-requires-clause-known
 try_owed-requires-clause-known g c κs within =
-    let sound : Sound c.args.w.now.entries = subst (λ (u : Shown). Sound u.entries) c.world.ensures c.is_sound.ensures in
+    let sound : Sound c.args.w.now.entries = subst (λ (u : Shown). Sound u.entries) c.world.ensures c.recall_sound.ensures in
     subst (Each (λ (o : Owed). KnownClause (function_of c.args.w.now.entries) o.clause)) (sym (c.as_slice.ensures ∙ c.in_ok-owed.ensures))
     (all_known c.args.w.now c.args.proposal.now sound c.requires.functions c.requires.stated)
 

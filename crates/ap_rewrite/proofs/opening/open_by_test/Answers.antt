@@ -9,7 +9,7 @@ pub rewrite_test-requires-clause-arguments : goal.rewrite_test-requires-clause-a
 rewrite_test-requires-clause-arguments g c = arguments_known (defs_in c.args.l.now.r.now) _ _ _ c.requires.call c.requires.term
 
 pub rewrite_test-requires-clause-test : goal.rewrite_test-requires-clause-test
-rewrite_test-requires-clause-test g c = test_known c.args.l.now.r.now.w.now.entries c.is_sound.ensures _ _ _ _ _ c.requires.function c.requires.choice.2
+rewrite_test-requires-clause-test g c = test_known c.args.l.now.r.now.w.now.entries c.recall_sound.ensures _ _ _ _ _ c.requires.function c.requires.choice.2
 
 pub returns-in_default-clause-is : goal.returns-in_default-clause-is
 returns-in_default-clause-is g c =

@@ -6,7 +6,7 @@ use Rattle.ap_rewrite.proofs.rules.by_rules.Goals as goal
 pub each_rule-requires-clause-rules : goal.each_rule-requires-clause-rules
 each_rule-requires-clause-rules g c =
     rules_found c.args.l.now.r.now.w.now c.args.f.now _ (c.by_head-gs.ensures ∙ c.requires.level.ready.index.rewrites c.args.f.now)
-    (c.rules_are_parts.ensures _ c.has_distinct_names.ensures) (c.rules_hold.ensures.rules _ c.is_sound.ensures c.requires.level.ready.ground)
+    (c.rules_are_parts.ensures _ c.recall_distinct_names.ensures) (c.rules_hold.ensures.rules _ c.recall_sound.ensures c.requires.level.ready.ground)
 
 pub returns-clause-is : goal.returns-clause-is
 returns-clause-is g c =

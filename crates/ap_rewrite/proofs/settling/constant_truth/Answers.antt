@@ -9,7 +9,7 @@ pub by_type-requires-clause-term : goal.by_type-requires-clause-term
 by_type-requires-clause-term c = constant_known (function_of c.args.w.now.entries) c.args.t.now c.requires.constant
 
 pub by_type-requires-clause-mask : goal.by_type-requires-clause-mask
-by_type-requires-clause-mask c = all_but_nil (function_of c.args.w.now.entries) c.is_sound.ensures.total c.args.ctx.now.0 c.args.t.now c.requires.constant
+by_type-requires-clause-mask c = all_but_nil (function_of c.args.w.now.entries) c.recall_sound.ensures.total c.args.ctx.now.0 c.args.t.now c.requires.constant
 
 pub by_type-requires-clause-value : goal.by_type-requires-clause-value
 by_type-requires-clause-value c = subst (λ v. leads_to (record { 0 = 1015 }) (val_of v) ≡ true) (sym c.t_value.ensures) t_leads

@@ -17,7 +17,7 @@ value_equiv-requires-clause-constants c = subst (λ u. is_constant_call u ≡ tr
 pub value_equiv-requires-clause-value : goal.value_equiv-requires-clause-value
 value_equiv-requires-clause-value c =
     subst (λ u. HasValue (function_of c.args.w.now.entries) u [] (val_of c.negation_of-value.result)) (sym c.requires.negation)
-    (not_quote_means (function_of c.args.w.now.entries) c.is_sound.ensures.total c.requires.ground c.args.v.now c.negation_of-value.result c.negation_of-value.ensures.value)
+    (not_quote_means (function_of c.args.w.now.entries) c.recall_sound.ensures.total c.requires.ground c.args.v.now c.negation_of-value.result c.negation_of-value.ensures.value)
 
 pub returns-clause-made : goal.returns-clause-made
 returns-clause-made c = c.in_ok-q.ensures.made ∙ ap (leads_made c.args.ctx.now c.args.mode c.args.t.now) c.negation_of-value.ensures.constant

@@ -5,7 +5,7 @@ use Rattle.ap_session.proofs.admitting.work_both.Goals as goal
 pub pass_on-requires-clause-backed : goal.pass_on-requires-clause-backed
 pass_on-requires-clause-backed g c =
     let s : Working = working_in c.args.limits.now c.args.earlier.now c.args.world.now c.args.second.now in
-    passes_back c.worlds_grow.ensures.grows c.again_is_covered.ensures s c.args.form.now c.in_ok-done.done.admitted c.work.new.w c.requires.stands c.in_ok-done.ensures.next c.is_sound.ensures
+    passes_back c.worlds_grow.ensures.grows c.again_is_covered.ensures s c.args.form.now c.in_ok-done.done.admitted c.work.new.w c.requires.stands c.in_ok-done.ensures.next c.recall_sound.ensures
 
 pub returns-in_err-pass_on-clause-left : goal.returns-in_err-pass_on-clause-left
 returns-in_err-pass_on-clause-left g c =

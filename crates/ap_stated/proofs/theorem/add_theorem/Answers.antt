@@ -6,4 +6,4 @@ use Rattle.ap_stated.proofs.theorem.add_theorem.Goals as goal
 
 pub add_theorem-requires-clause-valid : goal.add_theorem-requires-clause-valid
 add_theorem-requires-clause-valid c =
-    theorem_valid c.args.w.now c.args.theorem (subst (λ (u : Shown). Sound u.entries) c.world.ensures c.is_sound.ensures) c.requires.functions c.requires.stated c.requires.valid.0
+    theorem_valid c.args.w.now c.args.theorem (subst (λ (u : Shown). Sound u.entries) c.world.ensures c.recall_sound.ensures) c.requires.functions c.requires.stated c.requires.valid.0

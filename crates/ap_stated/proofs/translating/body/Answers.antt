@@ -11,7 +11,7 @@ use Rattle.ap_stated.proofs.translating.body.Goals as goal
 pub back_to-requires : goal.back_to-requires
 back_to-requires c =
     sound_back c.args.w.now c.add_stub.new.w (entry.Function (stub c.args.name.now c.args.formals.now)) c.count-count.result c.in_ok-add_stub.ensures.ok
-    (c.count-count.ensures ∙ ap (λ (u : Shown). length u.entries) c.world.ensures) c.is_sound.ensures
+    (c.count-count.ensures ∙ ap (λ (u : Shown). length u.entries) c.world.ensures) c.recall_sound.ensures
 
 pub returns-clause-same : goal.returns-clause-same
 returns-clause-same c =

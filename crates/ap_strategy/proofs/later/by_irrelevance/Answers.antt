@@ -5,4 +5,4 @@ use Rattle.ap_strategy.proofs.later.by_irrelevance.Goals as goal
 
 pub irrelevance-requires-clause-ground : goal.irrelevance-requires-clause-ground
 irrelevance-requires-clause-ground g c =
-    ground_lent c.world.result.now c.args.task.now.plan.world (c.world.ensures ∙ ap (λ (g : Goal). g.plan.world) c.task.view_is) c.is_goal.ensures.functions
+    ground_lent c.world.result.now c.args.task.now.plan.world (c.world.ensures ∙ ap (λ (g : Goal). g.plan.world) c.task.view_is) c.recall_goal.ensures.functions

@@ -16,7 +16,7 @@ pub hint_step-requires-clause-hint : goal.hint_step-requires-clause-hint
 hint_step-requires-clause-hint g c =
     let t = c.args.task.now in
     let found : hint_for t.plan t.name ≡ Some c.in-Some.hint.now = search rules in
-    subst (λ (g : Goal). KnownHint g.plan.world.entries c.in-Some.hint.now) (sym c.in_ok-with.ensures) (hint_known t.plan t.name c.in-Some.hint.now c.is_goal.ensures.hints found)
+    subst (λ (g : Goal). KnownHint g.plan.world.entries c.in-Some.hint.now) (sym c.in_ok-with.ensures) (hint_known t.plan t.name c.in-Some.hint.now c.recall_goal.ensures.hints found)
 
 pub returns : goal.returns
 returns g c =

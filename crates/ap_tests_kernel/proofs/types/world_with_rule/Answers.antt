@@ -12,7 +12,7 @@ use Rattle.ap_strategy.specs.Laws.{kernel_ground}
 use Rattle.ap_world.proofs.TotalMeaning.{Apply, Models, val, models, apply_is, valid_of}
 use Rattle.ap_world.proofs.Equations.{vals, knowing, t_isnt_nil, val_integerp, val_defined, val_of_int}
 use Rattle.ap_world.proofs.Extending.{function_of-theorem}
-use Rattle.ap_kernel.specs.Standing.{HasGround}
+use Rattle.ap_kernel.specs.Standing.{DefinesNot}
 use Rattle.ap_ground.proofs.Meanings.{ground_heads, prim_of_nfix}
 use Rattle.ap_ground.proofs.Meant.{val_natp}
 use Rattle.ap_ground.proofs.There.{has_natp, has_nfix}
@@ -57,9 +57,9 @@ valid_in = let (A, m) = models G ground_total in valid_of G A m (one integerp_na
 defined_as : (w : Shown) → w ≡ record { entries = ground; theory = record { disabled = [] } } → function_of w.entries ≡ G
 defined_as w is = ap (λ (v : Shown). function_of v.entries) is ∙ defined_with (map entry.Function ground_functions) ground_rules
 
-with_ground : (w v : Shown) (u : Theorem) → w ≡ record { entries = ground; theory = record { disabled = [] } } → v ≡ added w (entry.Theorem u) → HasFunctions (function_of ground) → HasGround (function_of v.entries)
+with_ground : (w v : Shown) (u : Theorem) → w ≡ record { entries = ground; theory = record { disabled = [] } } → v ≡ added w (entry.Theorem u) → HasFunctions (function_of ground) → DefinesNot (function_of v.entries)
 with_ground w v u w_is v_is functions =
-    subst HasGround (sym (ap (λ (v : Shown). function_of v.entries) v_is ∙ function_of-theorem w.entries u ∙ ap (λ (v : Shown). function_of v.entries) w_is))
+    subst DefinesNot (sym (ap (λ (v : Shown). function_of v.entries) v_is ∙ function_of-theorem w.entries u ∙ ap (λ (v : Shown). function_of v.entries) w_is))
     (kernel_ground (function_of ground) functions)
 
 pub add_theorem-requires-clause-known : goal.add_theorem-requires-clause-known

@@ -10,7 +10,7 @@ pub add_theorem-added-requires-clause-valid : goal.add_theorem-added-requires-cl
 unfolding implies_name
 add_theorem-added-requires-clause-valid g c =
     let k : known (function_of c.first_world-world.result.entries) (two implies_name c.term-h.result c.term-h.result) ≡ true = search rules in
-    rw c.implies_itself-t.ensures (itself_valid c.first_world-world.result.entries c.is_sound.ensures c.term-h.result k)
+    rw c.implies_itself-t.ensures (itself_valid c.first_world-world.result.entries c.recall_sound.ensures c.term-h.result k)
 
 pub returns : goal.returns
 returns g c =

@@ -13,6 +13,6 @@ add_theorem-requires-clause-valid c =
     let W = c.args.world.now.entries in
     let h = c.in_ok-term.field-0 in
     let is : c.in_ok-t.t ≡ two implies_name h h = c.in_ok-t.ensures in
-    let sound : Sound W = subst (λ (w : Shown). Sound w.entries) c.world.ensures c.is_sound.ensures in
+    let sound : Sound W = subst (λ (w : Shown). Sound w.entries) c.world.ensures c.recall_sound.ensures in
     let k : known (function_of W) c.in_ok-t.t ≡ true = search rules in
     subst (λ t. Valid (function_of W) (t ∷ [])) (sym is) (itself_valid W sound h (subst (λ t. known (function_of W) t ≡ true) is k))

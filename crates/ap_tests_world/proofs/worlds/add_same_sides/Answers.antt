@@ -19,4 +19,4 @@ pub add_theorem-requires-clause-known : goal.add_theorem-requires-clause-known
 add_theorem-requires-clause-known c = rw c.in_ok-term.ensures (sides_known (function_of c.args.world.now.entries))
 
 pub add_theorem-requires-clause-valid : goal.add_theorem-requires-clause-valid
-add_theorem-requires-clause-valid c = sides_valid (function_of c.args.world.now.entries) c.in_ok-term.term c.equal_sides_are_valid.ensures c.is_sound.ensures.total c.in_ok-term.ensures
+add_theorem-requires-clause-valid c = sides_valid (function_of c.args.world.now.entries) c.in_ok-term.term c.equal_sides_are_valid.ensures c.recall_sound.ensures.total c.in_ok-term.ensures

@@ -10,4 +10,4 @@ push_copy-requires c =
     let there : slice_get c.args.self.now c.loop-entry.entry-index ≡ Some c.entry-item.result =
     slice_get_read c.args.self.now (length c.args.self.now) c.loop-entry.entry-index c.entry-item.result refl (search rules) (search rules) in
     ap (λ W. has_name W (name_in c.entry-item.result)) c.loop-entry.invariant
-    ∙ free_before c.args.self.now c.loop-entry.entry-index c.entry-item.result c.has_distinct_names.ensures there
+    ∙ free_before c.args.self.now c.loop-entry.entry-index c.entry-item.result c.recall_distinct_names.ensures there

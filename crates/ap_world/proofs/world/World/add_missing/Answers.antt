@@ -3,4 +3,4 @@ use Rattle.ap_world.specs.World.{are_distinct}
 use Rattle.ap_world.proofs.world.World.add_missing.Goals as goal
 
 pub add_missing-requires : goal.add_missing-requires
-add_missing-requires c = ap are_distinct c.entries.ensures ∙ c.has_distinct_names.ensures
+add_missing-requires c = ap are_distinct c.entries.ensures ∙ c.recall_distinct_names.ensures

@@ -5,4 +5,4 @@ pub add-requires : goal.add-requires
 add-requires c =
     λ _.
     sound-theorem c.args.self.now.entries (record { name = c.args.name; term = c.args.term; classes = c.args.classes })
-    c.is_sound.ensures c.requires.known c.requires.valid
+    c.recall_sound.ensures c.requires.known c.requires.valid

@@ -8,4 +8,4 @@ add_missing-requires c =
     let W = c.args.self.now.entries in
     let K = c.args.kept.now.entries in
     let free : has_clash W K ≡ false = cc in
-    included_sound W K c.is_sound.ensures c.is_sound-2.ensures c.has_distinct_names.ensures (without_clash W K free)
+    included_sound W K c.recall_sound.ensures c.recall_sound-2.ensures c.recall_distinct_names.ensures (without_clash W K free)

@@ -1,9 +1,0 @@
-use Rattle.std.proofs.Common.{Some, ap, sym, ◌∙◌}
-use Rattle.ap_rewrite.proofs.Refuted.{two_of, equation_of}
-use Rattle.ap_rewrite.proofs.deciding.compared.Goals as goal
-
-pub by_equation-requires-clause-equation : goal.by_equation-requires-clause-equation
-by_equation-requires-clause-equation g c =
-    equation_of c.args.t.now c.args.f.now c.args.us.now c.a-item.result c.b-item.result c.requires.call
-    (two_of c.args.us.now c.a-item.result c.b-item.result c.in-len2.len_at_least c.in-len2.len_below c.a-item.is c.b-item.is)
-    (sym c.primitive_of.ensures ∙ c.in-Some-Equal.is ∙ ap Some c.in-Some-Equal.field-0-is)

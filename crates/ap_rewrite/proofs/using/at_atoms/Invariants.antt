@@ -1,8 +1,0 @@
-use Rattle.std.proofs.Common.{◌≡◌, drop}
-use Rattle.ap_rewrite.specs.Linear.{at_atoms}
-use Rattle.ap_rewrite.specs.Answering.{setting_of, inner_of, seen_at}
-use Rattle.ap_rewrite.proofs.using.at_atoms.Given as goal
-
--- the atoms that are left give what all of them give
-abbrev pub invariant-loop-x : goal.invariant-loop-x
-invariant-loop-x g l = at_atoms (setting_of l.l.r.now) (inner_of l.l.r.now l.l.levels) (seen_at l.at) l.g (drop l.x-index l.atoms) l.all l.run.left ≡ at_atoms (setting_of l.l.r.now) (inner_of l.l.r.now l.l.levels) (seen_at l.at) l.g l.atoms l.fn.polys l.fn.run.left

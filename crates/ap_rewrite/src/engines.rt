@@ -1,0 +1,206 @@
+// What is tried on a call whose arguments are rewritten, in order.
+ghost use Rattle.std.specs.Prelude.{◌≡◌, IsTrue, IfOk, IfSome, Some};
+ghost use Rattle.std.specs.Option.{option_map};
+ghost use Rattle.ap_term.specs.declared.term.Term.{Call};
+ghost use Rattle.ap_term.specs.Metered.{first_that};
+ghost use Rattle.ap_world.specs.Facts.{KnownFacts};
+ghost use Rattle.ap_world.specs.Sound.{known};
+ghost use Rattle.ap_rewrite.specs.Rewriting.{led, equate, tried};
+ghost use Rattle.ap_rewrite.specs.Answering.{defs_in, setting_of, inner_of, seen_at, got_any, from_settling, from_equating, from_arithmetic, from_rules, From, IsLevel};
+
+use crate::arithmetic::by_arithmetic;
+use crate::branching::go_on;
+use crate::equating::is_quoted;
+use crate::opening::by_definition;
+use crate::rewriter::{Level, Place, Run, Tried};
+use crate::rows::{equates, ran, settles};
+use crate::rules::by_rules;
+use ap_kernel::{Equiv, LinearOracle, Mode, NoMemory, Symbol, Term, TypeOracle};
+
+/// Where an equation leads: that is the answer where it is a constant, and else it is rewritten in its turn.
+fn lead<O: TypeOracle, F: Fn(&mut Run, Mode, &Place<'_>, &Term) -> Result<Option<Equiv>, NoMemory>>(
+    l: &Level<'_, '_, O, F>,
+    run: &mut Run,
+    mode: Mode,
+    at: &Place<'_>,
+    first: Equiv,
+) -> Result<Tried<Equiv>, NoMemory>
+    requires level { IsLevel (F.pre l.now.below.now) (F.post l.now.below.now) l.now.r.now l.now.levels }
+    requires facts { KnownFacts (defs_in l.now.r.now) at.now.ctx.now.0 }
+    requires first { From l.now.r.now.w.now mode at.now.ctx.now first.says.lhs first }
+    ensures is { IfOk result (λ o. got_any o run.new.left ≡ led (setting_of l.now.r.now) (inner_of l.now.r.now l.now.levels) mode (seen_at at.now) (Some first.says.rhs) run.old.left) }
+    ensures from { IfOk result (λ o. IfSome o (λ a. IfSome a (From l.now.r.now.w.now mode at.now.ctx.now first.says.lhs))) }
+{
+    if is_quoted(first.rhs()) {
+        return Ok(Some(Some(first)));
+    }
+    let found = go_on(l, run, mode, at, first)?;
+    Ok(answered(found))
+}
+
+/// An answer that is there, where the steps haven't run out. Takes no memory.
+pub fn answered(found: Option<Equiv>) -> Tried<Equiv>
+    ensures { result ≡ option_map Some found }
+{
+    match found {
+        Some(q) => Some(Some(q)),
+        None => None,
+    }
+}
+
+/// An equation: of one term, by a fact, or part by part.
+fn equate<
+    O: TypeOracle,
+    F: Fn(&mut Run, Mode, &Place<'_>, &Term) -> Result<Option<Equiv>, NoMemory>,
+>(
+    l: &Level<'_, '_, O, F>,
+    run: &mut Run,
+    mode: Mode,
+    at: &Place<'_>,
+    t: &Term,
+) -> Result<Tried<Equiv>, NoMemory>
+    requires level { IsLevel (F.pre l.now.below.now) (F.post l.now.below.now) l.now.r.now l.now.levels }
+    requires facts { KnownFacts (defs_in l.now.r.now) at.now.ctx.now.0 }
+    requires term { IsTrue (known (defs_in l.now.r.now) t.now) }
+    ensures is { IfOk result (λ o. got_any o run.new.left ≡ equate (setting_of l.now.r.now) (inner_of l.now.r.now l.now.levels) mode (seen_at at.now) t.now run.old.left) }
+    ensures from { IfOk result (λ o. IfSome o (λ a. IfSome a (From l.now.r.now.w.now mode at.now.ctx.now t.now))) }
+{
+    match equates(l.r, at.ctx, mode, t)? {
+        None => Ok(Some(None)),
+        Some(first) => lead(l, run, mode, at, first),
+    }
+}
+
+/// What is tried after arithmetic: rules, and then the definition.
+fn after_arithmetic<
+    O: TypeOracle,
+    F: Fn(&mut Run, Mode, &Place<'_>, &Term) -> Result<Option<Equiv>, NoMemory>,
+>(
+    l: &Level<'_, '_, O, F>,
+    run: &mut Run,
+    mode: Mode,
+    at: &Place<'_>,
+    t: &Term,
+    f: &Symbol,
+    us: &[Term],
+) -> Result<Tried<Equiv>, NoMemory>
+    requires level { IsLevel (F.pre l.now.below.now) (F.post l.now.below.now) l.now.r.now l.now.levels }
+    requires facts { KnownFacts (defs_in l.now.r.now) at.now.ctx.now.0 }
+    requires term { IsTrue (known (defs_in l.now.r.now) t.now) }
+    requires call { t.now ≡ Call f.now us.now }
+    ensures is { IfOk result (λ o. got_any o run.new.left ≡ first_that (from_rules (setting_of l.now.r.now) (inner_of l.now.r.now l.now.levels) mode (seen_at at.now) f.now us.now) run.old.left) }
+    ensures from { IfOk result (λ o. IfSome o (λ a. IfSome a (From l.now.r.now.w.now mode at.now.ctx.now t.now))) }
+{
+    match by_rules(l, run, mode, at, t, f, us)? {
+        None => Ok(None),
+        Some(Some(q)) => Ok(Some(Some(q))),
+        Some(None) => by_definition(l, run, mode, at, t, f, us),
+    }
+}
+
+/// What is tried after equations: arithmetic, and then rules and the definition.
+fn after_equating<
+    O: TypeOracle + LinearOracle,
+    F: Fn(&mut Run, Mode, &Place<'_>, &Term) -> Result<Option<Equiv>, NoMemory>,
+>(
+    l: &Level<'_, '_, O, F>,
+    run: &mut Run,
+    mode: Mode,
+    at: &Place<'_>,
+    t: &Term,
+    f: &Symbol,
+    us: &[Term],
+) -> Result<Tried<Equiv>, NoMemory>
+    requires level { IsLevel (F.pre l.now.below.now) (F.post l.now.below.now) l.now.r.now l.now.levels }
+    requires facts { KnownFacts (defs_in l.now.r.now) at.now.ctx.now.0 }
+    requires term { IsTrue (known (defs_in l.now.r.now) t.now) }
+    requires call { t.now ≡ Call f.now us.now }
+    ensures is { IfOk result (λ o. got_any o run.new.left ≡ first_that (from_arithmetic (setting_of l.now.r.now) (inner_of l.now.r.now l.now.levels) mode (seen_at at.now) f.now us.now) run.old.left) }
+    ensures from { IfOk result (λ o. IfSome o (λ a. IfSome a (From l.now.r.now.w.now mode at.now.ctx.now t.now))) }
+{
+    match by_arithmetic(l, run, mode, at, t, f, us)? {
+        None => Ok(None),
+        Some(Some(q)) => Ok(Some(Some(q))),
+        Some(None) => after_arithmetic(l, run, mode, at, t, f, us),
+    }
+}
+
+/// What is tried after settling: equations, and so on.
+fn after_settling<
+    O: TypeOracle + LinearOracle,
+    F: Fn(&mut Run, Mode, &Place<'_>, &Term) -> Result<Option<Equiv>, NoMemory>,
+>(
+    l: &Level<'_, '_, O, F>,
+    run: &mut Run,
+    mode: Mode,
+    at: &Place<'_>,
+    t: &Term,
+    f: &Symbol,
+    us: &[Term],
+) -> Result<Tried<Equiv>, NoMemory>
+    requires level { IsLevel (F.pre l.now.below.now) (F.post l.now.below.now) l.now.r.now l.now.levels }
+    requires facts { KnownFacts (defs_in l.now.r.now) at.now.ctx.now.0 }
+    requires term { IsTrue (known (defs_in l.now.r.now) t.now) }
+    requires call { t.now ≡ Call f.now us.now }
+    ensures is { IfOk result (λ o. got_any o run.new.left ≡ first_that (from_equating (setting_of l.now.r.now) (inner_of l.now.r.now l.now.levels) mode (seen_at at.now) f.now us.now) run.old.left) }
+    ensures from { IfOk result (λ o. IfSome o (λ a. IfSome a (From l.now.r.now.w.now mode at.now.ctx.now t.now))) }
+{
+    match equate(l, run, mode, at, t)? {
+        None => Ok(None),
+        Some(Some(q)) => Ok(Some(Some(q))),
+        Some(None) => after_equating(l, run, mode, at, t, f, us),
+    }
+}
+
+/// What is tried after running: settling, and so on.
+fn after_running<
+    O: TypeOracle + LinearOracle,
+    F: Fn(&mut Run, Mode, &Place<'_>, &Term) -> Result<Option<Equiv>, NoMemory>,
+>(
+    l: &Level<'_, '_, O, F>,
+    run: &mut Run,
+    mode: Mode,
+    at: &Place<'_>,
+    t: &Term,
+    f: &Symbol,
+    us: &[Term],
+) -> Result<Tried<Equiv>, NoMemory>
+    requires level { IsLevel (F.pre l.now.below.now) (F.post l.now.below.now) l.now.r.now l.now.levels }
+    requires facts { KnownFacts (defs_in l.now.r.now) at.now.ctx.now.0 }
+    requires term { IsTrue (known (defs_in l.now.r.now) t.now) }
+    requires call { t.now ≡ Call f.now us.now }
+    ensures is { IfOk result (λ o. got_any o run.new.left ≡ first_that (from_settling (setting_of l.now.r.now) (inner_of l.now.r.now l.now.levels) mode (seen_at at.now) f.now us.now) run.old.left) }
+    ensures from { IfOk result (λ o. IfSome o (λ a. IfSome a (From l.now.r.now.w.now mode at.now.ctx.now t.now))) }
+{
+    match settles(l.r, at.ctx, mode, t)? {
+        Some(q) => Ok(Some(Some(q))),
+        None => after_settling(l, run, mode, at, t, f, us),
+    }
+}
+
+/// What is tried on a call: running it, settling it by its type, leading an equation on, linear arithmetic, rules, its
+/// definition; the first that applies.
+pub fn tried<
+    O: TypeOracle + LinearOracle,
+    F: Fn(&mut Run, Mode, &Place<'_>, &Term) -> Result<Option<Equiv>, NoMemory>,
+>(
+    l: &Level<'_, '_, O, F>,
+    run: &mut Run,
+    mode: Mode,
+    at: &Place<'_>,
+    t: &Term,
+    f: &Symbol,
+    us: &[Term],
+) -> Result<Tried<Equiv>, NoMemory>
+    requires level { IsLevel (F.pre l.now.below.now) (F.post l.now.below.now) l.now.r.now l.now.levels }
+    requires facts { KnownFacts (defs_in l.now.r.now) at.now.ctx.now.0 }
+    requires term { IsTrue (known (defs_in l.now.r.now) t.now) }
+    requires call { t.now ≡ Call f.now us.now }
+    ensures is { IfOk result (λ o. got_any o run.new.left ≡ first_that (tried (setting_of l.now.r.now) (inner_of l.now.r.now l.now.levels) mode (seen_at at.now) f.now us.now) run.old.left) }
+    ensures from { IfOk result (λ o. IfSome o (λ a. IfSome a (From l.now.r.now.w.now mode at.now.ctx.now t.now))) }
+{
+    match ran(l.r, at.ctx, mode, t, f, us)? {
+        Some(q) => Ok(Some(Some(q))),
+        None => after_running(l, run, mode, at, t, f, us),
+    }
+}
