@@ -84,7 +84,7 @@ where
     ensures licensed { IfOk result (λ end. Each (IsLicensed S.step_of S.depth S.name (record { root = task.now; rule = rule; walked = end.0 })) end.1) }
 {
     let state = speculate_from(rt, alloc, step, task, stepped, rule, workers, gate)?;
-    state.were_allowed();
+    state.recall_allowed();
     state.finish(alloc, step)
 }
 

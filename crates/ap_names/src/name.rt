@@ -1,5 +1,5 @@
 ghost use Rattle.std.specs.Prelude.{◌≡◌, ◌<◌, ◌≤◌, ◌↔◌, false, IsTrue, IfOk};
-ghost use Rattle.ap_names.specs.Names.{child_of, primed_of, pushed_of, is_pushed, IsName, name_eq};
+ghost use Rattle.ap_names.specs.Names.{child_of, primed_of, pushed_of, is_pushed, name_eq};
 ghost use Rattle.ap_names.specs.Printed.{name_text};
 
 use crate::print::{put_induction, put_place, put_primes};
@@ -37,13 +37,6 @@ fn copy_numbers(alloc: Global, numbers: &Seq<u32>) -> Result<Seq<u32>, NoMemory>
 }
 
 impl GoalName {
-    /// What the parts of a name keep, for a proof that sees the name as a whole.
-    pub fn is_name(&self)
-        ensures { IsName self.now }
-    {
-        let _ = &self.primes;
-    }
-
     /// Whether the name is a pushed goal's, as `*1.1`. Takes no memory.
     pub fn is_pushed(&self) -> bool
         ensures { result ≡ is_pushed self.now }

@@ -135,7 +135,7 @@ impl<S: Step> Nodes<S> {
     }
 
     /// Each step that was taken was allowed, which the type keeps.
-    pub fn were_allowed(&self)
+    pub fn recall_allowed(&self)
         ensures { WasAllowed S.step_of S.depth self.now }
     {
         let _rule = self.rule;

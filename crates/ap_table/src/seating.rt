@@ -232,7 +232,7 @@ pub(crate) fn mark_words<S: Step>(nodes: &Nodes<S>, seats: &mut Vec<Beside>, fro
     requires seated { AreSeated S.step_of S.depth nodes.now.rule (replay_from S.step_of S.depth nodes.now.rule (root nodes.now.root) (turns (take from nodes.now.history))) seats.old.items }
     ensures { AreSeated S.step_of S.depth nodes.now.rule (nodes_of S.step_of S.depth nodes.now) seats.new.items }
 {
-    nodes.were_allowed();
+    nodes.recall_allowed();
     let history = nodes.history();
     for at in from..history.len() {
         if let Entry::Marked(family, place) = history[at] {

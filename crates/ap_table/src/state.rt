@@ -172,10 +172,10 @@ impl<S: Step> TableState<S> {
     }
 
     /// Each step that was taken was allowed, which the type keeps.
-    pub fn were_allowed(&self)
+    pub fn recall_allowed(&self)
         ensures { WasAllowed S.step_of S.depth self.now }
     {
-        self.nodes.were_allowed();
+        self.nodes.recall_allowed();
     }
 
     /// Puts the children of a job's task into the table, with a seat for each family above each child. A stranger

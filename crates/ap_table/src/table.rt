@@ -79,7 +79,7 @@ impl<S: Step> Held<S> {
         ensures is { result ≡ length self.now.state.history }
         ensures allowed { WasAllowed S.step_of S.depth self.now.state }
     {
-        self.state.were_allowed();
+        self.state.recall_allowed();
         self.state.history().len() as u64
     }
 
@@ -99,7 +99,7 @@ impl<S: Step> GoalTable<S> {
         let mut guard = self.held.lock(rt);
         let state = &mut guard.state;
         let claim = state.claim_step();
-        state.were_allowed();
+        state.recall_allowed();
         if let Claim::Found(_) = &claim {
             self.moved.notify_one();
         }
@@ -113,7 +113,7 @@ impl<S: Step> GoalTable<S> {
         let mut guard = self.held.lock(rt);
         let state = &mut guard.state;
         let claim = state.claim_node_step(node);
-        state.were_allowed();
+        state.recall_allowed();
         if let Claim::Found(_) = &claim {
             self.moved.notify_one();
         }
@@ -137,7 +137,7 @@ impl<S: Step> GoalTable<S> {
         let mut guard = self.held.lock(rt);
         let state = &mut guard.state;
         let grown = state.expand_step(alloc, step, job, stepped);
-        state.were_allowed();
+        state.recall_allowed();
         if let Grown::Family { .. } = &grown {
             self.moved.notify_all();
         }
@@ -161,7 +161,7 @@ impl<S: Step> GoalTable<S> {
         let mut guard = self.held.lock(rt);
         let state = &mut guard.state;
         let taken = state.put_step(step, job, walked);
-        state.were_allowed();
+        state.recall_allowed();
         if let Taken::Kept = &taken {
             self.moved.notify_all();
         }
@@ -182,7 +182,7 @@ impl<S: Step> GoalTable<S> {
         let mut guard = self.held.lock(rt);
         let state = &mut guard.state;
         let taken = state.drop_step(step, job, license);
-        state.were_allowed();
+        state.recall_allowed();
         if let Taken::Kept = &taken {
             self.moved.notify_all();
         }
@@ -199,8 +199,9 @@ impl<S: Step> GoalTable<S> {
     }
 
     /// Waits until the history is longer than `seen`, the root is done or the table is halted; answers the
-    /// history's length then. Past a claim alone it may wait on. The lock is free while it waits. A worker asks for the length first and then looks
-    /// for work: where it finds none and waits with that length, it misses no step that came between.
+    /// history's length then. Past a claim alone it may wait on. The lock is free while it waits. A worker asks for
+    /// the length first and then looks for work: where it finds none and waits with that length, it misses no step
+    /// that came between.
     pub fn wait_more(&self, rt: &impl Wait, seen: u64) -> u64
         ensures { OneLook S.step_of S.depth (λ run. result ≡ length run.history) }
     {
@@ -224,10 +225,13 @@ impl<S: Step> GoalTable<S> {
         self.held.lock(rt).was_halted()
     }
 
-    /// The state, once nobody shares the table any more.
-    pub fn into_state(self) -> TableState<S> {
+    /// The state, once nobody shares the table any more. Each of its steps was allowed.
+    pub fn into_state(self) -> TableState<S>
+        ensures { WasAllowed S.step_of S.depth result }
+    {
         let GoalTable { held, .. } = self;
         let Held { state, .. } = held.into_inner();
+        state.recall_allowed();
         state
     }
 }

@@ -23,17 +23,6 @@ impl<T> Model for Mark<T> {
     ghost invariant = { λ m. IsCounted m.act.process m.children };
 }
 
-impl<T> Mark<T> {
-    ghost use Rattle.ap_walk.specs.Visits.{IsCounted};
-
-    /// What every mark keeps, for a proof that sees a mark as a whole.
-    pub fn is_counted(&self)
-        ensures { IsCounted self.now.act.process self.now.children }
-    {
-        let _ = &self.children;
-    }
-}
-
 /// A walk: its visits in order, what they count, and how it ended.
 #[derive(Debug, Drop)]
 pub struct Walked<T> {

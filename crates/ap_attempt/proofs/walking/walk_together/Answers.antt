@@ -15,5 +15,5 @@ deeper g = (g.met.S.Step g.world.𝓛 g.world.𝓜 g.world.𝓡 ((λ s x. x), (�
 pub returns-clause-licensed : goal.returns-clause-licensed
 returns-clause-licensed g c =
     ok_as c.finish.result _ _
-    (λ end ends. drops_licensed g.S.Step.step_of g.S.Step.depth g.S.Step.name (tells g) (deeper g) _ _ _ end.0 end.1 c.in_ok-state.ensures.done.1 c.in_ok-state.ensures.done.2 c.were_allowed.ensures ends.1)
+    (λ end ends. drops_licensed g.S.Step.step_of g.S.Step.depth g.S.Step.name (tells g) (deeper g) _ _ _ end.0 end.1 c.in_ok-state.ensures.done.1 c.in_ok-state.ensures.done.2 c.recall_allowed.ensures ends.1)
     c.finish.ensures

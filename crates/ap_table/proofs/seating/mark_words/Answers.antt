@@ -4,7 +4,7 @@ use Rattle.ap_table.proofs.seating.mark_words.Goals.{in-Marked, in_default}
 use Rattle.ap_table.proofs.seating.mark_words.Goals as goal
 
 pub mark_at-requires : goal.mark_at-requires
-mark_at-requires g c = mark_can g.S.Step.step_of g.S.Step.depth c.args.nodes.now c.loop-at.seats.items c.history-history.result.now c.loop-at.at _ c.in-Marked.family c.in-Marked.place c.history-history.ensures c.were_allowed.ensures c.loop-at-test.true c.in-Marked.is c.loop-at.invariant.seated
+mark_at-requires g c = mark_can g.S.Step.step_of g.S.Step.depth c.args.nodes.now c.loop-at.seats.items c.history-history.result.now c.loop-at.at _ c.in-Marked.family c.in-Marked.place c.history-history.ensures c.recall_allowed.ensures c.loop-at-test.true c.in-Marked.is c.loop-at.invariant.seated
 
 pub loop-at-preserved : goal.loop-at-preserved
 loop-at-preserved g c = record {

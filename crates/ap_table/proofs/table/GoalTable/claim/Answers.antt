@@ -1,4 +1,4 @@
 use Rattle.ap_table.proofs.table.GoalTable.claim.Goals as goal
 
 pub returns : goal.returns
-returns g c = record { old = _; new = _; allowed = c.were_allowed.ensures; done = c.claim_step-claim.ensures }
+returns g c = record { old = _; new = _; allowed = c.recall_allowed.ensures; done = c.claim_step-claim.ensures }
