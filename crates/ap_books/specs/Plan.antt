@@ -1,26 +1,10 @@
 -- The books that words name.
-use Rattle.std.specs.Prelude.{ℕ, Bool, false, cond, not, ◌&&◌, ◌||◌, nat_eq, nat_le, List, [], ◌∷◌, ◌++◌, length, Result, Ok, Err}
-use Rattle.std.specs.List.{list_all, list_any}
+use Rattle.std.specs.Prelude.{ℕ, cond, not, nat_le, List, [], ◌∷◌, ◌++◌, length, Result, Ok, Err}
+use Rattle.std.specs.List.{list_any}
 use Rattle.ap_value.specs.Values.{bytes_eq}
 use Rattle.ap_value.specs.declared.symbol.BookName.{BookName}
+use Rattle.ap_cert.specs.Cert.{is_book_name}
 use Rattle.ap_books.specs.declared.planning.PlanError.{PlanError}
-
--- between two codes, both among them
-abbrev pub is_between : ℕ → ℕ → ℕ → Bool
-is_between low high b = nat_le low b && nat_le b high
-
--- a letter, a digit, a hyphen (45) or an underscore (95)
-abbrev pub is_name_byte : ℕ → Bool
-is_name_byte b = is_between 97 122 b || is_between 65 90 b || is_between 48 57 b || nat_eq b 45 || nat_eq b 95
-
--- a book's name doesn't begin with a hyphen
-abbrev pub begins_well : List ℕ → Bool
-begins_well [] = false
-begins_well (b ∷ bs) = not (nat_eq b 45)
-
--- a book's name: 1 to 64 such bytes
-unfoldable pub is_book_name : List ℕ → Bool
-is_book_name w = begins_well w && nat_le (length w) 64 && list_all is_name_byte w
 
 -- a word behind names: it is a name too, it doesn't stand already, and it is at most the 64th
 abbrev pub one_more : List BookName → List ℕ → Result (List BookName) PlanError

@@ -16,9 +16,10 @@ mod reading;
 mod texts;
 
 pub use admitter::{Admitter, BookFault, BookSeen, Ended};
+pub use ap_cert::is_book_name;
 pub use body::{certify_book, put_text};
 pub use demo::demo_book;
 pub use events::{Events, events_in};
-pub use planning::{PlanError, is_book_name, plan};
+pub use planning::{PlanError, plan};
 pub use reading::books_are_read_by_the_grammar;
 pub use texts::{closing, opening};

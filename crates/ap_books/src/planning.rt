@@ -1,10 +1,11 @@
 //! The books that words name.
 ghost use Rattle.std.specs.Prelude.{◌≡◌, ◌≢◌, Ok, Err, OnOk, IfOk, IfErr, map, string_bytes};
-ghost use Rattle.std.specs.List.{list_all, list_any};
+ghost use Rattle.std.specs.List.{list_any};
 ghost use Rattle.ap_value.specs.Values.{bytes_eq};
-ghost use Rattle.ap_books.specs.Plan.{is_name_byte, begins_well, is_book_name, one_more, plan_of};
+ghost use Rattle.ap_books.specs.Plan.{one_more, plan_of};
 ghost use Rattle.ap_books.specs.declared.planning.PlanError.TheVariants as errors;
 
+use ap_cert::is_book_name;
 use ap_list::{Bytes, Seq};
 use ap_value::BookName;
 use std::alloc::{AllocError, Global};
@@ -30,41 +31,6 @@ impl From<AllocError> for PlanError {
     fn from(_error: AllocError) -> PlanError {
         PlanError::NoMemory
     }
-}
-
-/// Whether a byte may stand in a name: a letter, a digit, a hyphen or an underscore.
-fn is_name_byte(byte: u8) -> bool
-    ensures { result ≡ is_name_byte byte }
-{
-    (97 <= byte && byte <= 122)
-        || (65 <= byte && byte <= 90)
-        || (48 <= byte && byte <= 57)
-        || byte == 45
-        || byte == 95
-}
-
-/// Whether a name has a first byte and that isn't a hyphen.
-fn begins_well(name: &[u8]) -> bool
-    ensures { result ≡ begins_well name.now }
-{
-    match name {
-        [] => false,
-        [first, ..] => *first != 45,
-    }
-}
-
-fn are_name_bytes(name: &[u8]) -> bool
-    ensures { result ≡ list_all is_name_byte name.now }
-{
-    name.iter().all(|byte| is_name_byte(*byte))
-}
-
-/// Whether a word is a book's name: 1 to 64 of the bytes `a-z A-Z 0-9 - _`, a hyphen not first. Takes no memory.
-#[tactic(auto, unfolding(crate::specs::Plan::is_book_name))]
-pub fn is_book_name(word: &[u8]) -> bool
-    ensures { result ≡ is_book_name word.now }
-{
-    begins_well(word) && word.len() <= 64 && are_name_bytes(word)
 }
 
 /// Whether a word is among names.

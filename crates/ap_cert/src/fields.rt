@@ -37,9 +37,9 @@ fn are_name_bytes(name: &[u8]) -> bool
     name.iter().all(|byte| is_name_byte(*byte))
 }
 
-/// Whether a text is a book's name: 1 to 64 of the bytes `a-z A-Z 0-9 - _`, a hyphen not first.
+/// Whether a text is a book's name: 1 to 64 of the bytes `a-z A-Z 0-9 - _`, a hyphen not first. Takes no memory.
 #[tactic(auto, unfolding(crate::specs::Cert::is_book_name))]
-fn is_book_name(name: &[u8]) -> bool
+pub fn is_book_name(name: &[u8]) -> bool
     ensures { result ≡ is_book_name name.now }
 {
     begins_well(name) && name.len() <= 64 && are_name_bytes(name)

@@ -26,6 +26,7 @@ mod writing;
 pub use ap_value::{BookName, Bytes, NoMemory, Seq};
 pub use cert::{Cert, CertError};
 pub use digest::digest_of;
+pub use fields::is_book_name;
 pub use laws::certificates_read_one_way;
 pub use reading::read_cert;
 pub use writing::write_v1;

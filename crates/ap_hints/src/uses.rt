@@ -10,22 +10,10 @@ use crate::fault::HintError;
 use crate::terms::term;
 use ap_list::{NoMemory, Seq};
 use ap_reader::{Form, is_keyword, items, symbol};
-use ap_term::{Subst, Term, is_symbol, vars};
+use ap_term::{Subst, Term, is_among, is_symbol, vars};
 use ap_value::{Symbol, copy_symbol};
 use ap_world::World;
 use std::alloc::Global;
-
-/// Whether a symbol is one of a list.
-fn is_among(symbol: &Symbol, list: &[Symbol]) -> bool
-    ensures { result ≡ is_among symbol_eq symbol.now list.now }
-{
-    for other in list {
-        if is_symbol(symbol, other) {
-            return true;
-        }
-    }
-    false
-}
 
 /// Whether a variable is replaced.
 fn is_replaced(variable: &Symbol, pairs: &[(Symbol, Term)]) -> bool

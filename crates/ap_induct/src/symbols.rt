@@ -3,20 +3,8 @@ ghost use Rattle.ap_list.specs.Lists.{all_true, is_among, is_distinct, is_within
 ghost use Rattle.ap_value.specs.Values.{symbol_eq};
 ghost use Rattle.ap_induct.specs.Choosing.{are_same};
 
-use ap_kernel::is_symbol;
+use ap_term::is_among;
 use ap_value::Symbol;
-
-/// Whether a symbol is one of a list. Takes no memory.
-pub(crate) fn is_among(x: &Symbol, list: &[Symbol]) -> bool
-    ensures { result ≡ is_among symbol_eq x.now list.now }
-{
-    for y in list {
-        if is_symbol(x, y) {
-            return true;
-        }
-    }
-    false
-}
 
 /// Whether no symbol of a list comes again. Takes no memory.
 pub(crate) fn is_distinct(list: &[Symbol]) -> bool

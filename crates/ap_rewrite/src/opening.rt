@@ -20,11 +20,11 @@ use crate::branching::{both, choose, go_on};
 use crate::engines::answered;
 use crate::rewriter::{Level, Place, Rewriter, Run, Tried, deeper};
 use crate::rows::{follow, opened};
-use crate::sizes::{has_small_instance, is_among, is_small, truth_of};
+use crate::sizes::{has_small_instance, is_small, truth_of};
 use ap_kernel::{
     Ctx, Equiv, Mode, NoMemory, Seq, ShapeRef, Symbol, Term, TypeOracle, pairs_of, shape_of, subst,
 };
-use ap_term::copy_term;
+use ap_term::{copy_term, is_among};
 use ap_value::copy_symbol;
 use ap_world::{Function, RuneKind};
 use std::alloc::Global;

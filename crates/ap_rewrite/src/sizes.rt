@@ -1,11 +1,9 @@
 // Tests on terms by which the rewriter chooses.
 ghost use Rattle.std.specs.Prelude.{◌≡◌, ◌*◌, nat_le, IsTrue, IfSome};
-ghost use Rattle.ap_list.specs.Lists.{is_among};
-ghost use Rattle.ap_value.specs.Values.{symbol_eq};
 ghost use Rattle.ap_term.specs.Terms.{term_size};
 ghost use Rattle.ap_rewrite.specs.Rewriting.{most_nodes, truth_of};
 
-use ap_kernel::{ShapeRef, Symbol, Term, is_nil, is_symbol, shape_of};
+use ap_kernel::{ShapeRef, Term, is_nil, shape_of};
 use ap_term::size;
 
 /// Whether a constant means something else than `nil`; `None` of another term. Takes no memory.
@@ -44,16 +42,4 @@ pub fn has_small_instance(body: &Term, call: &Term) -> bool
         Some(nodes) => nodes <= 4096,
         None => false,
     }
-}
-
-/// Whether a symbol is one of a list. Takes no memory.
-pub fn is_among(x: &Symbol, list: &[Symbol]) -> bool
-    ensures { result ≡ is_among symbol_eq x.now list.now }
-{
-    for y in list {
-        if is_symbol(x, y) {
-            return true;
-        }
-    }
-    false
 }

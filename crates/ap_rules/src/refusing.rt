@@ -1,5 +1,5 @@
 ghost use Rattle.std.specs.Prelude.{◌≡◌, ◌∷◌, [], IfOk, map};
-ghost use Rattle.ap_list.specs.Lists.{is_among, is_within, in_turn};
+ghost use Rattle.ap_list.specs.Lists.{is_within, in_turn};
 ghost use Rattle.ap_value.specs.Values.{symbol_eq};
 ghost use Rattle.ap_term.specs.declared.term.Term.{out-Term};
 ghost use Rattle.ap_term.specs.Terms.{vars_after};
@@ -9,7 +9,7 @@ ghost use Rattle.ap_rules.specs.Refused.{first_refusal, left_refusal, right_refu
 
 use crate::rule::RewriteRule;
 use ap_list::{Fixed, NoMemory, Seq};
-use ap_term::{Term, copy_term, is_symbol, vars};
+use ap_term::{Term, copy_term, is_among, vars};
 use ap_value::{Symbol, named};
 use ap_world::is_if;
 use std::alloc::{AllocError, Global};
@@ -37,18 +37,6 @@ impl From<AllocError> for RuleError {
     fn from(_error: AllocError) -> RuleError {
         RuleError::NoMemory
     }
-}
-
-/// Whether a symbol is one of a list.
-fn is_among(x: &Symbol, list: &[Symbol]) -> bool
-    ensures { result ≡ is_among symbol_eq x.now list.now }
-{
-    for y in list {
-        if is_symbol(x, y) {
-            return true;
-        }
-    }
-    false
 }
 
 /// Whether each symbol of a list is one of another.

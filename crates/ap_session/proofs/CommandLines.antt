@@ -5,7 +5,7 @@ use Rattle.std.proofs.lemmas.Fmt.{decimal_injective}
 use Rattle.std.proofs.Math.Bridge.{le_prop}
 use Rattle.ap_list.specs.Lists.{Each}
 use Rattle.ap_value.proofs.Equals.{both, and_true}
-use Rattle.ap_books.specs.Plan.{is_book_name, begins_well}
+use Rattle.ap_cert.specs.Cert.{is_book_name, begins_well}
 use Rattle.ap_plain.specs.Bounds.{WithinLimits}
 use Rattle.ap_plain.specs.Limits.{are_limits, are_within, limits_by, limits_of}
 use Rattle.ap_plain.specs.declared.limits.Limits.{Limits}

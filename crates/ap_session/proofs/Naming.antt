@@ -8,7 +8,8 @@ use Rattle.ap_value.specs.Values.{bytes_eq}
 use Rattle.ap_value.specs.declared.symbol.BookName.{BookName}
 use Rattle.ap_value.proofs.Equals.{bytes_eq-true, bytes_eq-same}
 use Rattle.ap_books.specs.declared.planning.PlanError.{PlanError}
-use Rattle.ap_books.specs.Plan.{is_book_name, one_more, go_on, planned, plan_of}
+use Rattle.ap_cert.specs.Cert.{is_book_name}
+use Rattle.ap_books.specs.Plan.{one_more, go_on, planned, plan_of}
 use Rattle.ap_session.specs.Command.{are_some, are_books}
 use Rattle.ap_session.specs.CommandLines.{Apart, AreNames}
 

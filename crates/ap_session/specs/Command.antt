@@ -5,7 +5,8 @@ use Rattle.std.specs.List.{list_all}
 use Rattle.ap_value.specs.Values.{bytes_eq}
 use Rattle.ap_value.specs.declared.symbol.BookName.{BookName}
 use Rattle.ap_books.specs.declared.planning.PlanError.{PlanError}
-use Rattle.ap_books.specs.Plan.{is_between, plan_of}
+use Rattle.ap_cert.specs.Cert.{is_between}
+use Rattle.ap_books.specs.Plan.{plan_of}
 use Rattle.ap_plain.specs.declared.limits.Limits.{Limits}
 use Rattle.ap_plain.specs.Limits.{limits_of}
 use Rattle.ap_session.specs.declared.command.Order as orders

@@ -2,7 +2,7 @@
 -- them the names of books; or the demo, and how many goals are worked at a time where that is given.
 use Rattle.std.specs.Prelude.{◌≡◌, ◌≤◌, ◌↔◌, ◌⊎◌, ℕ, true, List, [], ◌∷◌, ◌++◌, map, length, Some, None, IsTrue, codes, decimal}
 use Rattle.ap_list.specs.Lists.{Each, AnyOf, joined}
-use Rattle.ap_books.specs.Plan.{is_book_name}
+use Rattle.ap_cert.specs.Cert.{is_book_name}
 use Rattle.ap_session.specs.declared.command.Counted.{Counted}
 use Rattle.ap_session.specs.declared.command.Counted.TheVariants.{Workers, Steps, Goals, Revert, Functions}
 use Rattle.ap_session.specs.declared.command.Flag.{Flag}

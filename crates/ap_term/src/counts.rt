@@ -1,4 +1,4 @@
-ghost use Rattle.std.specs.Prelude.{◌≡◌, ◌+◌, ◌-◌, ◌^◌, ◌<◌, IfSome, IfNone, map};
+ghost use Rattle.std.specs.Prelude.{◌≡◌, ◌+◌, ◌-◌, ◌^◌, ◌<◌, ◌≤◌, IfSome, IfNone, map};
 ghost use Rattle.ap_list.specs.Lists.{sum_of};
 ghost use Rattle.ap_term.specs.Order.{variables_in, functions_in, constants_in};
 ghost use Rattle.ap_term.specs.Terms.{term_size};
@@ -15,9 +15,25 @@ pub struct TermCounts {
     pub constants: u64,
 }
 
-/// The counts of a term. `None` only where its nodes pass 64 bits.
-#[cycle(counting)]
+/// The counts of a term. `None` exactly where its nodes pass 64 bits.
 pub fn counts(t: &Term) -> Option<TermCounts>
+    ensures variables { IfSome result (λ c. c.variables ≡ variables_in t.now) }
+    ensures functions { IfSome result (λ c. c.functions ≡ functions_in t.now) }
+    ensures constants { IfSome result (λ c. c.constants ≡ constants_in t.now) }
+    ensures within { IfSome result (λ _. term_size t.now ≤ 2 ^ 64 - 1) }
+    ensures past { IfNone result (2 ^ 64 - 1 < term_size t.now) }
+{
+    let counted = counts_each(t)?;
+    let _nodes = counted
+        .variables
+        .checked_add(counted.functions)?
+        .checked_add(counted.constants)?;
+    Some(counted)
+}
+
+/// The counts of a term. `None` where one of them passes 64 bits.
+#[cycle(counting)]
+fn counts_each(t: &Term) -> Option<TermCounts>
     ensures variables { IfSome result (λ c. c.variables ≡ variables_in t.now) }
     ensures functions { IfSome result (λ c. c.functions ≡ functions_in t.now) }
     ensures constants { IfSome result (λ c. c.constants ≡ constants_in t.now) }
@@ -59,7 +75,7 @@ fn counts_of(xs: &[Term]) -> Option<TermCounts>
     let mut functions = 0u64;
     let mut constants = 0u64;
     for x in xs {
-        let more = counts(x)?;
+        let more = counts_each(x)?;
         variables = variables.checked_add(more.variables)?;
         functions = functions.checked_add(more.functions)?;
         constants = constants.checked_add(more.constants)?;

@@ -15,8 +15,8 @@ pub fn is_symbol(a: &Symbol, b: &Symbol) -> bool
     same_symbol(a, b)
 }
 
-/// Whether a symbol is one of a list.
-fn is_among(x: &Symbol, list: &[Symbol]) -> bool
+/// Whether a symbol is one of a list. Takes no memory.
+pub fn is_among(x: &Symbol, list: &[Symbol]) -> bool
     ensures { result ≡ is_among symbol_eq x.now list.now }
 {
     for y in list {

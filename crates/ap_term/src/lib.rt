@@ -16,8 +16,8 @@ mod term;
 pub use ap_list::SharedSeq;
 pub use ap_value::{Boxed, Bytes, NoMemory, Seq, Shared, Symbol, Text, Value};
 pub use atoms::reads_back;
-pub use instance::{is_symbol, pairs_of, subst, subst_all, vars};
-pub use matching::{is_same, matches_are_least, one_way_match};
+pub use instance::{is_among, is_symbol, pairs_of, subst, subst_all, vars};
+pub use matching::{is_same, is_term_among, matches_are_least, one_way_match};
 pub use order::{term_less, term_order_is_total, terms_print_apart};
 pub use steps::{Spent, Steps};
 pub use term::{

@@ -1,6 +1,6 @@
 ghost use Rattle.std.specs.Prelude.{◌≡◌, cond, IfOk, Some, None, map};
 ghost use Rattle.std.specs.Option.{option_map};
-ghost use Rattle.ap_list.specs.Lists.{lookup_by};
+ghost use Rattle.ap_list.specs.Lists.{is_among, lookup_by};
 ghost use Rattle.ap_value.specs.Values.{symbol_eq};
 ghost use Rattle.ap_term.specs.declared.term.Term.{out-Term};
 ghost use Rattle.ap_term.specs.Equal.{term_eq};
@@ -16,6 +16,18 @@ pub fn is_same(a: &Term, b: &Term) -> bool
     ensures { result ≡ term_eq a.now b.now }
 {
     same_term(a, b)
+}
+
+/// Whether a term is one of a list. Takes no memory.
+pub fn is_term_among(t: &Term, list: &[Term]) -> bool
+    ensures { result ≡ is_among term_eq t.now list.now }
+{
+    for u in list {
+        if is_same(t, u) {
+            return true;
+        }
+    }
+    false
 }
 
 /// Whether a variable's term is this one; where it has none, it gets this one at the end.

@@ -1,4 +1,4 @@
-ghost use Rattle.std.specs.Prelude.{◌≡◌, ◌-◌, ◌^◌, ◌<◌, ◌⊎◌, true, false, IfSome, IfNone};
+ghost use Rattle.std.specs.Prelude.{◌≡◌, ◌-◌, ◌^◌, ◌<◌, ◌≤◌, ◌⊎◌, true, false, IfSome, IfNone};
 ghost use Rattle.ap_term.specs.declared.term.Term.{Term};
 ghost use Rattle.ap_term.specs.Printed.{term_text};
 ghost use Rattle.ap_term.specs.Terms.{term_fits, term_size};
@@ -26,11 +26,12 @@ pub fn terms_print_apart()
 {}
 
 /// Whether a term comes before another: by fewer variable occurrences, then by fewer function symbols,
-/// then by fewer nodes in constants, then by the printed bytes, as in a dictionary. `None` only where the
+/// then by fewer nodes in constants, then by the printed bytes, as in a dictionary. `None` exactly where the
 /// nodes of one of them pass 64 bits. It takes no memory, and the bytes aren't written. The order is as in
 /// the manual's topic `term-order`.
 pub fn term_less(a: &Term, b: &Term) -> Option<bool>
     ensures value { IfSome result (λ less. less ≡ term_less a.now b.now) }
+    ensures within { IfSome result (λ _. (term_size a.now ≤ 2 ^ 64 - 1) × (term_size b.now ≤ 2 ^ 64 - 1)) }
     ensures past { IfNone result ((2 ^ 64 - 1 < term_size a.now) ⊎ (2 ^ 64 - 1 < term_size b.now)) }
 {
     let left = counts(a)?;

@@ -1,5 +1,4 @@
 ghost use Rattle.std.specs.Prelude.{◌≡◌, IfOk, get_or};
-ghost use Rattle.ap_list.specs.Lists.{is_among};
 ghost use Rattle.ap_value.specs.Values.{symbol_eq, acl2};
 ghost use Rattle.ap_world.specs.Names.{t_name, nil_name};
 ghost use Rattle.ap_world.specs.Primitives.{prim_arity};
@@ -7,7 +6,7 @@ ghost use Rattle.ap_translate.specs.Names.{is_constant, is_starred, can_be_bound
 
 use crate::macros::is_macro;
 use ap_list::NoMemory;
-use ap_term::is_symbol;
+use ap_term::is_among;
 use ap_value::Symbol;
 use ap_world::Primitive;
 use std::alloc::Global;
@@ -39,20 +38,6 @@ pub(crate) fn is_starred(name: &[u8]) -> bool
     ensures { result ≡ is_starred name.now }
 {
     name.len() >= 3 && name[0] == b'*' && name[name.len() - 1] == b'*'
-}
-
-/// Whether a symbol is one of the list.
-pub(crate) fn is_among(symbol: &Symbol, list: &[Symbol]) -> bool
-    ensures { result ≡ is_among symbol_eq symbol.now list.now }
-{
-    let mut left = list;
-    while let [first, rest @ ..] = left {
-        if is_symbol(symbol, first) {
-            return true;
-        }
-        left = rest;
-    }
-    false
 }
 
 /// Whether a symbol may be a variable besides those that are bound already.

@@ -12,12 +12,12 @@ ghost use Rattle.ap_translate.specs.Table.{scope_of, variables, with_bound, cons
 
 use crate::constant::constant;
 use crate::fault::{TransError, TransKind, refused_at};
-use crate::names::{acl2, can_be_bound, is_among, is_constant, is_starred};
+use crate::names::{acl2, can_be_bound, is_constant, is_starred};
 use crate::parts::{Name, name_in};
 use crate::sizes::small;
 use ap_list::{NoMemory, Seq};
 use ap_reader::Form;
-use ap_term::{Term, copy_symbols};
+use ap_term::{Term, copy_symbols, is_among};
 use ap_value::{Symbol, Value, copy, copy_symbol, nodes};
 use ap_world::World;
 use std::alloc::Global;

@@ -1,6 +1,4 @@
 ghost use Rattle.std.specs.Prelude.{◌≡◌, IfOk, OnOk, ◌||◌};
-ghost use Rattle.ap_list.specs.Lists.{is_among};
-ghost use Rattle.ap_value.specs.Values.{symbol_eq};
 ghost use Rattle.ap_term.specs.declared.term.Term.{out-Term};
 ghost use Rattle.ap_world.specs.Shapes.{shape_of};
 ghost use Rattle.ap_kernel.specs.Induction.{is_variable};
@@ -8,21 +6,9 @@ ghost use Rattle.ap_weaken.specs.Irrelevance.{vars_of, have_common, united, grow
 
 use ap_kernel::{ShapeRef, shape_of};
 use ap_list::{NoMemory, Seq};
-use ap_term::{Term, is_symbol, vars};
+use ap_term::{Term, is_among, vars};
 use ap_value::{Symbol, copy_symbol};
 use std::alloc::Global;
-
-/// Whether a variable is one of some. Takes no memory.
-fn is_among(x: &Symbol, list: &[Symbol]) -> bool
-    ensures { result ≡ is_among symbol_eq x.now list.now }
-{
-    for y in list {
-        if is_symbol(x, y) {
-            return true;
-        }
-    }
-    false
-}
 
 /// Whether one of the second variables is one of the first. Takes no memory.
 fn have_common(names: &[Symbol], others: &[Symbol]) -> bool

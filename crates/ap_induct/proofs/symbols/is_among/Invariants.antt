@@ -1,8 +1,0 @@
-use Rattle.std.proofs.Common.{◌≡◌, drop}
-use Rattle.ap_list.specs.Lists.{is_among}
-use Rattle.ap_value.specs.Values.{symbol_eq}
-use Rattle.ap_induct.proofs.symbols.is_among.Given as goal
-
--- those that are left decide
-abbrev pub invariant-loop-y : goal.invariant-loop-y
-invariant-loop-y l = is_among symbol_eq l.x (drop l.y-index l.list) ≡ is_among symbol_eq l.x l.list
