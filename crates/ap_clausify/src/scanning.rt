@@ -4,9 +4,9 @@ ghost use Rattle.ap_kernel.specs.Tidying.{is_bare, is_plain, negates, is_denied}
 ghost use Rattle.ap_clausify.specs.Scanning.{closed_by, is_kept, Ready, Finds};
 
 use crate::places::{Place, USUAL_DEPTH, find};
-use ap_kernel::{ShapeRef, is_among, is_constant, is_same, shape_of};
+use ap_kernel::{ShapeRef, is_constant, is_same, shape_of};
 use ap_list::{NoMemory, Seq};
-use ap_term::{Clause, Term};
+use ap_term::{Clause, Term, is_term_among};
 use std::alloc::Global;
 
 /// What a search from a clause's cursor on finds: the `if` that is split first, that the literals before hold
@@ -43,7 +43,7 @@ fn is_plain(t: &Term) -> bool
 fn is_kept(before: &[Term], t: &Term) -> bool
     ensures { result ≡ is_kept before.now t.now }
 {
-    is_plain(t) && !is_constant(false, t) && !is_among(t, before)
+    is_plain(t) && !is_constant(false, t) && !is_term_among(t, before)
 }
 
 /// Whether literals are tidy with one more behind them that doesn't close them, by whether they are without it.
@@ -83,7 +83,7 @@ fn is_closed_by(before: &[Term], t: &Term) -> bool
 {
     match shape_of(t) {
         ShapeRef::Constant(_) => is_constant(true, t),
-        ShapeRef::Not(a) => is_bare(a) && is_among(a, before),
+        ShapeRef::Not(a) => is_bare(a) && is_term_among(a, before),
         _ => is_denied(before, t),
     }
 }

@@ -1,5 +1,4 @@
 pub mod Standing
-pub mod Symbols
 pub mod CallsStand
 pub mod Typed
 pub mod EquationsStand
@@ -29,6 +28,5 @@ pub mod Candidate
 pub mod Inducting
 pub mod InductFollows
 pub mod Listed
-pub mod Heads
 pub mod PlainForm
 pub mod Closing

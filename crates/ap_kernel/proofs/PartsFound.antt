@@ -1,5 +1,5 @@
 -- The conjuncts of a term, and the hypotheses and conclusion of a theorem's, by what is lent of it.
-use Rattle.std.proofs.Common.{◌≡◌, ℕ, zero, suc, ◌+◌, Bool, true, false, cond, List, [], ◌∷◌, ◌++◌, length, Option, Some, None, slice_get, refl, ap, sym, ◌∙◌, subst, arith, append_assoc, IfErr, Result, Ok, Err, Bor}
+use Rattle.std.proofs.Common.{◌≡◌, ℕ, zero, suc, ◌+◌, Bool, true, false, cond, List, [], ◌∷◌, ◌++◌, length, Option, Some, None, slice_get, refl, ap, sym, ◌∙◌, subst, arith, IfErr, Result, Ok, Err, Bor}
 use Rattle.std.proofs.Math.ListN.{length-append}
 use Rattle.ap_value.specs.declared.symbol.Symbol.{Symbol}
 use Rattle.ap_value.specs.Values.{symbol_eq}
@@ -118,10 +118,6 @@ found_second xs ys j i x e h = ap (slice_get (xs ++ ys)) (sym e) ∙ found_later
 
 pub past_both : {A : Type 0} (xs ys : List A) (k j i : ℕ) → length xs + j ≡ i → length ys + k ≡ j → length (xs ++ ys) + k ≡ i
 past_both xs ys k j i e h = let l : length (xs ++ ys) ≡ length xs + length ys = length-append xs ys in omega (arith, l)
-
--- what is added by two steps
-pub by_steps : (out new xs ys zs : List Term) → zs ≡ xs ++ ys → new ≡ out ++ xs → out ++ zs ≡ new ++ ys
-by_steps out new xs ys zs e h = ap (λ us. out ++ us) e ∙ sym (append_assoc out xs ys) ∙ ap (λ us. us ++ ys) (sym h)
 
 pub past_on : (r : Result (Bor Term) ℕ) (xs ys : List Term) (j i : ℕ) → length xs + j ≡ i → IfErr r (λ k. length ys + k ≡ j) → IfErr r (λ k. length (xs ++ ys) + k ≡ i)
 past_on (Ok u) xs ys j i e h = tt

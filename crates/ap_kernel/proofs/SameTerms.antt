@@ -8,9 +8,9 @@ use Rattle.ap_world.specs.Names.{equal_name}
 use Rattle.ap_world.specs.Shapes.{Shape, constant, choice, negation, equation, pair, other, head_of, call_shape, shape_of, equal_head}
 use Rattle.ap_world.proofs.Equations.{names_open}
 use Rattle.ap_world.proofs.Shaped.{Says, shape_says, shape_call}
-use Rattle.ap_kernel.specs.declared.shapes.ShapeRef.{ShapeRef}
-use Rattle.ap_kernel.specs.declared.shapes.ShapeRef.TheVariants as lent
-use Rattle.ap_kernel.specs.Shapes.{seen}
+use Rattle.ap_world.specs.declared.shapes.ShapeRef.{ShapeRef}
+use Rattle.ap_world.specs.declared.shapes.ShapeRef.TheVariants as lent
+use Rattle.ap_world.specs.Lent.{seen}
 use Rattle.ap_kernel.specs.Equations.{equal_of}
 
 head_equal : head_of equal_name ≡ equal_head

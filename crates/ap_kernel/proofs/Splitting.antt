@@ -21,10 +21,10 @@ use Rattle.ap_world.proofs.TotalMeaning.{Apply, Models, models, val, values_of, 
 use Rattle.ap_world.proofs.Equations.{names_open, val_if, nil-eq}
 use Rattle.ap_world.proofs.Starting.{val_not}
 use Rattle.ap_world.proofs.Shaped.{Says, shape_says}
-use Rattle.ap_kernel.specs.declared.shapes.ShapeRef.{ShapeRef}
-use Rattle.ap_kernel.specs.declared.shapes.ShapeRef.TheVariants as lent
+use Rattle.ap_world.specs.declared.shapes.ShapeRef.{ShapeRef}
+use Rattle.ap_world.specs.declared.shapes.ShapeRef.TheVariants as lent
 use Rattle.ap_kernel.specs.Standing.{DefinesNot}
-use Rattle.ap_kernel.specs.Shapes.{seen}
+use Rattle.ap_world.specs.Lent.{seen}
 use Rattle.ap_kernel.specs.declared.reductions.Inference.{Inference}
 use Rattle.ap_kernel.specs.Answers.{if_of}
 use Rattle.ap_kernel.specs.Reductions.{KnownClause, Follows, put_at, others}

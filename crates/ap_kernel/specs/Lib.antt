@@ -1,5 +1,4 @@
 pub mod Standing
-pub mod Shapes
 pub mod Assume
 pub mod Answers
 pub mod Masks

@@ -7,11 +7,10 @@ ghost use Rattle.ap_world.specs.Assume.{parts, assumed, assume};
 ghost use Rattle.ap_kernel.specs.Assume.{seen_halves};
 ghost use Rattle.ap_kernel.specs.Reductions.{others, all_false};
 
-use crate::constants::is_nil;
 use crate::objects::Ctx;
-use crate::shapes::{ShapeRef, shape_of};
 use ap_list::{NoMemory, Seq};
 use ap_term::{Term, copy_term};
+use ap_world::{ShapeRef, is_nil, shape_of};
 use std::alloc::Global;
 
 /// What a term's sign says of its parts: nothing more, one part's sign, or two parts' signs.

@@ -11,13 +11,12 @@ ghost use Rattle.ap_kernel.specs.Standing.{DefinesNot, Stands};
 ghost use Rattle.ap_kernel.specs.Answers.{if_of, branch_made, chosen_made, IsArgument, said, lefts, rights, cong_made};
 
 use crate::choices::copied_if;
-use crate::constants::if_symbol;
 use crate::lists::three;
 use crate::objects::{Ctx, Equiv, Mode};
 use ap_list::{NoMemory, Seq};
 use ap_term::{Term, copy_term};
 use ap_value::{Symbol, copy_symbol};
-use ap_world::World;
+use ap_world::{World, if_symbol};
 use std::alloc::Global;
 
 /// The left sides, copied, in order.

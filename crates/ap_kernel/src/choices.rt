@@ -11,13 +11,11 @@ ghost use Rattle.ap_kernel.specs.Answers.{if_of};
 ghost use Rattle.ap_kernel.specs.Choices.{bare, bare_test, is_t_constant, is_truth, by_branches, if_shape, by_constant, choice_leads, is_choice, choice_made, seen_chosen};
 
 use crate::assuming::is_constant;
-use crate::constants::{if_symbol, is_nil, is_t, not_symbol};
 use crate::lists::one;
 use crate::objects::{Ctx, Equiv, Mode};
-use crate::shapes::{ShapeRef, shape_of};
 use ap_list::{NoMemory, Seq};
 use ap_term::{Term, copy_term, is_same};
-use ap_world::{Mask, World, masks};
+use ap_world::{Mask, ShapeRef, World, if_symbol, is_nil, is_t, masks, not_symbol, shape_of};
 use std::alloc::Global;
 
 /// What an `if` leads to: one of its parts, the negation of its test, or an `if`.

@@ -10,14 +10,12 @@ ghost use Rattle.ap_kernel.specs.Standing.{Stands};
 ghost use Rattle.ap_kernel.specs.Equations.{equal_of, truth_constant, cons_parts, apart, sides_lead, equation_leads, equation_made, seen_parts, seen_leads};
 
 use crate::calls::if_term;
-use crate::constants::{equal_symbol, nil_term, t_term};
 use crate::lists::two;
 use crate::objects::{Ctx, Equiv, Mode};
-use crate::shapes::{ShapeRef, shape_of};
 use ap_list::NoMemory;
 use ap_term::{Term, copy_term, is_same};
 use ap_value::{Value, copy};
-use ap_world::World;
+use ap_world::{ShapeRef, World, equal_symbol, nil_term, shape_of, t_term};
 use std::alloc::Global;
 
 /// The two parts of a cons: terms, or values that are constants.

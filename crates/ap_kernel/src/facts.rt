@@ -4,11 +4,10 @@ ghost use Rattle.ap_world.specs.Facts.{KnownFacts};
 ghost use Rattle.ap_kernel.specs.Standing.{Stands};
 ghost use Rattle.ap_kernel.specs.Answers.{fact_made};
 
-use crate::constants::{nil_term, t_term};
 use crate::objects::{Ctx, Equiv, Mode};
 use ap_list::NoMemory;
 use ap_term::Term;
-use ap_world::World;
+use ap_world::{World, nil_term, t_term};
 use std::alloc::Global;
 
 /// The fact at a place, lent.

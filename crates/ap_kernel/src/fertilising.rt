@@ -13,11 +13,10 @@ use crate::equations::equal_term;
 use crate::lists::{one, one_pair};
 use crate::literals::{put_at, to_one};
 use crate::reductions::Reduction;
-use crate::shapes::{ShapeRef, shape_of};
 use crate::swapping::{contains, swapped};
 use ap_list::{NoMemory, Seq};
 use ap_term::{Clause, Term, copy_term};
-use ap_world::World;
+use ap_world::{ShapeRef, World, shape_of};
 use std::alloc::Global;
 
 /// Whether a term is a constant. Takes no memory.

@@ -10,13 +10,12 @@ ghost use Rattle.ap_kernel.specs.Standing.{Stands};
 ghost use Rattle.ap_kernel.specs.Equations.{equal_of};
 ghost use Rattle.ap_kernel.specs.Linear.{compares, is_comparison, PolysHold, refuted_made, less_of, is_within_integers, not_less_made, equal_made, NeitherLess};
 
-use crate::constants::{equal_symbol, t_term};
 use crate::equations::truth_term;
 use crate::objects::{Ctx, Equiv, Mode};
 use ap_list::{NoMemory, Seq};
 use ap_poly::Poly;
 use ap_term::Term;
-use ap_world::{Mask, Primitive, World, primitive_of};
+use ap_world::{Mask, Primitive, World, equal_symbol, primitive_of, t_term};
 use std::alloc::Global;
 
 /// What refutes polynomials. The kernel doesn't trust it: what it answers is proved by whoever implements it.

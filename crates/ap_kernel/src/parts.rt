@@ -1,20 +1,16 @@
 ghost use Rattle.std.specs.Prelude.{◌≡◌, ◌+◌, ◌<◌, ◌++◌, IfOk, IfErr, IfSome, OnOk, Some, length, slice_get};
 ghost use Rattle.std.specs.Option.{option_copied, option_map};
-ghost use Rattle.ap_value.specs.Values.{symbol_eq};
 ghost use Rattle.ap_term.specs.declared.term.Term.{out-Term};
 ghost use Rattle.ap_term.specs.Terms.{term_size, subst_of};
 ghost use Rattle.ap_world.specs.Clauses.{conjuncts};
-ghost use Rattle.ap_world.specs.Names.{iff_name};
 ghost use Rattle.ap_world.specs.Rules.{stated, sides};
 ghost use Rattle.ap_world.specs.Shapes.{shape_of};
 ghost use Rattle.ap_kernel.specs.Applying.{mode_in, joined_parts, implied_parts, seen_sides};
 
-use crate::constants::{is_nil_term, nil_term, t_term};
 use crate::objects::Mode;
-use crate::shapes::{ShapeRef, is_equal, is_implies, is_not, shape_of};
 use ap_list::{NoMemory, Seq};
-use ap_term::{Subst, Term, copy_term, subst};
-use ap_value::{Symbol, is_named};
+use ap_term::{Subst, Term, subst};
+use ap_world::{ShapeRef, is_equal, is_iff, is_implies, is_nil_term, is_not, nil_term, push_conjuncts, shape_of, t_term};
 use std::alloc::Global;
 
 /// What a conjunct of a theorem's conclusion says: that two terms are equal, that both are `nil` or both not,
@@ -25,14 +21,6 @@ enum Reading<'a> {
     Iff(&'a Term, &'a Term),
     Nil(&'a Term),
     True(&'a Term),
-}
-
-/// Whether a symbol is `iff`. Takes no memory.
-#[tactic(auto, unfolding(ap_world::specs::Names::iff_name))]
-pub fn is_iff(symbol: &Symbol) -> bool
-    ensures { result ≡ symbol_eq symbol.now iff_name }
-{
-    is_named(symbol, b"IFF")
 }
 
 /// The parts `a` and `b` of `(if a b 'NIL)`.
@@ -63,19 +51,6 @@ fn implied_parts(t: &Term) -> Option<(&Term, &Term)>
         },
         Term::Var(_) => None,
         Term::Quote(_) => None,
-    }
-}
-
-/// Adds a term's conjuncts: those of `(if a b 'NIL)` are `a`'s and `b`'s, and another term is its own.
-fn push_conjuncts(alloc: Global, out: &mut Seq<Term>, t: &Term) -> Result<(), NoMemory>
-    ensures { OnOk result (out.new ≡ out.old ++ conjuncts t.now) }
-{
-    match joined_parts(t) {
-        Some((a, b)) => {
-            push_conjuncts(alloc, out, a)?;
-            push_conjuncts(alloc, out, b)
-        }
-        None => out.push(copy_term(alloc, t)?),
     }
 }
 

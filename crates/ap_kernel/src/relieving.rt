@@ -3,13 +3,12 @@ ghost use Rattle.ap_world.specs.Holding.{part_of};
 ghost use Rattle.ap_kernel.specs.Applying.{LeadsToTrue, AllLead, PartRelieved};
 
 use crate::applying::has_part;
-use crate::constants::t_term;
 use crate::objects::{Ctx, Equiv};
 use crate::parts::hypotheses;
 use ap_list::NoMemory;
 use ap_term::{Subst, Term, same_term, subst};
 use ap_value::Symbol;
-use ap_world::World;
+use ap_world::{World, t_term};
 use std::alloc::Global;
 
 /// Whether two lists of facts are one. Takes no memory.

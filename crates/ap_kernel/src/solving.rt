@@ -9,11 +9,10 @@ ghost use Rattle.ap_kernel.specs.Solving.{occurs, occurs_in, side_solved, sides_
 use crate::lists::copied_pair;
 use crate::literals::{put_at, to_one};
 use crate::reductions::Reduction;
-use crate::shapes::{ShapeRef, shape_of};
 use ap_list::{NoMemory, Seq};
 use ap_term::{Clause, Subst, Term, is_symbol, subst_all};
 use ap_value::Symbol;
-use ap_world::World;
+use ap_world::{ShapeRef, World, shape_of};
 use std::alloc::Global;
 
 /// Whether a variable occurs in a term. Takes no memory.

@@ -13,11 +13,10 @@ use crate::choices::not_term;
 use crate::lists::{one, two, two_clauses};
 use crate::literals::put_at;
 use crate::reductions::Reduction;
-use crate::shapes::{ShapeRef, shape_of};
 use ap_list::{NoMemory, Seq};
 use ap_term::{Clause, Subst, Term, copy_term, subst};
 use ap_value::{Symbol, copy_symbol};
-use ap_world::World;
+use ap_world::{ShapeRef, World, shape_of};
 use std::alloc::Global;
 
 /// The part of a term that the places of arguments lead to, the outermost first. Takes no memory.

@@ -1,6 +1,4 @@
 ghost use Rattle.std.specs.Prelude.{◌≡◌, IfOk, IsTrue, MatchOption};
-ghost use Rattle.ap_list.specs.Lists.{is_among};
-ghost use Rattle.ap_term.specs.Equal.{term_eq};
 ghost use Rattle.ap_world.specs.World.{function_of};
 ghost use Rattle.ap_world.specs.Shapes.{shape_of};
 ghost use Rattle.ap_kernel.specs.Standing.{DefinesNot};
@@ -9,13 +7,11 @@ ghost use Rattle.ap_kernel.specs.Tidying.{negated_bare, is_bare, is_plain, plain
 
 use crate::assuming::is_constant;
 use crate::choices::{bare, not_term};
-use crate::constants::is_nil;
 use crate::equations::truth_term;
 use crate::reductions::Reduction;
-use crate::shapes::{ShapeRef, shape_of};
 use ap_list::{NoMemory, Seq};
 use ap_term::{Clause, Term, copy_term, is_same};
-use ap_world::World;
+use ap_world::{ShapeRef, World, is_nil, shape_of};
 use std::alloc::Global;
 
 /// The negation of a term that is no call of `not`.
@@ -64,24 +60,12 @@ fn plain(alloc: Global, t: &Term) -> Result<Term, NoMemory>
     }
 }
 
-/// Whether a term is one of a list. Takes no memory.
-pub fn is_among(t: &Term, terms: &[Term]) -> bool
-    ensures { result ≡ is_among term_eq t.now terms.now }
-{
-    for u in terms {
-        if is_same(t, u) {
-            return true;
-        }
-    }
-    false
-}
-
 /// Whether a term is the negation of one of a list. Takes no memory.
 fn is_opposed(terms: &[Term], t: &Term) -> bool
     ensures { result ≡ is_opposed terms.now (shape_of t.now) }
 {
     match shape_of(t) {
-        ShapeRef::Not(a) => is_among(a, terms),
+        ShapeRef::Not(a) => is_term_among(a, terms),
         _ => false,
     }
 }
@@ -123,7 +107,7 @@ fn tidied(alloc: Global, terms: &[Term]) -> Result<Option<Seq<Term>>, NoMemory>
     let mut out = Seq::with_capacity(alloc, terms.len())?;
     for t in terms {
         let literal = plain(alloc, t)?;
-        if !is_constant(false, &literal) && !is_among(&literal, out.as_slice()) {
+        if !is_constant(false, &literal) && !is_term_among(&literal, out.as_slice()) {
             if closes(out.as_slice(), &literal) {
                 return Ok(None);
             }

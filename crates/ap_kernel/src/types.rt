@@ -7,12 +7,11 @@ ghost use Rattle.ap_world.specs.Typing.{types};
 ghost use Rattle.ap_kernel.specs.Standing.{DefinesNot, Stands};
 ghost use Rattle.ap_kernel.specs.Masks.{MaskHolds, others, has_only, leads_to, typed_mode, typed_made};
 
-use crate::constants::{is_nil, is_t};
 use crate::objects::{Ctx, Equiv, Mode};
 use ap_list::NoMemory;
 use ap_term::Term;
 use ap_value::{Value, same};
-use ap_world::{Mask, World, masks};
+use ap_world::{Mask, World, is_nil, is_t, masks};
 use std::alloc::Global;
 
 /// What says which types a term's value can have. The kernel doesn't trust it: what it answers is proved

@@ -29,9 +29,9 @@ use Rattle.ap_kernel.specs.declared.objects.Equiv.{Equiv}
 use Rattle.ap_kernel.specs.declared.objects.Sequent.{Sequent}
 use Rattle.ap_kernel.specs.declared.objects.Mode.TheVariants.{Equal}
 use Rattle.ap_kernel.specs.Answers.{fact_made, ModeFits, IsArgument, said, cong_made}
-use Rattle.ap_kernel.specs.declared.shapes.ShapeRef.{ShapeRef}
-use Rattle.ap_kernel.specs.declared.shapes.ShapeRef.TheVariants as lent
-use Rattle.ap_kernel.specs.Shapes.{seen}
+use Rattle.ap_world.specs.declared.shapes.ShapeRef.{ShapeRef}
+use Rattle.ap_world.specs.declared.shapes.ShapeRef.TheVariants as lent
+use Rattle.ap_world.specs.Lent.{seen}
 use Rattle.ap_kernel.specs.Standing.{DefinesNot, Stands}
 use Rattle.ap_kernel.proofs.ChoicesStand.{known_not}
 use Rattle.ap_kernel.proofs.Typed.{each_at}

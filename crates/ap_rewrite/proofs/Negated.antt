@@ -20,9 +20,9 @@ use Rattle.ap_world.proofs.Equations.{val_of_nil, val_of_t, names_open}
 use Rattle.ap_world.proofs.Shaped.{Says, shape_says, shape_call}
 use Rattle.ap_world.proofs.Starting.{val_not}
 use Rattle.ap_kernel.specs.declared.objects.Mode.{Mode}
-use Rattle.ap_kernel.specs.declared.shapes.ShapeRef.{ShapeRef}
-use Rattle.ap_kernel.specs.declared.shapes.ShapeRef.TheVariants as lent
-use Rattle.ap_kernel.specs.Shapes.{seen}
+use Rattle.ap_world.specs.declared.shapes.ShapeRef.{ShapeRef}
+use Rattle.ap_world.specs.declared.shapes.ShapeRef.TheVariants as lent
+use Rattle.ap_world.specs.Lent.{seen}
 use Rattle.ap_kernel.specs.Standing.{DefinesNot}
 use Rattle.ap_kernel.specs.Answers.{if_of}
 use Rattle.ap_kernel.specs.Choices.{bare, bare_test, is_truth, if_shape, choice_leads, is_choice}

@@ -26,11 +26,11 @@ use Rattle.ap_world.proofs.Written.{subst_call}
 use Rattle.ap_kernel.specs.declared.objects.Equiv.{Equiv}
 use Rattle.ap_kernel.specs.declared.objects.Mode.{Mode}
 use Rattle.ap_kernel.specs.declared.objects.Mode.TheVariants.{Iff}
-use Rattle.ap_kernel.specs.declared.shapes.ShapeRef.{ShapeRef}
-use Rattle.ap_kernel.specs.declared.shapes.ShapeRef.TheVariants as lent
+use Rattle.ap_world.specs.declared.shapes.ShapeRef.{ShapeRef}
+use Rattle.ap_world.specs.declared.shapes.ShapeRef.TheVariants as lent
 use Rattle.ap_kernel.specs.Answers.{if_of}
 use Rattle.ap_kernel.specs.Opening.{body_at, opened}
-use Rattle.ap_kernel.specs.Shapes.{seen}
+use Rattle.ap_world.specs.Lent.{seen}
 use Rattle.ap_rewrite.specs.Settings.{Setting, Place, Inner, closing}
 use Rattle.ap_rewrite.specs.Rewriting.{most_nodes, truth_of, none, walk, walk_on, open_instance, opened as opening}
 use Rattle.ap_rewrite.specs.Answering.{got_any}

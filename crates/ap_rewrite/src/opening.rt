@@ -262,7 +262,7 @@ fn open_within<
     ensures is { IfOk result (λ o. got_any o run.new.left ≡ open_within (setting_of l.now.r.now) (inner_of l.now.r.now l.now.levels) mode (seen_at at.now) (seen_at inner.now) first.says.lhs first.says.rhs run.old.left) }
     ensures from { IfOk result (λ o. IfSome o (λ a. IfSome a (From l.now.r.now.w.now mode at.now.ctx.now first.says.lhs))) }
 {
-    if ap_kernel::is_among(first.lhs(), l.r.expand.as_slice()) {
+    if ap_term::is_term_among(first.lhs(), l.r.expand.as_slice()) {
         let found = go_on(l, run, mode, inner, first)?;
         return Ok(answered(found));
     }
@@ -504,7 +504,7 @@ fn first_test<'a>(expand: &[Term], t: &Term, g: &'a Function) -> Option<&'a Term
     if g.measure.is_none() {
         return None;
     }
-    if ap_kernel::is_among(t, expand) {
+    if ap_term::is_term_among(t, expand) {
         return None;
     }
     if !has_small_instance(&g.body, t) {

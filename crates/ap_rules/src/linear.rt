@@ -5,11 +5,11 @@ ghost use Rattle.ap_rules.specs.Linear.{linear_part, linear_from, linear_in_entr
 
 use crate::making::{is_linear, numbered};
 use crate::shapes::{are_inequalities, trigger_of};
-use crate::statement::{Statement, is_not, state};
+use crate::statement::{Statement, state};
 use ap_list::{NoMemory, Seq};
 use ap_term::{Term, copy_term, copy_terms};
 use ap_value::{Symbol, copy_symbol};
-use ap_world::RuleClass;
+use ap_world::{RuleClass, is_not};
 use std::alloc::Global;
 
 /// A part of a theorem as a linear rule: under the hypotheses the conclusion isn't `nil` where `sign` is true, and

@@ -8,10 +8,10 @@ ghost use Rattle.ap_rules.specs.Made.{rule_in};
 ghost use Rattle.ap_rules.specs.Refused.{first_refusal, left_refusal, right_refusal, rule_refusal};
 
 use crate::rule::RewriteRule;
-use crate::statement::is_if;
 use ap_list::{Fixed, NoMemory, Seq};
 use ap_term::{Term, copy_term, is_among, vars};
 use ap_value::{Symbol, named};
+use ap_world::is_if;
 use std::alloc::{AllocError, Global};
 
 /// Why a theorem gives no rules of its classes: the left side of a rewrite rule is a variable, or a constant

@@ -1,19 +1,15 @@
-ghost use Rattle.std.specs.Prelude.{◌≡◌, IfOk, OnOk, is_some, map};
-ghost use Rattle.ap_list.specs.Lists.{all_true, is_distinct, is_among};
-ghost use Rattle.ap_value.specs.Values.{acl2, symbol_eq};
+ghost use Rattle.std.specs.Prelude.{◌≡◌, IfOk, OnOk, is_some};
 ghost use Rattle.ap_term.specs.declared.term.Term.{out-Term};
-ghost use Rattle.ap_term.specs.Equal.{term_eq};
 ghost use Rattle.ap_world.specs.Rows.{recognised};
-ghost use Rattle.ap_world.specs.Typing.{is_variable, are_distinct_variables};
 ghost use Rattle.ap_poly.specs.Bounds.{seen_in, first_atoms};
 ghost use Rattle.ap_rules.specs.Shapes.{told, is_trigger, first_trigger, trigger_of, is_inequality, all_inequalities, calls_variables, is_type_form};
 
 use crate::refusing::are_within;
-use crate::statement::is_not;
 use ap_list::{NoMemory, Seq};
 use ap_poly::{Poly, of_literal};
-use ap_term::{Term, copy_term, is_same, vars};
-use ap_value::{Symbol, is_named};
+use ap_term::{Term, copy_term, is_term_among, vars};
+use ap_value::Symbol;
+use ap_world::{are_distinct_variables, is_not, recognised};
 use std::alloc::Global;
 
 /// What a conjunct says of integers.
@@ -50,7 +46,7 @@ fn add_atoms(alloc: Global, parts: &[(Term, i128)], atoms: &mut Seq<Term>) -> Re
     ensures { OnOk result (atoms.new ≡ seen_in parts.now atoms.old) }
 {
     for (t, _) in parts {
-        if !is_among(t, atoms.as_slice()) {
+        if !is_term_among(t, atoms.as_slice()) {
             atoms.push(copy_term(alloc, t)?)?;
         }
     }
@@ -112,78 +108,11 @@ pub(crate) fn are_inequalities(alloc: Global, parts: &[Term]) -> Result<bool, No
     Ok(true)
 }
 
-/// Whether a symbol is one of package `ACL2` with a name of a list.
-fn is_one_of(symbol: &Symbol, names: &[&'static [u8]]) -> bool
-    ensures { result ≡ is_among symbol_eq symbol.now (map (λ n. acl2 n.now) names.now) }
-{
-    for name in names {
-        if is_named(symbol, name) {
-            return true;
-        }
-    }
-    false
-}
-
 /// Whether a symbol names a recogniser.
 fn is_recogniser(symbol: &Symbol) -> bool
     ensures { result ≡ is_some (recognised symbol.now) }
 {
-    is_one_of(
-        symbol,
-        &[
-            b"CONSP",
-            b"INTEGERP",
-            b"SYMBOLP",
-            b"STRINGP",
-            b"CHARACTERP",
-            b"TRUE-LISTP",
-        ],
-    )
-}
-
-/// Whether a term is a variable.
-fn is_variable(t: &Term) -> bool
-    ensures { result ≡ is_variable (out-Term t.now) }
-{
-    matches!(t, Term::Var(_))
-}
-
-/// Whether all terms are variables.
-fn are_variables(ts: &[Term]) -> bool
-    ensures { result ≡ all_true (map (λ u. is_variable (out-Term u)) ts.now) }
-{
-    for t in ts {
-        if !is_variable(t) {
-            return false;
-        }
-    }
-    true
-}
-
-/// Whether a term is one of a list.
-fn is_among(t: &Term, list: &[Term]) -> bool
-    ensures { result ≡ is_among term_eq t.now list.now }
-{
-    for u in list {
-        if is_same(t, u) {
-            return true;
-        }
-    }
-    false
-}
-
-/// Whether no term comes twice.
-fn are_distinct(ts: &[Term]) -> bool
-    ensures { result ≡ is_distinct term_eq ts.now }
-{
-    let mut left = ts;
-    while let [first, rest @ ..] = left {
-        if is_among(first, rest) {
-            return false;
-        }
-        left = rest;
-    }
-    true
+    recognised(symbol).is_some()
 }
 
 /// Whether a term is a call of distinct variables.
@@ -191,7 +120,7 @@ fn calls_variables(t: &Term) -> bool
     ensures { result ≡ calls_variables (out-Term t.now) }
 {
     match t {
-        Term::Call(_, ts) => are_variables(ts.as_slice()) && are_distinct(ts.as_slice()),
+        Term::Call(_, ts) => are_distinct_variables(ts.as_slice()),
         Term::Var(_) => false,
         Term::Quote(_) => false,
     }

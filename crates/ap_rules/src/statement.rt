@@ -1,15 +1,15 @@
 ghost use Rattle.std.specs.Prelude.{◌≡◌, [], ◌∷◌, ◌++◌, true, false, IfOk, OnOk};
-ghost use Rattle.ap_value.specs.Values.{symbol_eq, val_of, value_eq};
-ghost use Rattle.ap_world.specs.Clauses.{is_nil, conjuncts};
-ghost use Rattle.ap_world.specs.Primitives.{nil};
-ghost use Rattle.ap_world.specs.Names.{if_name, not_name, equal_name, implies_name, iff_name};
+ghost use Rattle.ap_value.specs.Values.{symbol_eq};
+ghost use Rattle.ap_world.specs.Clauses.{conjuncts};
+ghost use Rattle.ap_world.specs.Names.{not_name, equal_name, iff_name};
 ghost use Rattle.ap_world.specs.Recursion.{nil_constant, t_constant};
 ghost use Rattle.ap_world.specs.Rules.{stated, call_sides, sides};
 ghost use Rattle.ap_rules.specs.Made.{as_sides};
 
-use ap_list::{Fixed, NoMemory, Seq};
+use ap_list::{NoMemory, Seq};
 use ap_term::{Term, copy_term};
-use ap_value::{Symbol, Value, is_named, named, same};
+use ap_value::Symbol;
+use ap_world::{is_equal, is_iff, is_implies, is_not, nil_term, push_conjuncts, t_term};
 use std::alloc::Global;
 
 /// A theorem's hypotheses, and the conjuncts of its conclusion.
@@ -25,102 +25,6 @@ pub(crate) struct Reading {
     pub iff: bool,
     pub lhs: Term,
     pub rhs: Term,
-}
-
-/// Whether a symbol is `if`.
-#[tactic(auto, unfolding(ap_world::specs::Names::if_name))]
-pub(crate) fn is_if(symbol: &Symbol) -> bool
-    ensures { result ≡ symbol_eq symbol.now if_name }
-{
-    is_named(symbol, b"IF")
-}
-
-/// Whether a symbol is `implies`.
-#[tactic(auto, unfolding(ap_world::specs::Names::implies_name))]
-fn is_implies(symbol: &Symbol) -> bool
-    ensures { result ≡ symbol_eq symbol.now implies_name }
-{
-    is_named(symbol, b"IMPLIES")
-}
-
-/// Whether a symbol is `equal`.
-#[tactic(auto, unfolding(ap_world::specs::Names::equal_name))]
-fn is_equal(symbol: &Symbol) -> bool
-    ensures { result ≡ symbol_eq symbol.now equal_name }
-{
-    is_named(symbol, b"EQUAL")
-}
-
-/// Whether a symbol is `iff`.
-#[tactic(auto, unfolding(ap_world::specs::Names::iff_name))]
-fn is_iff(symbol: &Symbol) -> bool
-    ensures { result ≡ symbol_eq symbol.now iff_name }
-{
-    is_named(symbol, b"IFF")
-}
-
-/// Whether a symbol is `not`.
-#[tactic(auto, unfolding(ap_world::specs::Names::not_name))]
-pub(crate) fn is_not(symbol: &Symbol) -> bool
-    ensures { result ≡ symbol_eq symbol.now not_name }
-{
-    is_named(symbol, b"NOT")
-}
-
-/// Whether a value is `nil`.
-fn is_nil(v: &Value) -> bool
-    ensures { result ≡ value_eq (val_of v.now) nil }
-{
-    let wanted = Value::Sym(named(Fixed::Nil));
-    same(v, &wanted)
-}
-
-/// Whether a term is a constant that means `nil`.
-fn is_nil_term(t: &Term) -> bool
-    ensures { result ≡ is_nil t.now }
-{
-    match t {
-        Term::Quote(v) => is_nil(v),
-        Term::Var(_) => false,
-        Term::Call(_, _) => false,
-    }
-}
-
-/// The constant `'NIL`. Takes no memory.
-#[tactic(auto, unfolding(ap_world::specs::Names::nil_name))]
-fn nil_term() -> Term
-    ensures { result ≡ nil_constant }
-{
-    Term::Quote(Value::Sym(named(Fixed::Nil)))
-}
-
-/// The constant `'T`. Takes no memory.
-#[tactic(auto, unfolding(ap_world::specs::Names::t_name))]
-fn t_term() -> Term
-    ensures { result ≡ t_constant }
-{
-    Term::Quote(Value::Sym(named(Fixed::T)))
-}
-
-/// Adds the conjuncts of a term.
-#[tactic(auto, using(crate::proofs::Stated::conjoining))]
-fn push_conjuncts(alloc: Global, out: &mut Seq<Term>, t: &Term) -> Result<(), NoMemory>
-    ensures { OnOk result (out.new ≡ out.old ++ conjuncts t.now) }
-{
-    match t {
-        Term::Call(f, ts) => match (is_if(f), ts.as_slice()) {
-            (true, [a, b, c]) => {
-                if !is_nil_term(c) {
-                    return out.push(copy_term(alloc, t)?);
-                }
-                push_conjuncts(alloc, out, a)?;
-                push_conjuncts(alloc, out, b)
-            }
-            _ => out.push(copy_term(alloc, t)?),
-        },
-        Term::Var(_) => out.push(copy_term(alloc, t)?),
-        Term::Quote(_) => out.push(copy_term(alloc, t)?),
-    }
 }
 
 /// Adds the hypotheses of a theorem, and answers its conclusion.

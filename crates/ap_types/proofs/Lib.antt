@@ -1,7 +1,6 @@
 pub mod Listing
 pub mod Formed
 pub mod Scoped
-pub mod Named
 pub mod Sides
 pub mod RowsHold
 pub mod Cutting

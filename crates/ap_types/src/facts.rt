@@ -9,11 +9,11 @@ ghost use Rattle.ap_types.specs.Sides.{by_value, by_side};
 
 use crate::constants::{is_zero_value, kind_of};
 use crate::kinds::{bit, without};
-use crate::rows::{is_single, recognised};
+use crate::rows::is_single;
 use ap_kernel::is_same;
 use ap_term::Term;
 use ap_value::{Symbol, Value};
-use ap_world::{Kind, Primitive, masks, primitive_of};
+use ap_world::{Kind, Primitive, masks, primitive_of, recognised};
 
 /// The types where the sign is true, the others where it is false.
 fn signed(sign: bool, mask: u16) -> u16

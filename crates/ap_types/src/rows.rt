@@ -1,54 +1,13 @@
-ghost use Rattle.std.specs.Prelude.{◌≡◌, map};
-ghost use Rattle.ap_list.specs.Lists.{lookup_by};
-ghost use Rattle.ap_value.specs.Values.{bytes_eq, symbol_eq, acl2};
+ghost use Rattle.std.specs.Prelude.{◌≡◌};
 ghost use Rattle.ap_world.specs.Shapes.{shape_of};
 ghost use Rattle.ap_world.specs.Kinds.{bit, union_from, union};
-ghost use Rattle.ap_world.specs.Rows.{recognised, tested, test_types, plus_row, times_row, minus_row, less_row, is_single, equal_row, cons_row, car_row, cdr_row, char_code_row, row_one, row_two, over_one, over_two, coerce_by, coerce_types};
+ghost use Rattle.ap_world.specs.Rows.{tested, test_types, plus_row, times_row, minus_row, less_row, is_single, equal_row, cons_row, car_row, cdr_row, char_code_row, row_one, row_two, over_one, over_two, coerce_by, coerce_types};
 
 use crate::constants::is_list_name;
 use crate::kinds::{bit, kinds, meets, sign_bit, sign_of, without};
 use ap_term::Term;
 use ap_value::{Symbol, is_named};
-use ap_world::{Kind, Primitive, Sign, masks};
-
-/// What stands beside the bytes in a table.
-fn find_bytes(bytes: &[u8], table: &[(&'static [u8], u16)]) -> Option<u16>
-    ensures { result ≡ lookup_by bytes_eq (map (λ p. (p.0.now, p.1)) table.now) bytes.now }
-{
-    for (name, mask) in table {
-        if bytes == *name {
-            return Some(*mask);
-        }
-    }
-    None
-}
-
-/// What stands beside the name in a table of names of package `ACL2`. The symbol is looked at once.
-fn find_named(symbol: &Symbol, table: &[(&'static [u8], u16)]) -> Option<u16>
-    ensures { result ≡ lookup_by symbol_eq (map (λ p. (acl2 p.0.now, p.1)) table.now) symbol.now }
-{
-    if symbol.keyword {
-        return None;
-    }
-    find_bytes(symbol.name.as_slice(), table)
-}
-
-/// The types that a recogniser of this name is true of.
-pub(crate) fn recognised(name: &Symbol) -> Option<u16>
-    ensures { result ≡ recognised name.now }
-{
-    find_named(
-        name,
-        &[
-            (b"CONSP", masks::PROPER + masks::IMPROPER),
-            (b"INTEGERP", masks::INTEGERS),
-            (b"SYMBOLP", masks::TRUTHS + masks::OTHER_SYMBOLS),
-            (b"STRINGP", masks::STRINGS),
-            (b"CHARACTERP", masks::CHARACTERS),
-            (b"TRUE-LISTP", masks::TRUE_LISTS),
-        ],
-    )
-}
+use ap_world::{Kind, Primitive, Sign, masks, recognised};
 
 /// The types for which a call of this name gives `t`, where it tests types.
 #[tactic(auto, unfolding(ap_world::specs::Names::not_name))]

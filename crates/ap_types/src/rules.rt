@@ -1,56 +1,12 @@
-ghost use Rattle.std.specs.Prelude.{◌≡◌, map};
-ghost use Rattle.ap_list.specs.Lists.{all_true, is_distinct};
+ghost use Rattle.std.specs.Prelude.{◌≡◌};
 ghost use Rattle.ap_term.specs.declared.term.Term.{out-Term};
-ghost use Rattle.ap_term.specs.Equal.{term_eq};
 ghost use Rattle.ap_world.specs.World.{function_of};
 ghost use Rattle.ap_world.specs.Prescribing.{theorems_about};
-ghost use Rattle.ap_world.specs.Typing.{is_variable, are_distinct_variables, types_on, prescribed_types, left_by, narrowed, kept_of, function_types};
+ghost use Rattle.ap_world.specs.Typing.{types_on, prescribed_types, left_by, narrowed, kept_of, function_types};
 
-use crate::rows::recognised;
-use ap_kernel::is_among;
 use ap_term::Term;
 use ap_value::Symbol;
-use ap_world::{RuneKind, Theorem, Theory, World, masks};
-
-/// Whether a term is a variable.
-fn is_variable(t: &Term) -> bool
-    ensures { result ≡ is_variable (out-Term t.now) }
-{
-    matches!(t, Term::Var(_))
-}
-
-/// Whether all terms are variables.
-fn are_variables(ts: &[Term]) -> bool
-    ensures { result ≡ all_true (map (λ u. is_variable (out-Term u)) ts.now) }
-{
-    for t in ts {
-        if !is_variable(t) {
-            return false;
-        }
-    }
-    true
-}
-
-/// Whether no term comes twice.
-fn are_distinct(ts: &[Term]) -> bool
-    ensures { result ≡ is_distinct term_eq ts.now }
-{
-    let mut left = ts;
-    while let [first, rest @ ..] = left {
-        if is_among(first, rest) {
-            return false;
-        }
-        left = rest;
-    }
-    true
-}
-
-/// Whether the terms are variables, each once.
-fn are_distinct_variables(ts: &[Term]) -> bool
-    ensures { result ≡ are_distinct_variables ts.now }
-{
-    are_variables(ts) && are_distinct(ts)
-}
+use ap_world::{RuneKind, Theorem, Theory, World, are_distinct_variables, masks, recognised};
 
 /// The types that a recogniser leaves to a call of distinct variables; all to another term.
 fn types_on(types: Option<u16>, t: &Term) -> u16

@@ -40,3 +40,7 @@ pub mod Grounded
 pub mod KnownTerms
 pub mod Chosen
 pub mod ByLength
+pub mod Conjoined
+pub mod Heads
+pub mod Named
+pub mod Symbols

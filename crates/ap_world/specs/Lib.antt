@@ -8,6 +8,7 @@ pub mod Ground
 pub mod Sound
 pub mod Facts
 pub mod Shapes
+pub mod Lent
 pub mod Assume
 pub mod Rules
 pub mod Theories

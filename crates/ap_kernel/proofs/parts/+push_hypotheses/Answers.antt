@@ -2,7 +2,8 @@ use Rattle.std.proofs.Common.{◌≡◌, ◌++◌, List, ap, sym, ◌∙◌, app
 use Rattle.ap_term.specs.declared.term.Term.{Term}
 use Rattle.ap_world.specs.Clauses.{conjuncts}
 use Rattle.ap_world.specs.Rules.{stated}
-use Rattle.ap_kernel.proofs.PartsFound.{stated_found, stated_alone, by_steps}
+use Rattle.ap_world.proofs.Conjoined.{by_steps}
+use Rattle.ap_kernel.proofs.PartsFound.{stated_found, stated_alone}
 use Rattle.ap_kernel.proofs.parts.+push_hypotheses.Goals as goal
 
 pub returns-in_ok-push_conjuncts-in-Some : goal.returns-in_ok-push_conjuncts-in-Some

@@ -5,7 +5,8 @@ use Rattle.ap_term.specs.declared.term.Term.{Call}
 use Rattle.ap_world.specs.Names.{implies_name}
 use Rattle.ap_world.specs.Clauses.{conjuncts}
 use Rattle.ap_world.specs.Rules.{stated}
-use Rattle.ap_rules.proofs.Stated.{pair_is, stated_pair, by_steps, stating}
+use Rattle.ap_world.proofs.Conjoined.{pair_is, by_steps}
+use Rattle.ap_rules.proofs.Stated.{stated_pair, stating}
 use Rattle.ap_rules.proofs.statement.+push_hyps.Goals as goal
 
 pub returns-in_ok-push_conjuncts-in-true-len2-clause-hyps : goal.returns-in_ok-push_conjuncts-in-true-len2-clause-hyps

@@ -2,8 +2,8 @@ use Rattle.std.proofs.Common.{ap, sym, ◌∙◌, subst}
 use Rattle.ap_value.specs.Values.{acl2, val_of, value_eq}
 use Rattle.ap_value.proofs.Bytes.{AreSmall}
 use Rattle.ap_world.specs.Primitives.{symbol_value}
-use Rattle.ap_kernel.proofs.Symbols.{symbol_is, int_isnt, chr_isnt, str_isnt, cons_isnt}
-use Rattle.ap_kernel.proofs.constants.is_acl2.Goals as goal
+use Rattle.ap_world.proofs.Symbols.{symbol_is, int_isnt, chr_isnt, str_isnt, cons_isnt}
+use Rattle.ap_world.proofs.constants.is_acl2.Goals as goal
 
 pub returns-in-Int : goal.returns-in-Int
 returns-in-Int c = sym (ap (λ v. value_eq (val_of v) (symbol_value (acl2 c.args.name.now))) c.in-Int.is ∙ int_isnt _ (acl2 c.args.name.now))

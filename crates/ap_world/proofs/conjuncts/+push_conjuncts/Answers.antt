@@ -3,8 +3,8 @@ use Rattle.ap_value.specs.Values.{symbol_eq}
 use Rattle.ap_term.specs.declared.term.Term.{Call}
 use Rattle.ap_world.specs.Names.{if_name}
 use Rattle.ap_world.specs.Clauses.{conjuncts, is_nil}
-use Rattle.ap_rules.proofs.Stated.{triple_is, conjuncts_pair, by_steps}
-use Rattle.ap_rules.proofs.statement.+push_conjuncts.Goals as goal
+use Rattle.ap_world.proofs.Conjoined.{triple_is, conjuncts_pair, by_steps}
+use Rattle.ap_world.proofs.conjuncts.+push_conjuncts.Goals as goal
 
 pub returns-in_ok-push_conjuncts-in-true-len3 : goal.returns-in_ok-push_conjuncts-in-true-len3
 returns-in_ok-push_conjuncts-in-true-len3 t c =

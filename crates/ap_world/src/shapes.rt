@@ -1,13 +1,13 @@
 ghost use Rattle.std.specs.Prelude.{◌≡◌, IfOk, [], ◌∷◌};
 ghost use Rattle.ap_value.specs.Values.{acl2, symbol_eq};
-ghost use Rattle.ap_world.specs.Names.{if_name, not_name, equal_name, cons_name, implies_name};
+ghost use Rattle.ap_world.specs.Names.{if_name, not_name, equal_name, cons_name, implies_name, iff_name};
 ghost use Rattle.ap_world.specs.Shapes.{head_of, call_shape, shape_of};
-ghost use Rattle.ap_kernel.specs.Shapes.{seen, seen_head};
+ghost use Rattle.ap_world.specs.Lent.{seen, seen_head};
 
 use ap_term::Term;
 use ap_value::{Symbol, Value, is_named};
 
-/// What the head of a call is, of those that the kernel looks at.
+/// What the head of a call is, of those that proofs and types look at.
 #[derive(Clone, Copy, Debug)]
 pub enum Head {
     If,
@@ -29,7 +29,7 @@ pub enum ShapeRef<'a> {
 }
 
 /// Whether a symbol is `if`. Takes no memory.
-#[tactic(auto, unfolding(ap_world::specs::Names::if_name))]
+#[tactic(auto, unfolding(crate::specs::Names::if_name))]
 pub fn is_if(symbol: &Symbol) -> bool
     ensures { result ≡ symbol_eq symbol.now if_name }
 {
@@ -37,7 +37,7 @@ pub fn is_if(symbol: &Symbol) -> bool
 }
 
 /// Whether a symbol is `not`. Takes no memory.
-#[tactic(auto, unfolding(ap_world::specs::Names::not_name))]
+#[tactic(auto, unfolding(crate::specs::Names::not_name))]
 pub fn is_not(symbol: &Symbol) -> bool
     ensures { result ≡ symbol_eq symbol.now not_name }
 {
@@ -45,7 +45,7 @@ pub fn is_not(symbol: &Symbol) -> bool
 }
 
 /// Whether a symbol is `equal`. Takes no memory.
-#[tactic(auto, unfolding(ap_world::specs::Names::equal_name))]
+#[tactic(auto, unfolding(crate::specs::Names::equal_name))]
 pub fn is_equal(symbol: &Symbol) -> bool
     ensures { result ≡ symbol_eq symbol.now equal_name }
 {
@@ -53,7 +53,7 @@ pub fn is_equal(symbol: &Symbol) -> bool
 }
 
 /// Whether a symbol is `cons`. Takes no memory.
-#[tactic(auto, unfolding(ap_world::specs::Names::cons_name))]
+#[tactic(auto, unfolding(crate::specs::Names::cons_name))]
 fn is_cons(symbol: &Symbol) -> bool
     ensures { result ≡ symbol_eq symbol.now cons_name }
 {
@@ -61,15 +61,23 @@ fn is_cons(symbol: &Symbol) -> bool
 }
 
 /// Whether a symbol is `implies`. Takes no memory.
-#[tactic(auto, unfolding(ap_world::specs::Names::implies_name))]
+#[tactic(auto, unfolding(crate::specs::Names::implies_name))]
 pub fn is_implies(symbol: &Symbol) -> bool
     ensures { result ≡ symbol_eq symbol.now implies_name }
 {
     is_named(symbol, b"IMPLIES")
 }
 
+/// Whether a symbol is `iff`. Takes no memory.
+#[tactic(auto, unfolding(crate::specs::Names::iff_name))]
+pub fn is_iff(symbol: &Symbol) -> bool
+    ensures { result ≡ symbol_eq symbol.now iff_name }
+{
+    is_named(symbol, b"IFF")
+}
+
 /// What a head is. Takes no memory.
-#[tactic(auto, unfolding(ap_world::specs::Shapes::head_of))]
+#[tactic(auto, unfolding(crate::specs::Shapes::head_of))]
 pub fn head_of(symbol: &Symbol) -> Head
     ensures { seen_head result ≡ head_of symbol.now }
 {

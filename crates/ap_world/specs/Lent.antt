@@ -1,10 +1,10 @@
 -- What is lent of a term's shape, and what a head is, as the program has it.
 use Rattle.ap_term.specs.declared.term.Term.{Term}
 use Rattle.ap_world.specs.Shapes.{Shape, constant, choice, negation, equation, pair, other, Head, if_head, not_head, equal_head, cons_head, other_head}
-use Rattle.ap_kernel.specs.declared.shapes.Head.{Head as Owned}
-use Rattle.ap_kernel.specs.declared.shapes.Head.TheVariants as head
-use Rattle.ap_kernel.specs.declared.shapes.ShapeRef.{ShapeRef}
-use Rattle.ap_kernel.specs.declared.shapes.ShapeRef.TheVariants as lent
+use Rattle.ap_world.specs.declared.shapes.Head.{Head as Owned}
+use Rattle.ap_world.specs.declared.shapes.Head.TheVariants as head
+use Rattle.ap_world.specs.declared.shapes.ShapeRef.{ShapeRef}
+use Rattle.ap_world.specs.declared.shapes.ShapeRef.TheVariants as lent
 
 -- a head
 abbrev pub seen_head : Owned → Head
