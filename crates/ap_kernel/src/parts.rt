@@ -10,7 +10,10 @@ ghost use Rattle.ap_kernel.specs.Applying.{mode_in, joined_parts, implied_parts,
 use crate::objects::Mode;
 use ap_list::{NoMemory, Seq};
 use ap_term::{Subst, Term, subst};
-use ap_world::{ShapeRef, is_equal, is_iff, is_implies, is_nil_term, is_not, nil_term, push_conjuncts, shape_of, t_term};
+use ap_world::{
+    ShapeRef, is_equal, is_iff, is_implies, is_nil_term, is_not, nil_term, push_conjuncts,
+    shape_of, t_term,
+};
 use std::alloc::Global;
 
 /// What a conjunct of a theorem's conclusion says: that two terms are equal, that both are `nil` or both not,

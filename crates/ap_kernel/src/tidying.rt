@@ -10,7 +10,7 @@ use crate::choices::{bare, not_term};
 use crate::equations::truth_term;
 use crate::reductions::Reduction;
 use ap_list::{NoMemory, Seq};
-use ap_term::{Clause, Term, copy_term, is_same};
+use ap_term::{Clause, Term, copy_term, is_same, is_term_among};
 use ap_world::{ShapeRef, World, is_nil, shape_of};
 use std::alloc::Global;
 
