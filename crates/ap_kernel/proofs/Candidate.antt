@@ -14,7 +14,7 @@ use Rattle.ap_world.proofs.Knowing.{each_same}
 use Rattle.ap_world.proofs.Written.{vars_var, out_var, out_quote, out_call}
 use Rattle.ap_world.proofs.Places.{neither}
 use Rattle.ap_kernel.specs.Induction.{variable_in, variable_of, is_variable_in, is_variable, moved_names, any_true, count_true, occurs, is_apart, changes, is_led, led_names, follows, place_of, fits}
-use Rattle.ap_kernel.proofs.Moving.{not_true, others}
+use Rattle.ap_kernel.proofs.Moving.{not_true, each_differs}
 
 no : {P : Type 0} → true ≡ false → P
 no h = absurd (true≢false h)
@@ -64,7 +64,7 @@ unchanged [] cs d = tt
 unchanged (f ∷ fs) [] d = tt
 unchanged (f ∷ fs) (c ∷ cs) d =
     let p = both (not (is_among symbol_eq f fs)) (is_distinct symbol_eq fs) d in
-    (first, rest fs cs (others f fs (not_true _ p.0)) (unchanged fs cs p.1))
+    (first, rest fs cs (each_differs f fs (not_true _ p.0)) (unchanged fs cs p.1))
   where
     same : (b : Bool) → term_eq c (Var f) ≡ b → not b ≡ false → c ≡ Var f
     same true q h = term_eq-true c (Var f) q

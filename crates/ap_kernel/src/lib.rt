@@ -48,6 +48,7 @@
 //! | [`keep`] | itself | the literals |
 //! | [`drop_literal`] | the clause without a literal | the other literals |
 //! | [`chain`] | what the clauses of a reduction are reduced to in their turn | nothing |
+//! | [`then`] | what the one clause of a reduction is reduced to in its turn | nothing |
 //! | [`split_if`] | its two cases, for an `if` within a literal | the literals, for each case |
 //! | [`tidy`] | its plain form, or no clause where that holds by itself | the literals that are kept |
 //! | [`use_equality`] | the clause with a variable replaced that a literal solves | the other literals |
@@ -133,6 +134,7 @@ pub use calls::choose_branch;
 pub use calls::cong;
 pub use calls::if_term;
 pub use chaining::chain;
+pub use chaining::then;
 pub use choices::bare_test;
 pub use choices::if_shape;
 pub use choices::is_choice;
@@ -153,6 +155,8 @@ pub use equations::equation_leads;
 pub use equations::truth_term;
 pub use facts::by_fact;
 pub use fertilising::fertilise;
+pub use fertilising::negated_sides;
+pub use fertilising::sides_of;
 pub use generalising::generalise;
 pub use hints::cases;
 pub use hints::use_fact;
@@ -179,6 +183,7 @@ pub use parts::conclusion;
 pub use parts::conclusion_part;
 pub use parts::hypotheses;
 pub use parts::is_iff;
+pub use places::is_changed;
 pub use places::is_led;
 pub use places::mentions;
 pub use plain::refl;
