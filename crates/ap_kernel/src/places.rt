@@ -112,7 +112,7 @@ fn is_in_one(x: &Symbol, terms: &[Term]) -> bool
 {
     let mut count: usize = 0;
     for t in terms {
-        if is_mentioned(x, t) {
+        if occurs(x, t) {
             count += 1;
         }
     }
