@@ -48,6 +48,7 @@
 //! | [`keep`] | itself | the literals |
 //! | [`drop_literal`] | the clause without a literal | the other literals |
 //! | [`chain`] | what the clauses of a reduction are reduced to in their turn | nothing |
+//! | [`then`] | what the one clause of a reduction is reduced to in its turn | nothing |
 //! | [`split_if`] | its two cases, for an `if` within a literal | the literals, for each case |
 //! | [`tidy`] | its plain form, or no clause where that holds by itself | the literals that are kept |
 //! | [`use_equality`] | the clause with a variable replaced that a literal solves | the other literals |
@@ -114,12 +115,12 @@ pub use ap_world::{
 pub use applying::{apply_theorem, has_part};
 pub use assuming::{all_false, assume, assumed_facts_hold, is_constant, others_false};
 pub use calls::{branch, choose_branch, cong, if_term};
-pub use chaining::chain;
+pub use chaining::{chain, then};
 pub use choices::{bare_test, if_shape, is_choice, not_term};
 pub use eliminating::eliminate;
 pub use equations::{cons_equal, equal_term, equation_leads, truth_term};
 pub use facts::by_fact;
-pub use fertilising::fertilise;
+pub use fertilising::{fertilise, negated_sides, sides_of};
 pub use generalising::generalise;
 pub use hints::{cases, use_fact};
 pub use induction::{induct, variable_of};
@@ -129,7 +130,7 @@ pub use negations::double_not;
 pub use objects::{Ctx, Equiv, Mode, Sequent};
 pub use opening::{can_open, fold, is_constant_call, open_def};
 pub use parts::{conclusion, conclusion_part, hypotheses};
-pub use places::{is_led, mentions};
+pub use places::{is_changed, is_led, mentions};
 pub use plain::{refl, trans, weaken_mode};
 pub use reductions::{Inference, Reduction};
 pub use relieving::are_relieved;
