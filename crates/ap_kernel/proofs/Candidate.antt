@@ -11,10 +11,11 @@ use Rattle.ap_term.proofs.Induction.{term_ind}
 use Rattle.ap_world.specs.declared.entry.Case.{Case}
 use Rattle.ap_world.specs.Recursion.{mentions, is_changed}
 use Rattle.ap_world.proofs.Knowing.{each_same}
-use Rattle.ap_world.proofs.Written.{vars_var, out_var, out_quote, out_call}
+use Rattle.ap_world.proofs.Written.{out_var, out_quote, out_call}
 use Rattle.ap_world.proofs.Places.{neither}
 use Rattle.ap_kernel.specs.Induction.{variable_in, variable_of, is_variable_in, is_variable, moved_names, any_true, count_true, occurs, is_apart, changes, is_led, led_names, follows, place_of, fits}
-use Rattle.ap_kernel.proofs.Moving.{not_true, others}
+use Rattle.ap_kernel.proofs.Moving.{not_true, each_differs}
+use Rattle.ap_kernel.proofs.PartsSwapped.{occurs_self}
 
 no : {P : Type 0} → true ≡ false → P
 no h = absurd (true≢false h)
@@ -32,18 +33,16 @@ pub or_right : (a b : Bool) → b ≡ true → (a || b) ≡ true
 or_right true b h = refl
 or_right false b h = h
 
--- a variable is the term of its name, and occurs in itself
+-- a variable is the term of its name
 pub variable_is : (u : Term) → is_variable u ≡ true → Var (variable_of u) ≡ u
 variable_is = term_ind (λ u. is_variable u ≡ true → Var (variable_of u) ≡ u)
     (λ x h. ap Var (ap variable_in (out_var x)))
     (λ v h. no (sym h ∙ ap is_variable_in (out_quote v)))
     (λ f ts es h. no (sym h ∙ ap is_variable_in (out_call f ts)))
 
-occurs_itself : (v : Symbol) → occurs v (Var v) ≡ true
-occurs_itself v = ap (is_among symbol_eq v) (vars_var v []) ∙ or_left (symbol_eq v v) false (symbol_eq-same v)
-
+-- and occurs in itself
 pub occurs_variable : (x : Symbol) (u : Term) → is_variable u ≡ true → symbol_eq x (variable_of u) ≡ true → occurs x u ≡ true
-occurs_variable x u h is = subst (λ w. occurs x w ≡ true) (variable_is u h) (subst (λ v. occurs x (Var v) ≡ true) (symbol_eq-true x (variable_of u) is) (occurs_itself x))
+occurs_variable x u h is = subst (λ w. occurs x w ≡ true) (variable_is u h) (subst (λ v. occurs x (Var v) ≡ true) (symbol_eq-true x (variable_of u) is) (occurs_self x))
 
 -- each of the symbols is among them
 pub each_among : (xs : List Symbol) → Each (λ x. is_among symbol_eq x xs ≡ true) xs
@@ -64,7 +63,7 @@ unchanged [] cs d = tt
 unchanged (f ∷ fs) [] d = tt
 unchanged (f ∷ fs) (c ∷ cs) d =
     let p = both (not (is_among symbol_eq f fs)) (is_distinct symbol_eq fs) d in
-    (first, rest fs cs (others f fs (not_true _ p.0)) (unchanged fs cs p.1))
+    (first, rest fs cs (each_differs f fs (not_true _ p.0)) (unchanged fs cs p.1))
   where
     same : (b : Bool) → term_eq c (Var f) ≡ b → not b ≡ false → c ≡ Var f
     same true q h = term_eq-true c (Var f) q

@@ -27,6 +27,7 @@ use Rattle.ap_world.proofs.Lists.{each_zip, map_each, joined_each}
 use Rattle.ap_world.proofs.Cases.{CaseKnown, cases_known}
 use Rattle.ap_world.proofs.Grounded.{nots}
 use Rattle.ap_world.proofs.KnownTerms.{known_subst, known_negate}
+use Rattle.ap_kernel.proofs.Mentioned.{occurs_among}
 use Rattle.ap_kernel.proofs.Moving.{not_true, GoodPlace, is_measured_at}
 use Rattle.ap_kernel.proofs.InductRow.{GoodCall, induct_row}
 use Rattle.ap_kernel.proofs.Candidate.{each_all, or_left, or_right, variable_is, each_among, none_of, unchanged, Led, Follows, number, whole, HasVariable, has_variable, source, distinct_names, stays}
@@ -98,7 +99,7 @@ module _ (formals : List Symbol) (m : List Term) (ks : List Case) (actuals : Lis
           where
             at : (is_among symbol_eq x leds ≡ true) ⊎ (whole formals m ks actuals x ≡ 1) → ⊥
             at (inl a) = true≢false (sym a ∙ not_true _ free)
-            at (inr a) = true≢false (sym there ∙ row.2 (x, q, a) h)
+            at (inr a) = true≢false (sym there ∙ sym (occurs_among x p.1) ∙ row.2 (x, q, a) h)
 
         apart : IsStill p → mentions p.0 m ≡ true → Each (λ x. is_among symbol_eq x names ≡ false) (vars_after p.1 [])
         apart h k =

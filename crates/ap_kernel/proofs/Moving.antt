@@ -19,9 +19,9 @@ not_true true h = cc
 not_true false h = refl
 
 -- a symbol that is none of these differs from each
-pub others : (v : Symbol) (xs : List Symbol) → is_among symbol_eq v xs ≡ false → Each (λ x. symbol_eq x v ≡ false) xs
-others v [] h = tt
-others v (x ∷ xs) h = let p = neither (symbol_eq v x) (is_among symbol_eq v xs) h in (symbol_eq-false v x p.0, others v xs p.1)
+pub each_differs : (v : Symbol) (xs : List Symbol) → is_among symbol_eq v xs ≡ false → Each (λ x. symbol_eq x v ≡ false) xs
+each_differs v [] h = tt
+each_differs v (x ∷ xs) h = let p = neither (symbol_eq v x) (is_among symbol_eq v xs) h in (symbol_eq-false v x p.0, each_differs v xs p.1)
 
 -- what a place is for the argument that a call has there: one that is replaced has a variable; one that the measure mentions, and that isn't, is unchanged, and no replaced variable stands in its actual
 pub record GoodPlace (names : List Symbol) (q : Place) (d : Term) : Type 0 where
@@ -60,7 +60,7 @@ module _ (s mv : List (Symbol × Term)) (names : List Symbol) (clear : (x : Symb
   rest_kept true v u qs ds h k =
       let p = both (not (is_among symbol_eq v (moved_names qs))) (is_distinct symbol_eq (moved_names qs)) h in
       each_zip (λ x. symbol_eq x v ≡ false) (λ x. lookup_by symbol_eq mv x ≡ lookup_by symbol_eq ((v, u) ∷ moved_at s qs ds) x) (λ x. lookup_by symbol_eq mv x ≡ lookup_by symbol_eq (moved_at s qs ds) x) (moved_names qs)
-      (λ x q l. l ∙ ap (λ b. cond b (Some u) (lookup_by symbol_eq (moved_at s qs ds) x)) q) (others v (moved_names qs) (not_true _ p.0)) k.1
+      (λ x q l. l ∙ ap (λ b. cond b (Some u) (lookup_by symbol_eq (moved_at s qs ds) x)) q) (each_differs v (moved_names qs) (not_true _ p.0)) k.1
 
   first_kept : (b : Bool) (v : Symbol) (u : Term) (qs : List Place) (ds : List Term) → b ≡ true → Kept b v u qs ds → lookup_by symbol_eq mv v ≡ Some u
   first_kept false v u qs ds is k = cc

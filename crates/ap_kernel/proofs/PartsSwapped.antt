@@ -86,7 +86,7 @@ pub call_kept : (s : List (Term × Term)) (u : Term) (f : Symbol) (ts : List Ter
 call_kept s u f ts is h = kept_by s u (Term-F.Call f ts) (ap out-Term is ∙ outs-Call f ts) h
 
 -- a variable that occurs in a literal occurs in the clause
-occurs_self : (x : Symbol) → occurs x (Var x) ≡ true
+pub occurs_self : (x : Symbol) → occurs x (Var x) ≡ true
 occurs_self x = fold_var (occurs_step x) x ∙ symbol_eq-same x
 
 occurs_call : (x f : Symbol) (ts : List Term) → occurs x (Call f ts) ≡ occurs_in x ts

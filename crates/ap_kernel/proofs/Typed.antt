@@ -22,7 +22,7 @@ use Rattle.ap_world.proofs.Sets.{apart}
 use Rattle.ap_kernel.specs.declared.objects.Ctx.{Ctx}
 use Rattle.ap_kernel.specs.declared.objects.Mode.TheVariants.{Equal, Iff}
 use Rattle.ap_kernel.specs.Standing.{Same, Holds}
-use Rattle.ap_kernel.specs.Masks.{MaskHolds, others, has_only, lacks_nil, leads_to, typed_mode, typed_made}
+use Rattle.ap_kernel.specs.Masks.{MaskHolds, types_of_others, has_only, lacks_nil, leads_to, typed_mode, typed_made}
 use Rattle.ap_kernel.specs.Answers.{fact_made}
 use Rattle.ap_kernel.proofs.Standing.{stand}
 
@@ -99,7 +99,7 @@ test_is b x y h = go b refl (value_eq x y) refl
 
 -- what is within a mask that has no other value is that value
 pub only_says : (k : Mask) (v w : V) → has_only k v ≡ true → Has k w → w ≡ v
-only_says k v w h has = by_nil (value_eq v nil) refl (eqb-true (bit_and k.0 (others v)) 0 h)
+only_says k v w h has = by_nil (value_eq v nil) refl (eqb-true (bit_and k.0 (types_of_others v)) 0 h)
   where
     same : (u : V) → value_eq v u ≡ true → (o : ℕ) → ((x : V) → value_eq x u ≡ false → bit_at o (type_of x) ≡ 1) → bit_and k.0 o ≡ 0 → w ≡ v
     same u q o typed z = go (value_eq w u) refl

@@ -21,7 +21,7 @@ use Rattle.ap_world.specs.World.{function_of}
 use Rattle.ap_kernel.specs.declared.reductions.Inference.{Inference}
 use Rattle.ap_kernel.specs.Reductions.{KnownClause, Follows}
 use Rattle.ap_kernel.specs.Splits.{and_then}
-pub use Rattle.ap_kernel.specs.Solving.{any_true}
+pub use Rattle.ap_kernel.specs.Solving.{any_true, occurs}
 pub use Rattle.ap_kernel.specs.declared.places.Place.{Place}
 
 -- one of each list, the last varying fastest
@@ -90,10 +90,6 @@ induction_at c ps ks = induction c (pairs_of ps) (moved_at (pairs_of ps) ps) ks
 abbrev pub count_true : List Bool → ℕ
 count_true [] = 0
 count_true (b ∷ bs) = cond b 1 0 + count_true bs
-
--- the variable is one of the term's
-abbrev pub occurs : Symbol → Term → Bool
-occurs x u = is_among symbol_eq x (vars_after u [])
 
 -- no variable of the term is one of these
 abbrev pub is_apart : List Symbol → Term → Bool

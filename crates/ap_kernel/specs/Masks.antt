@@ -20,12 +20,12 @@ abbrev pub MaskHolds : Defs → Facts → Term → Mask → Type 0
 MaskHolds D fs u m = (e : Env) → FactsHold D e fs → (v : V) → HasValue D u e v → Has m v
 
 -- the types that have another value than this one: all but the value's own where that type has no other
-abbrev pub others : V → ℕ
-others v = cond (value_eq v nil) (without nil_bit) (cond (value_eq v t) (without t_bit) (cond (value_eq v (int (pos 0))) (without zero_bit) all))
+abbrev pub types_of_others : V → ℕ
+types_of_others v = cond (value_eq v nil) (without nil_bit) (cond (value_eq v t) (without t_bit) (cond (value_eq v (int (pos 0))) (without zero_bit) all))
 
 -- the mask has no other value than this one
 abbrev pub has_only : Mask → V → Bool
-has_only m v = nat_eq (bit_and m.0 (others v)) 0
+has_only m v = nat_eq (bit_and m.0 (types_of_others v)) 0
 
 -- the mask excludes nil
 abbrev pub lacks_nil : Mask → Bool

@@ -1,4 +1,4 @@
-ghost use Rattle.std.specs.Prelude.{◌≡◌, IfOk};
+ghost use Rattle.std.specs.Prelude.{◌≡◌, [], ◌∷◌, IfOk};
 ghost use Rattle.ap_list.specs.Lists.{Each};
 ghost use Rattle.ap_world.specs.World.{function_of};
 ghost use Rattle.ap_kernel.specs.Reductions.{Reduces, claims, all_from, all_to, chained};
@@ -39,4 +39,23 @@ pub fn chain(
     let (from, _) = a.into_parts();
     let to = all_goals(alloc, b)?;
     Ok(Reduction::made(from, to))
+}
+
+/// From a clause to what the one clause that it is reduced to is reduced to in its turn. It copies nothing.
+pub fn then(
+    alloc: Global,
+    w: &World,
+    first: Reduction,
+    next: Reduction,
+) -> Result<Reduction, NoMemory>
+    requires first { Reduces w.now first }
+    requires next { Reduces w.now next }
+    requires one { first.says.to ≡ next.says.from ∷ [] }
+    ensures stands { IfOk result (λ r. Reduces w.now r) }
+    ensures made { IfOk result (λ r. r.says ≡ record { from = first.says.from; to = next.says.to }) }
+{
+    let mut rest = Seq::new(alloc);
+    rest.push(next)?;
+    let both = chain(alloc, w, first, rest)?;
+    Ok(both)
 }

@@ -27,7 +27,7 @@ fn is_constant_shape(t: &Term) -> bool
 }
 
 /// The sides of an equation. Takes no memory.
-fn sides_of(t: &Term) -> Option<(&Term, &Term)>
+pub fn sides_of(t: &Term) -> Option<(&Term, &Term)>
     ensures { option_map (λ p. (p.0.now, p.1.now)) result ≡ sides_of (shape_of t.now) }
 {
     match shape_of(t) {
@@ -37,7 +37,7 @@ fn sides_of(t: &Term) -> Option<(&Term, &Term)>
 }
 
 /// The sides of an equation of which a literal is the negation, where neither is a constant. Takes no memory.
-fn negated_sides(t: &Term) -> Option<(&Term, &Term)>
+pub fn negated_sides(t: &Term) -> Option<(&Term, &Term)>
     ensures { option_map (λ p. (p.0.now, p.1.now)) result ≡ negated_sides (shape_of t.now) }
 {
     let ShapeRef::Not(equation) = shape_of(t) else {

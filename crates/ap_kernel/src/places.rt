@@ -46,7 +46,7 @@ pub fn mentions(x: &Symbol, terms: &[Term]) -> bool
 
 /// Whether a term is a variable of this name. Takes no memory.
 #[tactic(auto, using(crate::proofs::Mentioned::comparing))]
-fn is_variable(t: &Term, x: &Symbol) -> bool
+fn is_the_variable(t: &Term, x: &Symbol) -> bool
     ensures { result ≡ term_eq t.now (Var x.now) }
 {
     match t {
@@ -57,7 +57,7 @@ fn is_variable(t: &Term, x: &Symbol) -> bool
 }
 
 /// Whether a call has something else than a formal itself at the formal's place. Takes no memory.
-fn is_changed(x: &Symbol, formals: &[Symbol], arguments: &[Term]) -> bool
+pub fn is_changed(x: &Symbol, formals: &[Symbol], arguments: &[Term]) -> bool
     ensures { result ≡ is_changed x.now (zip formals.now arguments.now) }
 {
     let mut left = formals;
@@ -67,7 +67,7 @@ fn is_changed(x: &Symbol, formals: &[Symbol], arguments: &[Term]) -> bool
             return false;
         };
         if is_symbol(x, formal) {
-            return !is_variable(value, x);
+            return !is_the_variable(value, x);
         }
         left = rest;
         values = more;
@@ -112,7 +112,7 @@ fn is_in_one(x: &Symbol, terms: &[Term]) -> bool
 {
     let mut count: usize = 0;
     for t in terms {
-        if is_mentioned(x, t) {
+        if occurs(x, t) {
             count += 1;
         }
     }

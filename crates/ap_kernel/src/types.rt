@@ -5,7 +5,7 @@ ghost use Rattle.ap_world.specs.World.{function_of};
 ghost use Rattle.ap_world.specs.Facts.{KnownFacts};
 ghost use Rattle.ap_world.specs.Typing.{types};
 ghost use Rattle.ap_kernel.specs.Standing.{DefinesNot, Stands};
-ghost use Rattle.ap_kernel.specs.Masks.{MaskHolds, others, has_only, leads_to, typed_mode, typed_made};
+ghost use Rattle.ap_kernel.specs.Masks.{MaskHolds, types_of_others, has_only, leads_to, typed_mode, typed_made};
 
 use crate::objects::{Ctx, Equiv, Mode};
 use ap_list::NoMemory;
@@ -36,8 +36,8 @@ fn is_zero(v: &Value) -> bool
 }
 
 /// The types that have another value than this one.
-fn others(v: &Value) -> u16
-    ensures { result ≡ others (val_of v.now) }
+fn types_of_others(v: &Value) -> u16
+    ensures { result ≡ types_of_others (val_of v.now) }
 {
     if is_nil(v) {
         return masks::ALL ^ masks::NIL;
@@ -55,7 +55,7 @@ fn others(v: &Value) -> u16
 fn typed_mode(mask: Mask, value: &Value) -> Mode
     ensures { result ≡ typed_mode mask (val_of value.now) }
 {
-    if mask.0 & others(value) == 0 {
+    if mask.0 & types_of_others(value) == 0 {
         Mode::Equal
     } else {
         Mode::Iff

@@ -38,7 +38,7 @@ use Rattle.ap_kernel.specs.declared.objects.Mode.{Mode}
 use Rattle.ap_kernel.specs.declared.objects.Mode.TheVariants.{Equal, Iff}
 use Rattle.ap_kernel.specs.declared.objects.Sequent.{Sequent}
 use Rattle.ap_kernel.specs.Standing.{Same, Holds}
-use Rattle.ap_kernel.specs.Masks.{MaskHolds, others}
+use Rattle.ap_kernel.specs.Masks.{MaskHolds, types_of_others}
 use Rattle.ap_kernel.specs.Answers.{if_of}
 use Rattle.ap_kernel.specs.Choices.{bare, test_by, bare_test, is_truth, choice_leads, is_choice, choice_made}
 use Rattle.ap_kernel.specs.Equations.{truth_constant, equation_leads, equation_made}
@@ -91,7 +91,7 @@ module _ (S : Setting) (H : SoundSetting S) (A : Apply) (ms : Models (defs_of S)
   settled_leads o fs u fk k =
       go (is_iff o && lacks (S.types fs u) 8) refl (lacks (S.types fs u) 1015) refl (lacks (S.types fs u) 1007) refl (lacks (S.types fs u) 1022) refl
     where
-      only : (c : Value) (x : V) → val_of c ≡ x → (n : ℕ) → others x ≡ n → lacks (S.types fs u) n ≡ true → Leads o fs u (Quote c)
+      only : (c : Value) (x : V) → val_of c ≡ x → (n : ℕ) → types_of_others x ≡ n → lacks (S.types fs u) n ≡ true → Leads o fs u (Quote c)
       only c x p n q l = leads_same o fs u (Quote c) (known_quote (defs_of S) c)
           (λ e h. only_says (record { 0 = S.types fs u }) x (val A u e) (subst (λ j. nat_eq (bit_and (S.types fs u) j) 0 ≡ true) (sym q) l) (has fs u fk k e h) ∙ sym (val_quote A c e ∙ p))
 

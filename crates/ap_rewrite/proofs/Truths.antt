@@ -11,21 +11,21 @@ use Rattle.ap_world.proofs.TotalMeaning.{Apply, val, val_quote}
 use Rattle.ap_world.proofs.Equations.{nil-eq, eq-not_nil, not_nil-eq, val_if, names_open}
 use Rattle.ap_world.proofs.Shaped.{Says, shape_says, shape_call}
 use Rattle.ap_world.proofs.Assumed.{Signed}
-use Rattle.ap_kernel.specs.Masks.{others}
+use Rattle.ap_kernel.specs.Masks.{types_of_others}
 use Rattle.ap_kernel.specs.Answers.{if_of}
 use Rattle.ap_kernel.specs.Choices.{if_shape, by_constant}
 use Rattle.ap_rewrite.specs.Rewriting.{truth_in, truth_of}
 
 -- the types besides those of nil, t and zero
-pub others_nil : others nil ≡ 1015
+pub others_nil : types_of_others nil ≡ 1015
 unfolding value_eq t nil names_open
 others_nil = refl
 
-pub others_t : others t ≡ 1007
+pub others_t : types_of_others t ≡ 1007
 unfolding value_eq t nil names_open
 others_t = refl
 
-pub others_zero : others (int (pos 0)) ≡ 1022
+pub others_zero : types_of_others (int (pos 0)) ≡ 1022
 unfolding value_eq t nil names_open
 others_zero = refl
 

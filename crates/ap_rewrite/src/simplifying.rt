@@ -16,25 +16,11 @@ use crate::literals::literal;
 use crate::rewriter::Rewriter;
 use ap_clausify::split;
 use ap_kernel::{
-    Equiv, LinearOracle, NoMemory, Reduction, Seq, TypeOracle, World, chain, is_constant, keep,
-    others_false, rewrite_literal, tidy,
+    Equiv, LinearOracle, NoMemory, Reduction, TypeOracle, World, is_constant, keep, others_false,
+    rewrite_literal, then, tidy,
 };
 use ap_term::{Clause, Steps, copy_terms};
 use std::alloc::Global;
-
-/// From a clause to what its one clause is reduced to.
-fn then(alloc: Global, w: &World, first: Reduction, next: Reduction) -> Result<Reduction, NoMemory>
-    requires first { Reduces w.now first }
-    requires next { Reduces w.now next }
-    requires one { first.says.to ≡ next.says.from ∷ [] }
-    ensures stands { IfOk result (λ q. Reduces w.now q) }
-    ensures made { IfOk result (λ q. q.says ≡ record { from = first.says.from; to = next.says.to }) }
-{
-    let mut rest = Seq::new(alloc);
-    rest.push(next)?;
-    let both = chain(alloc, w, first, rest)?;
-    Ok(both)
-}
 
 /// A copy of the first clause that is left.
 fn first_left(alloc: Global, q: &Reduction) -> Result<Clause, NoMemory>

@@ -1,4 +1,4 @@
-ghost use Rattle.std.specs.Prelude.{◌≡◌, ◌<◌, ◌^◌, [], ◌∷◌, length, IfOk, IfSome, MatchOption, IsTrue, is_some, Some, None};
+ghost use Rattle.std.specs.Prelude.{◌≡◌, ◌<◌, ◌^◌, length, IfOk, IfSome, MatchOption, IsTrue, is_some, Some, None};
 ghost use Rattle.std.specs.Option.{option_map};
 ghost use Rattle.ap_list.specs.Lists.{Each};
 ghost use Rattle.ap_world.specs.Sound.{HasFunctions};
@@ -13,26 +13,12 @@ ghost use Rattle.ap_strategy.specs.Steps.{setting_by, first_solved, opened, redu
 use crate::clauses::{copy_clause, without_repeats};
 use crate::oracles::Oracles;
 use crate::plan::{Plan, Settings};
-use ap_kernel::{Reduction, chain, is_solvable, tidy, use_equality};
+use ap_kernel::{Reduction, is_solvable, then, tidy, use_equality};
 use ap_list::{NoMemory, Seq};
 use ap_rewrite::Rewriter;
 use ap_term::{Clause, Steps};
 use ap_world::World;
 use std::alloc::Global;
-
-/// From a clause to what its one clause is reduced to.
-fn then(alloc: Global, w: &World, first: Reduction, next: Reduction) -> Result<Reduction, NoMemory>
-    requires first { Reduces w.now first }
-    requires next { Reduces w.now next }
-    requires one { first.says.to ≡ next.says.from ∷ [] }
-    ensures stands { IfOk result (λ r. Reduces w.now r) }
-    ensures made { IfOk result (λ r. r.says ≡ record { from = first.says.from; to = next.says.to }) }
-{
-    let mut rest = Seq::new(alloc);
-    rest.push(next)?;
-    let both = chain(alloc, w, first, rest)?;
-    Ok(both)
-}
 
 /// The place of the first literal that solves a variable. Takes no memory.
 fn solvable_place(c: &Clause) -> Option<usize>

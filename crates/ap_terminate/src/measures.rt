@@ -1,13 +1,11 @@
 ghost use Rattle.std.specs.Prelude.{◌≡◌, ◌↔◌, [], ◌∷◌, IfOk, IsErrOf, IsTrue, None, Some, map, zip};
 ghost use Rattle.std.specs.Option.{option_map};
 ghost use Rattle.ap_list.specs.Lists.{all_true};
-ghost use Rattle.ap_term.specs.declared.term.Term.TheVariants.{Var};
-ghost use Rattle.ap_term.specs.Equal.{term_eq};
 ghost use Rattle.ap_world.specs.Recursion.{count_of, is_changed, suits, chosen_measure, measure_of};
 ghost use Rattle.ap_terminate.specs.Refusals.{is_nested, is_well_formed, has_bad_measure, lacks_measure};
 
 use crate::cases::is_unnested;
-use ap_kernel::{is_symbol, mentions};
+use ap_kernel::{is_changed, mentions};
 use ap_list::{NoMemory, Seq};
 use ap_term::{Term, copy_terms};
 use ap_value::{Fixed, Symbol, copy_symbol, named};
@@ -35,37 +33,6 @@ impl From<AllocError> for TerminateError {
     fn from(_error: AllocError) -> TerminateError {
         TerminateError::NoMemory
     }
-}
-
-/// Whether a term is a variable of this name. Takes no memory.
-#[tactic(auto, using(ap_kernel::proofs::Mentioned::comparing))]
-fn is_variable(t: &Term, x: &Symbol) -> bool
-    ensures { result ≡ term_eq t.now (Var x.now) }
-{
-    match t {
-        Term::Var(y) => is_symbol(y, x),
-        Term::Quote(_) => false,
-        Term::Call(_, _) => false,
-    }
-}
-
-/// Whether a call has something else than a formal itself at the formal's place. Takes no memory.
-fn is_changed(x: &Symbol, formals: &[Symbol], arguments: &[Term]) -> bool
-    ensures { result ≡ is_changed x.now (zip formals.now arguments.now) }
-{
-    let mut left = formals;
-    let mut values = arguments;
-    while let [formal, rest @ ..] = left {
-        let [value, more @ ..] = values else {
-            return false;
-        };
-        if is_symbol(x, formal) {
-            return !is_variable(value, x);
-        }
-        left = rest;
-        values = more;
-    }
-    false
 }
 
 /// Whether each of some calls changes a formal. Takes no memory.

@@ -1,48 +1,16 @@
 ghost use Rattle.std.specs.Prelude.{◌≡◌, IfOk, IfSome, is_some};
 ghost use Rattle.std.specs.Option.{option_map};
-ghost use Rattle.ap_world.specs.Shapes.{shape_of};
 ghost use Rattle.ap_world.specs.World.{function_of};
 ghost use Rattle.ap_kernel.specs.Standing.{DefinesNot};
 ghost use Rattle.ap_kernel.specs.Reductions.{KnownClause, Reduces};
-ghost use Rattle.ap_kernel.specs.Fertilising.{is_constant_shape, sides_of, negated_sides, literal_fertilised, fertilise_made};
+ghost use Rattle.ap_kernel.specs.Fertilising.{literal_fertilised, fertilise_made};
 ghost use Rattle.ap_weaken.specs.Fertilize.{can_use, used_in, hypothesis, use_of, fertilize_made};
 
-use ap_kernel::{Reduction, ShapeRef, contains, fertilise, shape_of};
+use ap_kernel::{Reduction, contains, fertilise, negated_sides, sides_of};
 use ap_list::NoMemory;
 use ap_term::{Clause, Term, copy_terms};
 use ap_world::World;
 use std::alloc::Global;
-
-/// Whether a term is a constant. Takes no memory.
-fn is_constant_shape(t: &Term) -> bool
-    ensures { result ≡ is_constant_shape (shape_of t.now) }
-{
-    matches!(shape_of(t), ShapeRef::Constant(_))
-}
-
-/// The sides of an equation. Takes no memory.
-fn sides_of(t: &Term) -> Option<(&Term, &Term)>
-    ensures { option_map (λ p. (p.0.now, p.1.now)) result ≡ sides_of (shape_of t.now) }
-{
-    match shape_of(t) {
-        ShapeRef::Equal(a, b) => Some((a, b)),
-        _ => None,
-    }
-}
-
-/// The sides of an equation of which a literal is the negation, where neither is a constant. Takes no memory.
-fn negated_sides(t: &Term) -> Option<(&Term, &Term)>
-    ensures { option_map (λ p. (p.0.now, p.1.now)) result ≡ negated_sides (shape_of t.now) }
-{
-    let ShapeRef::Not(equation) = shape_of(t) else {
-        return None;
-    };
-    let (a, b) = sides_of(equation)?;
-    if is_constant_shape(a) || is_constant_shape(b) {
-        return None;
-    }
-    Some((a, b))
-}
 
 /// Whether the equation of two terms can be used in a literal: that is an equation whose right side contains the
 /// second one, or whose left side contains the first. Takes no memory.

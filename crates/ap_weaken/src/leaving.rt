@@ -6,7 +6,7 @@ ghost use Rattle.ap_kernel.specs.Reductions.{KnownClause, Reduces, others, to_on
 ghost use Rattle.ap_weaken.specs.Irrelevance.{some_irrelevant, some_relevant, left_out, irrelevance_made};
 
 use crate::parts::is_irrelevant;
-use ap_kernel::{Reduction, cases, chain, drop_literal};
+use ap_kernel::{Reduction, cases, drop_literal, then};
 use ap_list::{NoMemory, Seq};
 use ap_term::{Clause, Term, copy_term, copy_terms};
 use ap_world::World;
@@ -34,20 +34,6 @@ fn some_relevant(alloc: Global, literals: &[Term]) -> Result<bool, NoMemory>
         }
     }
     Ok(false)
-}
-
-/// From a clause to what its one clause is reduced to.
-fn then(alloc: Global, w: &World, first: Reduction, next: Reduction) -> Result<Reduction, NoMemory>
-    requires first { Reduces w.now first }
-    requires next { Reduces w.now next }
-    requires one { first.says.to ≡ next.says.from ∷ [] }
-    ensures stands { IfOk result (λ r. Reduces w.now r) }
-    ensures made { IfOk result (λ r. r.says ≡ record { from = first.says.from; to = next.says.to }) }
-{
-    let mut rest = Seq::new(alloc);
-    rest.push(next)?;
-    let both = chain(alloc, w, first, rest)?;
-    Ok(both)
 }
 
 /// From a clause to its one clause, which is handed in too, without the literal at a place.
