@@ -13,7 +13,7 @@ pub mod masks;
 mod names;
 mod prescribing;
 mod primitive;
-mod recognising;
+mod recognisers;
 mod runes;
 mod same;
 mod shapes;
@@ -34,7 +34,7 @@ pub use entry::{
 };
 pub use kinds::{Kind, Sign};
 pub use primitive::{Primitive, primitive_of};
-pub use recognising::{are_distinct_variables, is_variable, recognised};
+pub use recognisers::{are_distinct_variables, is_variable, recognised};
 pub use same::{alike_entry, same_entry, same_theory, same_world};
 pub use shapes::{Head, ShapeRef, head_of, is_equal, is_if, is_iff, is_implies, is_not, shape_of};
 pub use theory::{Rune, RuneKind, Theory, copy_rune, copy_theory, same_rune};

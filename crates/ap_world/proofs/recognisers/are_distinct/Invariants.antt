@@ -1,7 +1,7 @@
 use Rattle.std.proofs.Common.{◌≡◌, length}
 use Rattle.ap_list.specs.Lists.{is_distinct}
 use Rattle.ap_term.specs.Equal.{term_eq}
-use Rattle.ap_world.proofs.recognising.are_distinct.Given as goal
+use Rattle.ap_world.proofs.recognisers.are_distinct.Given as goal
 
 -- what is left tells
 abbrev pub invariant-loop-left : goal.invariant-loop-left

@@ -1,7 +1,7 @@
 use Rattle.std.proofs.Common.{◌≡◌, map, drop}
 use Rattle.ap_list.specs.Lists.{lookup_by}
 use Rattle.ap_value.specs.Values.{bytes_eq}
-use Rattle.ap_world.proofs.recognising.find_bytes.Given as goal
+use Rattle.ap_world.proofs.recognisers.find_bytes.Given as goal
 
 -- what is left of the table has the answer
 abbrev pub invariant-loop-name : goal.invariant-loop-name
