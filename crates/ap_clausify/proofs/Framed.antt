@@ -2,6 +2,7 @@
 use Rattle.std.proofs.Common.{◌≡◌, Bool, ℕ, zero, suc, ◌+◌, ◌*◌, ◌<◌, ◌≤◌, List, [], ◌∷◌, ◌++◌, map, length, take, drop, Option, Some, None, slice_get, refl, ap, sym, ◌∙◌, subst, append_assoc, add-one, length-append, arith}
 use Rattle.ap_list.specs.Lists.{Each, joined}
 use Rattle.ap_term.specs.declared.term.Clause.{Clause}
+use Rattle.ap_term.specs.Metered.{spend}
 use Rattle.ap_world.specs.World.{Shown, function_of}
 use Rattle.ap_kernel.specs.declared.reductions.Inference.{Inference}
 use Rattle.ap_kernel.specs.declared.reductions.Reduction.{Reduction}
@@ -17,7 +18,7 @@ use Rattle.ap_clausify.specs.declared.states.Task.TheVariants as task
 use Rattle.ap_clausify.specs.declared.states.Turn.{Turn}
 use Rattle.ap_clausify.specs.declared.states.Turn.TheVariants as turn
 use Rattle.ap_clausify.specs.Scanning.{Ready}
-use Rattle.ap_clausify.specs.Splitting.{Left, Splitter, spend, before, then_rest, each_split, cases, split_by, split_to, split_of, steps_left, settled, settled_all, settled_left}
+use Rattle.ap_clausify.specs.Splitting.{Left, Splitter, before, then_rest, each_split, cases, split_by, split_to, split_of, steps_left, settled, settled_all, settled_left}
 use Rattle.ap_clausify.specs.Frames.{by_steps, done_clauses, due, resumed, outcome, origin, Waits, Linked, at_hand, comes, weight, GoesOn, Goes}
 
 -- the steps only fall
@@ -211,7 +212,7 @@ goes_done W fs f r n l h s e = record {
     due_is : due f n ≡ Some (all_to (claims f.done), n)
     due_is = ap (λ cs. before (done_clauses f) (each_split by_steps cs n)) (none_drop f.split.says.to (length f.done) h).0 ∙ ap (λ cs. Some (cs, n)) (append_nil (done_clauses f))
 
-due_case : (f : Frame) (c : Clause) (n : ℕ) → slice_get f.split.says.to (length f.done) ≡ Some c → due f n ≡ before (done_clauses f) (spend n (λ m. then_rest (by_steps c m) (each_split by_steps (drop (length f.done + 1) f.split.says.to))))
+due_case : (f : Frame) (c : Clause) (n : ℕ) → slice_get f.split.says.to (length f.done) ≡ Some c → due f n ≡ before (done_clauses f) (spend (λ m. then_rest (by_steps c m) (each_split by_steps (drop (length f.done + 1) f.split.says.to))) n)
 due_case f c n h = ap (λ cs. before (done_clauses f) (each_split by_steps cs n)) (get_drop f.split.says.to (length f.done) c h)
 
 pub goes_out : (fs : List Frame) (f : Frame) (c : Clause) (n : ℕ) → slice_get f.split.says.to (length f.done) ≡ Some c → n ≡ 0 → outcome fs (due f n) ≡ None

@@ -2,6 +2,7 @@
 use Rattle.std.specs.Prelude.{ℕ, zero, suc, List, [], ◌∷◌, ◌++◌, map, Option, Some, None}
 use Rattle.ap_list.specs.Lists.{joined}
 use Rattle.ap_term.specs.declared.term.Clause.{Clause}
+use Rattle.ap_term.specs.Metered.{Got, By, after, spend, mapped}
 use Rattle.ap_kernel.specs.declared.reductions.Inference.{Inference}
 use Rattle.ap_kernel.specs.Splits.{and_then, split_made}
 use Rattle.ap_kernel.specs.Tidying.{tidied, tidy_goals}
@@ -9,31 +10,24 @@ use Rattle.ap_clausify.specs.Places.{first_choice}
 
 -- clauses and the steps that are left, or nothing where the steps ran out
 abbrev pub Left : Type 0
-Left = Option (List Clause × ℕ)
+Left = Got (List Clause)
 
 -- how a clause is split with so many steps
 abbrev pub Splitter : Type 0
-Splitter = Clause → ℕ → Left
-
--- a step is spent
-abbrev pub spend : ℕ → (ℕ → Left) → Left
-spend zero k = None
-spend (suc n) k = k n
+Splitter = Clause → By (List Clause)
 
 -- clauses that stand before others
 abbrev pub before : List Clause → Left → Left
-before cs None = None
-before cs (Some p) = Some (cs ++ p.0, p.1)
+before cs o = mapped (λ ds. cs ++ ds) o
 
 -- what comes first, and then the rest with the steps that are left
 abbrev pub then_rest : Left → (ℕ → Left) → Left
-then_rest None k = None
-then_rest (Some p) k = before p.0 (k p.1)
+then_rest o k = after o (λ cs n. before cs (k n))
 
 -- each clause is made, which spends a step, and split wholly before the next one is made
 abbrev pub each_split : Splitter → List Clause → ℕ → Left
 each_split s [] n = Some ([], n)
-each_split s (c ∷ cs) n = spend n (λ m. then_rest (s c m) (each_split s cs))
+each_split s (c ∷ cs) n = spend (λ m. then_rest (s c m) (each_split s cs)) n
 
 -- the two cases of a clause for the `if` that is split first, if there is one
 abbrev pub cases : Clause → Option Inference

@@ -57,7 +57,7 @@ no_part : (a b : Option (List ℕ)) (t : List ℕ) → Gained a b [] → GainedP
 no_part a b t h = record { part = []; rest = t; whole = refl; gained = h }
 
 no_file : (a b : Option Files) (fs : Files) → Stored a b [] → StoredPart a b fs
-no_file a b fs h = record { done = []; rest = fs; whole = refl; others = λ name. inr (h name) }
+no_file a b fs h = record { done = []; rest = fs; whole = refl; elsewhere = λ name. inr (h name) }
 
 pub acted_none : (a b : Outside) → b.content ≡ a.content → b.files ≡ a.files → Acted a b []
 acted_none a b c f = record { text = same_gained a.content b.content c; files = stored_none a.files b.files f }

@@ -45,14 +45,14 @@ stored_more a b c xs ys h k name = k name ∙ ap (option_map (stored_at ys name)
 -- the first of some files
 
 pub part_none : (old new : Option Files) (files : Files) → new ≡ old → StoredPart old new files
-part_none old new files same = record { done = []; rest = files; whole = refl; others = λ name. inr (stored_none old new same name) }
+part_none old new files same = record { done = []; rest = files; whole = refl; elsewhere = λ name. inr (stored_none old new same name) }
 
 pub part_all : (old new : Option Files) (files : Files) → Stored old new files → StoredPart old new files
-part_all old new files h = record { done = files; rest = []; whole = sym (append-nil files); others = λ name. inr (h name) }
+part_all old new files h = record { done = files; rest = []; whole = sym (append-nil files); elsewhere = λ name. inr (h name) }
 
 -- where the store of one failed
 pub part_failed : (old new : Option Files) (name bytes : List ℕ) → OthersStay name old new → StoredPart old new ((name, bytes) ∷ [])
-part_failed old new name bytes others = record { done = []; rest = (name, bytes) ∷ []; whole = refl; others = λ n. go n (bytes_eq n name) refl }
+part_failed old new name bytes others = record { done = []; rest = (name, bytes) ∷ []; whole = refl; elsewhere = λ n. go n (bytes_eq n name) refl }
   where
     go : (n : List ℕ) (b : Bool) → bytes_eq n name ≡ b → IsFirst ((name, bytes) ∷ []) n ⊎ (told_at new n ≡ option_map (stored_at [] n) (told_at old n))
     go n true e = inl (sym ((bytes_eq-Decides n name).0 e))
@@ -67,7 +67,7 @@ part_first old new xs ys h = record {
   done = h.done;
   rest = h.rest ++ ys;
   whole = ap (λ fs. fs ++ ys) h.whole ∙ append_assoc h.done h.rest ys;
-  others = λ name. go name (h.others name);
+  elsewhere = λ name. go name (h.elsewhere name);
 }
   where
     go : (name : List ℕ) → IsFirst h.rest name ⊎ (told_at new name ≡ option_map (stored_at h.done name) (told_at old name))
@@ -80,7 +80,7 @@ part_next a b c xs ys h k = record {
   done = xs ++ k.done;
   rest = k.rest;
   whole = ap (λ fs. xs ++ fs) k.whole ∙ sym (append_assoc xs k.done k.rest);
-  others = λ name. go name (k.others name);
+  elsewhere = λ name. go name (k.elsewhere name);
 }
   where
     go : (name : List ℕ) → IsFirst k.rest name ⊎ (told_at c name ≡ option_map (stored_at k.done name) (told_at b name))
@@ -121,7 +121,7 @@ first_is_cert [] name certs other f = f
 first_is_cert (file ∷ files) name certs other f = other certs.0.0 (sym f ∙ certs.0.1)
 
 pub other_stays_part : (old new : Option Files) (files : Files) (name : List ℕ) → StoredPart old new files → AreCerts files → EndsOtherwise name → told_at new name ≡ told_at old name
-other_stays_part old new files name h certs other = go (h.others name)
+other_stays_part old new files name h certs other = go (h.elsewhere name)
   where
     whole : AreCerts (h.done ++ h.rest)
     whole = subst AreCerts h.whole certs

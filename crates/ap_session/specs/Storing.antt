@@ -22,4 +22,4 @@ pub record StoredPart (old new : Option Files) (files : Files) : Type 0 where
   pub done : Files
   pub rest : Files
   pub whole : files ≡ done ++ rest
-  pub others : (name : List ℕ) → IsFirst rest name ⊎ (told_at new name ≡ option_map (stored_at done name) (told_at old name))
+  pub elsewhere : (name : List ℕ) → IsFirst rest name ⊎ (told_at new name ≡ option_map (stored_at done name) (told_at old name))
