@@ -5,6 +5,7 @@ ghost use Rattle.ap_rewrite.specs.Answering.{defs_in, inner_of, seen_at, got, Fr
 
 use ap_kernel::{Ctx, Equiv, Mode, NoMemory, Seq, Symbol, Term, TypeOracle, World};
 use ap_rules::RuleIndex;
+use ap_term::Steps;
 use ap_world::Theory;
 use std::alloc::Global;
 
@@ -29,12 +30,6 @@ pub struct Place<'a> {
     pub chain: u32,
 }
 
-/// What changes while terms are rewritten: the number of steps that are left.
-#[derive(Clone, Copy, Debug)]
-pub struct Run {
-    pub left: u32,
-}
-
 /// What something that may not apply came to: `None` where the steps ran out, `Some(None)` where it doesn't apply.
 pub type Tried<T> = Option<Option<T>>;
 
@@ -49,10 +44,10 @@ pub struct Level<'a, 'b, O, F> {
 /// A term one level deeper. `None` where the steps run out.
 pub fn deeper<
     O: TypeOracle,
-    F: Fn(&mut Run, Mode, &Place<'_>, &Term) -> Result<Option<Equiv>, NoMemory>,
+    F: Fn(&mut Steps, Mode, &Place<'_>, &Term) -> Result<Option<Equiv>, NoMemory>,
 >(
     l: &Level<'_, '_, O, F>,
-    run: &mut Run,
+    steps: &mut Steps,
     mode: Mode,
     at: &Place<'_>,
     t: &Term,
@@ -60,8 +55,8 @@ pub fn deeper<
     requires level { IsLevel (F.pre l.now.below.now) (F.post l.now.below.now) l.now.r.now l.now.levels }
     requires facts { KnownFacts (defs_in l.now.r.now) at.now.ctx.now.0 }
     requires term { IsTrue (known (defs_in l.now.r.now) t.now) }
-    ensures is { IfOk result (λ o. got o run.new.left ≡ inner_of l.now.r.now l.now.levels mode (seen_at at.now) t.now run.old.left) }
+    ensures is { IfOk result (λ o. got o steps.new.left ≡ inner_of l.now.r.now l.now.levels mode (seen_at at.now) t.now steps.old.left) }
     ensures from { IfOk result (λ o. IfSome o (From l.now.r.now.w.now mode at.now.ctx.now t.now)) }
 {
-    (l.below)(run, mode, at, t)
+    (l.below)(steps, mode, at, t)
 }
