@@ -9,6 +9,7 @@ use Rattle.ap_value.specs.declared.symbol.Symbol.{Symbol}
 use Rattle.ap_term.specs.declared.term.Term.{Term, Call}
 use Rattle.ap_term.specs.Equal.{term_eq}
 use Rattle.ap_term.specs.Matching.{Pairs, Extends}
+use Rattle.ap_term.specs.declared.steps.Steps.{Steps}
 use Rattle.ap_term.specs.Metered.{Got, By, known as answer, after}
 use Rattle.ap_world.specs.Meaning.{Defs}
 use Rattle.ap_world.specs.Sound.{known}
@@ -28,7 +29,6 @@ use Rattle.ap_kernel.specs.Applying.{AllLead}
 use Rattle.ap_kernel.specs.Standing.{DefinesNot, Stands}
 use Rattle.ap_rewrite.specs.declared.rewriter.Rewriter.{Rewriter}
 use Rattle.ap_rewrite.specs.declared.rewriter.Place.{Place}
-use Rattle.ap_rewrite.specs.declared.rewriter.Run.{Run}
 use Rattle.ap_rewrite.specs.declared.branching.BothBranches.{BothBranches}
 use Rattle.ap_rewrite.specs.declared.facts.Relieved.{Relieved}
 use Rattle.ap_rewrite.specs.declared.rules.Reliefs.{Reliefs}
@@ -198,13 +198,13 @@ Leads w o c q = From w o c q.says.lhs q
 
 -- how a term is rewritten one level deeper: wherever facts and term are those of the world, it answers as the
 -- definition does with so many levels left
-pub record IsLevel {O : Type 0} (may : MutBor Run → Mode → Bor Place → Bor Term → Type 0)
-    (gives : MutBor Run → Mode → Bor Place → Bor Term → Result (Option Equiv) AllocError → MutBor Run → Type 0)
+pub record IsLevel {O : Type 0} (may : MutBor Steps → Mode → Bor Place → Bor Term → Type 0)
+    (gives : MutBor Steps → Mode → Bor Place → Bor Term → Result (Option Equiv) AllocError → MutBor Steps → Type 0)
     (r : Rewriter O) (d : ℕ) : Type 0 where
   pub ready : Ready r
-  pub callable : (run : MutBor Run) (o : Mode) (p : Bor Place) (u : Bor Term)
-      → KnownFacts (defs_in r) p.now.ctx.now.0 → IsTrue (known (defs_in r) u.now) → may run o p u
-  pub is : (run : MutBor Run) (o : Mode) (p : Bor Place) (u : Bor Term) (a : Result (Option Equiv) AllocError) (left : MutBor Run)
-      → gives run o p u a left → IfOk a (λ b. got b left.now.left ≡ inner_of r d o (seen_at p.now) u.now run.now.left)
-  pub from : (run : MutBor Run) (o : Mode) (p : Bor Place) (u : Bor Term) (a : Result (Option Equiv) AllocError) (left : MutBor Run)
-      → gives run o p u a left → IfOk a (λ b. IfSome b (From r.w.now o p.now.ctx.now u.now))
+  pub callable : (steps : MutBor Steps) (o : Mode) (p : Bor Place) (u : Bor Term)
+      → KnownFacts (defs_in r) p.now.ctx.now.0 → IsTrue (known (defs_in r) u.now) → may steps o p u
+  pub is : (steps : MutBor Steps) (o : Mode) (p : Bor Place) (u : Bor Term) (a : Result (Option Equiv) AllocError) (left : MutBor Steps)
+      → gives steps o p u a left → IfOk a (λ b. got b left.now.left ≡ inner_of r d o (seen_at p.now) u.now steps.now.left)
+  pub from : (steps : MutBor Steps) (o : Mode) (p : Bor Place) (u : Bor Term) (a : Result (Option Equiv) AllocError) (left : MutBor Steps)
+      → gives steps o p u a left → IfOk a (λ b. IfSome b (From r.w.now o p.now.ctx.now u.now))

@@ -14,34 +14,31 @@ use crate::bounding::{Begun, begin, integers};
 use crate::laws::arithmetic_is_sound;
 use crate::linear_rules::used_each;
 use crate::refuting::refute;
-use crate::rewriter::{Level, Place, Run, Tried};
+use crate::rewriter::{Below, Level, Place, Tried};
 use crate::settling::in_mode;
 use ap_kernel::{
     Equiv, LinearOracle, Mask, Mode, NoMemory, Seq, Symbol, Term, TypeOracle, both_not_less,
 };
 use ap_rules::linear_for;
-use ap_term::copy_term;
+use ap_term::{Steps, copy_term};
 use ap_value::{Fixed, named};
 use ap_world::{Primitive, primitive_of};
 use std::alloc::Global;
 
 /// From a comparison to the truth that its sign denies, where the first 32 of the polynomials that the definition
 /// lists can't all hold.
-fn refuted<
-    O: TypeOracle + LinearOracle,
-    F: Fn(&mut Run, Mode, &Place<'_>, &Term) -> Result<Option<Equiv>, NoMemory>,
->(
+fn refuted<O: TypeOracle + LinearOracle, F: Below>(
     l: &Level<'_, '_, O, F>,
-    run: &mut Run,
+    steps: &mut Steps,
     at: &Place<'_>,
     t: &Term,
     sign: bool,
 ) -> Result<Tried<Equiv>, NoMemory>
-    requires level { IsLevel (F.pre l.now.below.now) (F.post l.now.below.now) l.now.r.now l.now.levels }
+    requires level { IsLevel (F.may l.now.below.now) (F.gives l.now.below.now) l.now.r.now l.now.levels }
     requires facts { KnownFacts (defs_in l.now.r.now) at.now.ctx.now.0 }
     requires term { IsTrue (known (defs_in l.now.r.now) t.now) }
     requires comparison { IsTrue (is_comparison t.now) }
-    ensures is { IfOk result (λ o. got_if o run.new.left ≡ refuted (setting_of l.now.r.now) (inner_of l.now.r.now l.now.levels) (seen_at at.now) t.now sign run.old.left) }
+    ensures is { IfOk result (λ o. got_if o steps.new.left ≡ refuted (setting_of l.now.r.now) (inner_of l.now.r.now l.now.levels) (seen_at at.now) t.now sign steps.old.left) }
     ensures refutes { IfOk result (λ o. IfSome o (λ a. IfSome a (Refutes l.now.r.now.w.now at.now.ctx.now t.now sign))) }
 {
     arithmetic_is_sound();
@@ -49,7 +46,7 @@ fn refuted<
     l.r.w.recall_distinct_names();
     let Begun { polys, atoms } = begin(l.r, at.ctx, t, sign)?;
     let places = linear_for(l.r.alloc, l.r.rules, atoms.as_slice())?;
-    let Some(all) = used_each(l, run, at, places.as_slice(), atoms.as_slice(), polys)? else {
+    let Some(all) = used_each(l, steps, at, places.as_slice(), atoms.as_slice(), polys)? else {
         return Ok(None);
     };
     let found = refute(l.r.alloc, l.r.w, l.r.oracle, at.ctx, t, sign, all)?;
@@ -68,95 +65,83 @@ fn less_term(alloc: Global, a: &Term, b: &Term) -> Result<Term, NoMemory>
 }
 
 /// A comparison is `'NIL` where it is refuted.
-fn by_truth<
-    O: TypeOracle + LinearOracle,
-    F: Fn(&mut Run, Mode, &Place<'_>, &Term) -> Result<Option<Equiv>, NoMemory>,
->(
+fn by_truth<O: TypeOracle + LinearOracle, F: Below>(
     l: &Level<'_, '_, O, F>,
-    run: &mut Run,
+    steps: &mut Steps,
     at: &Place<'_>,
     t: &Term,
 ) -> Result<Tried<Equiv>, NoMemory>
-    requires level { IsLevel (F.pre l.now.below.now) (F.post l.now.below.now) l.now.r.now l.now.levels }
+    requires level { IsLevel (F.may l.now.below.now) (F.gives l.now.below.now) l.now.r.now l.now.levels }
     requires facts { KnownFacts (defs_in l.now.r.now) at.now.ctx.now.0 }
     requires term { IsTrue (known (defs_in l.now.r.now) t.now) }
     requires comparison { IsTrue (is_comparison t.now) }
-    ensures is { IfOk result (λ o. got_any o run.new.left ≡ by_truth (setting_of l.now.r.now) (inner_of l.now.r.now l.now.levels) (seen_at at.now) t.now run.old.left) }
+    ensures is { IfOk result (λ o. got_any o steps.new.left ≡ by_truth (setting_of l.now.r.now) (inner_of l.now.r.now l.now.levels) (seen_at at.now) t.now steps.old.left) }
     ensures from { IfOk result (λ o. IfSome o (λ a. IfSome a (From l.now.r.now.w.now Equal at.now.ctx.now t.now))) }
 {
-    refuted(l, run, at, t, true)
+    refuted(l, steps, at, t, true)
 }
 
 /// `(< a b)`: `'T` where its negation is refuted, else `'NIL` where it is.
-fn by_less<
-    O: TypeOracle + LinearOracle,
-    F: Fn(&mut Run, Mode, &Place<'_>, &Term) -> Result<Option<Equiv>, NoMemory>,
->(
+fn by_less<O: TypeOracle + LinearOracle, F: Below>(
     l: &Level<'_, '_, O, F>,
-    run: &mut Run,
+    steps: &mut Steps,
     at: &Place<'_>,
     t: &Term,
 ) -> Result<Tried<Equiv>, NoMemory>
-    requires level { IsLevel (F.pre l.now.below.now) (F.post l.now.below.now) l.now.r.now l.now.levels }
+    requires level { IsLevel (F.may l.now.below.now) (F.gives l.now.below.now) l.now.r.now l.now.levels }
     requires facts { KnownFacts (defs_in l.now.r.now) at.now.ctx.now.0 }
     requires term { IsTrue (known (defs_in l.now.r.now) t.now) }
     requires comparison { IsTrue (is_comparison t.now) }
-    ensures is { IfOk result (λ o. got_any o run.new.left ≡ by_less (setting_of l.now.r.now) (inner_of l.now.r.now l.now.levels) (seen_at at.now) t.now run.old.left) }
+    ensures is { IfOk result (λ o. got_any o steps.new.left ≡ by_less (setting_of l.now.r.now) (inner_of l.now.r.now l.now.levels) (seen_at at.now) t.now steps.old.left) }
     ensures from { IfOk result (λ o. IfSome o (λ a. IfSome a (From l.now.r.now.w.now Equal at.now.ctx.now t.now))) }
 {
-    match refuted(l, run, at, t, false)? {
+    match refuted(l, steps, at, t, false)? {
         None => Ok(None),
         Some(Some(q)) => Ok(Some(Some(q))),
-        Some(None) => by_truth(l, run, at, t),
+        Some(None) => by_truth(l, steps, at, t),
     }
 }
 
 /// From `(< a b)` to `'NIL`, where it is refuted.
-fn less_refuted<
-    O: TypeOracle + LinearOracle,
-    F: Fn(&mut Run, Mode, &Place<'_>, &Term) -> Result<Option<Equiv>, NoMemory>,
->(
+fn less_refuted<O: TypeOracle + LinearOracle, F: Below>(
     l: &Level<'_, '_, O, F>,
-    run: &mut Run,
+    steps: &mut Steps,
     at: &Place<'_>,
     a: &Term,
     b: &Term,
 ) -> Result<Tried<Equiv>, NoMemory>
-    requires level { IsLevel (F.pre l.now.below.now) (F.post l.now.below.now) l.now.r.now l.now.levels }
+    requires level { IsLevel (F.may l.now.below.now) (F.gives l.now.below.now) l.now.r.now l.now.levels }
     requires facts { KnownFacts (defs_in l.now.r.now) at.now.ctx.now.0 }
     requires left { IsTrue (known (defs_in l.now.r.now) a.now) }
     requires right { IsTrue (known (defs_in l.now.r.now) b.now) }
-    ensures is { IfOk result (λ o. got_if o run.new.left ≡ refuted (setting_of l.now.r.now) (inner_of l.now.r.now l.now.levels) (seen_at at.now) (less_of a.now b.now) true run.old.left) }
+    ensures is { IfOk result (λ o. got_if o steps.new.left ≡ refuted (setting_of l.now.r.now) (inner_of l.now.r.now l.now.levels) (seen_at at.now) (less_of a.now b.now) true steps.old.left) }
     ensures refutes { IfOk result (λ o. IfSome o (λ q. IfSome q (Refutes l.now.r.now.w.now at.now.ctx.now (less_of a.now b.now) true))) }
 {
     let less = less_term(l.r.alloc, a, b)?;
-    let found = refuted(l, run, at, &less, true)?;
+    let found = refuted(l, steps, at, &less, true)?;
     Ok(found)
 }
 
 /// Two integers by their types, of which the first isn't less: whether the second isn't either, so that they are equal.
-fn other_order<
-    O: TypeOracle + LinearOracle,
-    F: Fn(&mut Run, Mode, &Place<'_>, &Term) -> Result<Option<Equiv>, NoMemory>,
->(
+fn other_order<O: TypeOracle + LinearOracle, F: Below>(
     l: &Level<'_, '_, O, F>,
-    run: &mut Run,
+    steps: &mut Steps,
     at: &Place<'_>,
     a: &Term,
     b: &Term,
     masks: (Mask, Mask),
     first: Equiv,
 ) -> Result<Tried<Equiv>, NoMemory>
-    requires level { IsLevel (F.pre l.now.below.now) (F.post l.now.below.now) l.now.r.now l.now.levels }
+    requires level { IsLevel (F.may l.now.below.now) (F.gives l.now.below.now) l.now.r.now l.now.levels }
     requires facts { KnownFacts (defs_in l.now.r.now) at.now.ctx.now.0 }
     requires left { IsTrue (known (defs_in l.now.r.now) a.now) }
     requires right { IsTrue (known (defs_in l.now.r.now) b.now) }
     requires within { IntegersWithin (defs_in l.now.r.now) at.now.ctx.now.0 a.now b.now masks.0 masks.1 }
     requires first { Refutes l.now.r.now.w.now at.now.ctx.now (less_of a.now b.now) true first }
-    ensures is { IfOk result (λ o. got_if o run.new.left ≡ refuted (setting_of l.now.r.now) (inner_of l.now.r.now l.now.levels) (seen_at at.now) (less_of b.now a.now) true run.old.left) }
+    ensures is { IfOk result (λ o. got_if o steps.new.left ≡ refuted (setting_of l.now.r.now) (inner_of l.now.r.now l.now.levels) (seen_at at.now) (less_of b.now a.now) true steps.old.left) }
     ensures squeezes { IfOk result (λ o. IfSome o (λ q. IfSome q (Squeezes l.now.r.now.w.now at.now.ctx.now a.now b.now))) }
 {
-    match less_refuted(l, run, at, b, a)? {
+    match less_refuted(l, steps, at, b, a)? {
         None => Ok(None),
         Some(None) => Ok(Some(None)),
         Some(Some(second)) => {
@@ -168,138 +153,123 @@ fn other_order<
 }
 
 /// Whether neither of two integers by their types is less: the second order is tried only where the first is refuted.
-fn by_orders<
-    O: TypeOracle + LinearOracle,
-    F: Fn(&mut Run, Mode, &Place<'_>, &Term) -> Result<Option<Equiv>, NoMemory>,
->(
+fn by_orders<O: TypeOracle + LinearOracle, F: Below>(
     l: &Level<'_, '_, O, F>,
-    run: &mut Run,
+    steps: &mut Steps,
     at: &Place<'_>,
     a: &Term,
     b: &Term,
     masks: (Mask, Mask),
 ) -> Result<Tried<Equiv>, NoMemory>
-    requires level { IsLevel (F.pre l.now.below.now) (F.post l.now.below.now) l.now.r.now l.now.levels }
+    requires level { IsLevel (F.may l.now.below.now) (F.gives l.now.below.now) l.now.r.now l.now.levels }
     requires facts { KnownFacts (defs_in l.now.r.now) at.now.ctx.now.0 }
     requires left { IsTrue (known (defs_in l.now.r.now) a.now) }
     requires right { IsTrue (known (defs_in l.now.r.now) b.now) }
     requires within { IntegersWithin (defs_in l.now.r.now) at.now.ctx.now.0 a.now b.now masks.0 masks.1 }
-    ensures is { IfOk result (λ o. got_if o run.new.left ≡ by_orders (setting_of l.now.r.now) (inner_of l.now.r.now l.now.levels) (seen_at at.now) a.now b.now run.old.left) }
+    ensures is { IfOk result (λ o. got_if o steps.new.left ≡ by_orders (setting_of l.now.r.now) (inner_of l.now.r.now l.now.levels) (seen_at at.now) a.now b.now steps.old.left) }
     ensures squeezes { IfOk result (λ o. IfSome o (λ q. IfSome q (Squeezes l.now.r.now.w.now at.now.ctx.now a.now b.now))) }
 {
-    match less_refuted(l, run, at, a, b)? {
+    match less_refuted(l, steps, at, a, b)? {
         None => Ok(None),
         Some(None) => Ok(Some(None)),
-        Some(Some(first)) => other_order(l, run, at, a, b, masks, first),
+        Some(Some(first)) => other_order(l, steps, at, a, b, masks, first),
     }
 }
 
 /// `(equal a b)` of two integers: `'T` where neither is less, else `'NIL` where it is refuted.
-fn by_equal<
-    O: TypeOracle + LinearOracle,
-    F: Fn(&mut Run, Mode, &Place<'_>, &Term) -> Result<Option<Equiv>, NoMemory>,
->(
+fn by_equal<O: TypeOracle + LinearOracle, F: Below>(
     l: &Level<'_, '_, O, F>,
-    run: &mut Run,
+    steps: &mut Steps,
     at: &Place<'_>,
     t: &Term,
     a: &Term,
     b: &Term,
     masks: (Mask, Mask),
 ) -> Result<Tried<Equiv>, NoMemory>
-    requires level { IsLevel (F.pre l.now.below.now) (F.post l.now.below.now) l.now.r.now l.now.levels }
+    requires level { IsLevel (F.may l.now.below.now) (F.gives l.now.below.now) l.now.r.now l.now.levels }
     requires facts { KnownFacts (defs_in l.now.r.now) at.now.ctx.now.0 }
     requires term { IsTrue (known (defs_in l.now.r.now) t.now) }
     requires equation { t.now ≡ equal_of a.now b.now }
     requires left { IsTrue (known (defs_in l.now.r.now) a.now) }
     requires right { IsTrue (known (defs_in l.now.r.now) b.now) }
     requires within { IntegersWithin (defs_in l.now.r.now) at.now.ctx.now.0 a.now b.now masks.0 masks.1 }
-    ensures is { IfOk result (λ o. got_any o run.new.left ≡ by_equal (setting_of l.now.r.now) (inner_of l.now.r.now l.now.levels) (seen_at at.now) t.now a.now b.now run.old.left) }
+    ensures is { IfOk result (λ o. got_any o steps.new.left ≡ by_equal (setting_of l.now.r.now) (inner_of l.now.r.now l.now.levels) (seen_at at.now) t.now a.now b.now steps.old.left) }
     ensures from { IfOk result (λ o. IfSome o (λ a'. IfSome a' (From l.now.r.now.w.now Equal at.now.ctx.now t.now))) }
 {
-    match by_orders(l, run, at, a, b, masks)? {
+    match by_orders(l, steps, at, a, b, masks)? {
         None => Ok(None),
         Some(Some(q)) => Ok(Some(Some(q))),
-        Some(None) => by_truth(l, run, at, t),
+        Some(None) => by_truth(l, steps, at, t),
     }
 }
 
 /// `(equal a b)`, where both are integers by their types.
-fn by_equation<
-    O: TypeOracle + LinearOracle,
-    F: Fn(&mut Run, Mode, &Place<'_>, &Term) -> Result<Option<Equiv>, NoMemory>,
->(
+fn by_equation<O: TypeOracle + LinearOracle, F: Below>(
     l: &Level<'_, '_, O, F>,
-    run: &mut Run,
+    steps: &mut Steps,
     at: &Place<'_>,
     t: &Term,
     a: &Term,
     b: &Term,
 ) -> Result<Tried<Equiv>, NoMemory>
-    requires level { IsLevel (F.pre l.now.below.now) (F.post l.now.below.now) l.now.r.now l.now.levels }
+    requires level { IsLevel (F.may l.now.below.now) (F.gives l.now.below.now) l.now.r.now l.now.levels }
     requires facts { KnownFacts (defs_in l.now.r.now) at.now.ctx.now.0 }
     requires term { IsTrue (known (defs_in l.now.r.now) t.now) }
     requires equation { t.now ≡ equal_of a.now b.now }
-    ensures is { IfOk result (λ o. got_any o run.new.left ≡ by_equation (setting_of l.now.r.now) (inner_of l.now.r.now l.now.levels) (seen_at at.now) t.now a.now b.now run.old.left) }
+    ensures is { IfOk result (λ o. got_any o steps.new.left ≡ by_equation (setting_of l.now.r.now) (inner_of l.now.r.now l.now.levels) (seen_at at.now) t.now a.now b.now steps.old.left) }
     ensures from { IfOk result (λ o. IfSome o (λ a'. IfSome a' (From l.now.r.now.w.now Equal at.now.ctx.now t.now))) }
 {
     match integers(l.r, at.ctx, a, b)? {
-        Some(masks) => by_equal(l, run, at, t, a, b, masks),
+        Some(masks) => by_equal(l, steps, at, t, a, b, masks),
         None => Ok(Some(None)),
     }
 }
 
 /// A comparison, by what it is.
-fn compared<
-    O: TypeOracle + LinearOracle,
-    F: Fn(&mut Run, Mode, &Place<'_>, &Term) -> Result<Option<Equiv>, NoMemory>,
->(
+fn compared<O: TypeOracle + LinearOracle, F: Below>(
     l: &Level<'_, '_, O, F>,
-    run: &mut Run,
+    steps: &mut Steps,
     at: &Place<'_>,
     t: &Term,
     f: &Symbol,
     us: &[Term],
 ) -> Result<Tried<Equiv>, NoMemory>
-    requires level { IsLevel (F.pre l.now.below.now) (F.post l.now.below.now) l.now.r.now l.now.levels }
+    requires level { IsLevel (F.may l.now.below.now) (F.gives l.now.below.now) l.now.r.now l.now.levels }
     requires facts { KnownFacts (defs_in l.now.r.now) at.now.ctx.now.0 }
     requires term { IsTrue (known (defs_in l.now.r.now) t.now) }
     requires call { t.now ≡ Call f.now us.now }
-    ensures is { IfOk result (λ o. got_any o run.new.left ≡ by_arithmetic (setting_of l.now.r.now) (inner_of l.now.r.now l.now.levels) (seen_at at.now) f.now us.now run.old.left) }
+    ensures is { IfOk result (λ o. got_any o steps.new.left ≡ by_arithmetic (setting_of l.now.r.now) (inner_of l.now.r.now l.now.levels) (seen_at at.now) f.now us.now steps.old.left) }
     ensures from { IfOk result (λ o. IfSome o (λ a. IfSome a (From l.now.r.now.w.now Equal at.now.ctx.now t.now))) }
 {
     let [a, b] = us else {
         return Ok(Some(None));
     };
     match primitive_of(f) {
-        Some(Primitive::Less) => by_less(l, run, at, t),
-        Some(Primitive::Equal) => by_equation(l, run, at, t, a, b),
+        Some(Primitive::Less) => by_less(l, steps, at, t),
+        Some(Primitive::Equal) => by_equation(l, steps, at, t, a, b),
         _ => Ok(Some(None)),
     }
 }
 
 /// What linear arithmetic decides of a call, under a mode: of `<`, and of `equal` where both sides are integers by
 /// their types. See the manual's topic `linear-arithmetic`.
-pub(crate) fn by_arithmetic<
-    O: TypeOracle + LinearOracle,
-    F: Fn(&mut Run, Mode, &Place<'_>, &Term) -> Result<Option<Equiv>, NoMemory>,
->(
+pub(crate) fn by_arithmetic<O: TypeOracle + LinearOracle, F: Below>(
     l: &Level<'_, '_, O, F>,
-    run: &mut Run,
+    steps: &mut Steps,
     mode: Mode,
     at: &Place<'_>,
     t: &Term,
     f: &Symbol,
     us: &[Term],
 ) -> Result<Tried<Equiv>, NoMemory>
-    requires level { IsLevel (F.pre l.now.below.now) (F.post l.now.below.now) l.now.r.now l.now.levels }
+    requires level { IsLevel (F.may l.now.below.now) (F.gives l.now.below.now) l.now.r.now l.now.levels }
     requires facts { KnownFacts (defs_in l.now.r.now) at.now.ctx.now.0 }
     requires term { IsTrue (known (defs_in l.now.r.now) t.now) }
     requires call { t.now ≡ Call f.now us.now }
-    ensures is { IfOk result (λ o. got_any o run.new.left ≡ by_arithmetic (setting_of l.now.r.now) (inner_of l.now.r.now l.now.levels) (seen_at at.now) f.now us.now run.old.left) }
+    ensures is { IfOk result (λ o. got_any o steps.new.left ≡ by_arithmetic (setting_of l.now.r.now) (inner_of l.now.r.now l.now.levels) (seen_at at.now) f.now us.now steps.old.left) }
     ensures from { IfOk result (λ o. IfSome o (λ a. IfSome a (From l.now.r.now.w.now mode at.now.ctx.now t.now))) }
 {
-    match compared(l, run, at, t, f, us)? {
+    match compared(l, steps, at, t, f, us)? {
         None => Ok(None),
         Some(None) => Ok(Some(None)),
         Some(Some(q)) => {

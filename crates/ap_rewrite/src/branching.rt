@@ -10,12 +10,13 @@ ghost use Rattle.ap_rewrite.specs.Settings.{under};
 ghost use Rattle.ap_rewrite.specs.Rewriting.{truth_of, shaped, negated, both, branches, rewrite_if, rewrite_not};
 ghost use Rattle.ap_rewrite.specs.Answering.{defs_in, Ready, setting_of, inner_of, seen_at, got, got_branches, in_branches, From, FromBranches, IsLevel};
 
-use crate::rewriter::{Level, Place, Rewriter, Run, deeper};
+use crate::rewriter::{Below, Level, Place, Rewriter, deeper};
 use crate::rows::{follow, join, negate, plainest, simplest};
 use crate::sizes::truth_of;
 use ap_kernel::{
     Ctx, Equiv, Mode, NoMemory, Term, TypeOracle, assume, assumed_facts_hold, choose_branch,
 };
+use ap_term::Steps;
 
 /// What both branches of an `if` lead to.
 #[derive(Drop)]
@@ -25,23 +26,20 @@ pub(crate) struct BothBranches {
 }
 
 /// A term under what another's sign adds to the facts.
-fn under<
-    O: TypeOracle,
-    F: Fn(&mut Run, Mode, &Place<'_>, &Term) -> Result<Option<Equiv>, NoMemory>,
->(
+fn under<O: TypeOracle, F: Below>(
     l: &Level<'_, '_, O, F>,
-    run: &mut Run,
+    steps: &mut Steps,
     mode: Mode,
     at: &Place<'_>,
     a: &Term,
     sign: bool,
     t: &Term,
 ) -> Result<Option<Equiv>, NoMemory>
-    requires level { IsLevel (F.pre l.now.below.now) (F.post l.now.below.now) l.now.r.now l.now.levels }
+    requires level { IsLevel (F.may l.now.below.now) (F.gives l.now.below.now) l.now.r.now l.now.levels }
     requires facts { KnownFacts (defs_in l.now.r.now) at.now.ctx.now.0 }
     requires test { IsTrue (known (defs_in l.now.r.now) a.now) }
     requires term { IsTrue (known (defs_in l.now.r.now) t.now) }
-    ensures is { IfOk result (λ o. got o run.new.left ≡ inner_of l.now.r.now l.now.levels mode (under (seen_at at.now) a.now sign) t.now run.old.left) }
+    ensures is { IfOk result (λ o. got o steps.new.left ≡ inner_of l.now.r.now l.now.levels mode (under (seen_at at.now) a.now sign) t.now steps.old.left) }
     ensures from { IfOk result (λ o. IfSome o (From l.now.r.now.w.now mode (record { 0 = assume at.now.ctx.now.0 a.now sign }) t.now)) }
 {
     assumed_facts_hold();
@@ -51,7 +49,7 @@ fn under<
         closed: at.closed,
         chain: at.chain,
     };
-    let found = deeper(l, run, mode, &place, t)?;
+    let found = deeper(l, steps, mode, &place, t)?;
     Ok(found)
 }
 
@@ -114,42 +112,36 @@ fn shape_whole<O: TypeOracle>(
 }
 
 /// What both branches of an `if` lead to, each under the test's sign. `None` where the steps run out.
-fn in_branches<
-    O: TypeOracle,
-    F: Fn(&mut Run, Mode, &Place<'_>, &Term) -> Result<Option<Equiv>, NoMemory>,
->(
+fn in_branches<O: TypeOracle, F: Below>(
     l: &Level<'_, '_, O, F>,
-    run: &mut Run,
+    steps: &mut Steps,
     mode: Mode,
     at: &Place<'_>,
     a: &Term,
     b: &Term,
     c: &Term,
 ) -> Result<Option<BothBranches>, NoMemory>
-    requires level { IsLevel (F.pre l.now.below.now) (F.post l.now.below.now) l.now.r.now l.now.levels }
+    requires level { IsLevel (F.may l.now.below.now) (F.gives l.now.below.now) l.now.r.now l.now.levels }
     requires facts { KnownFacts (defs_in l.now.r.now) at.now.ctx.now.0 }
     requires test { IsTrue (known (defs_in l.now.r.now) a.now) }
     requires yes { IsTrue (known (defs_in l.now.r.now) b.now) }
     requires no { IsTrue (known (defs_in l.now.r.now) c.now) }
-    ensures is { IfOk result (λ o. got_branches o run.new.left ≡ in_branches (inner_of l.now.r.now l.now.levels) mode (seen_at at.now) a.now b.now c.now run.old.left) }
+    ensures is { IfOk result (λ o. got_branches o steps.new.left ≡ in_branches (inner_of l.now.r.now l.now.levels) mode (seen_at at.now) a.now b.now c.now steps.old.left) }
     ensures from { IfOk result (λ o. IfSome o (FromBranches l.now.r.now.w.now mode at.now.ctx.now a.now b.now c.now)) }
 {
-    let Some(yes) = under(l, run, mode, at, a, true, b)? else {
+    let Some(yes) = under(l, steps, mode, at, a, true, b)? else {
         return Ok(None);
     };
-    let Some(no) = under(l, run, mode, at, a, false, c)? else {
+    let Some(no) = under(l, steps, mode, at, a, false, c)? else {
         return Ok(None);
     };
     Ok(Some(BothBranches { yes, no }))
 }
 
 /// An `if` whose test has become no constant: both branches under its test.
-pub fn both<
-    O: TypeOracle,
-    F: Fn(&mut Run, Mode, &Place<'_>, &Term) -> Result<Option<Equiv>, NoMemory>,
->(
+pub fn both<O: TypeOracle, F: Below>(
     l: &Level<'_, '_, O, F>,
-    run: &mut Run,
+    steps: &mut Steps,
     mode: Mode,
     at: &Place<'_>,
     t: &Term,
@@ -157,17 +149,17 @@ pub fn both<
     b: &Term,
     c: &Term,
 ) -> Result<Option<Equiv>, NoMemory>
-    requires level { IsLevel (F.pre l.now.below.now) (F.post l.now.below.now) l.now.r.now l.now.levels }
+    requires level { IsLevel (F.may l.now.below.now) (F.gives l.now.below.now) l.now.r.now l.now.levels }
     requires facts { KnownFacts (defs_in l.now.r.now) at.now.ctx.now.0 }
     requires term { t.now ≡ if_of test.says.lhs b.now c.now }
     requires test { From l.now.r.now.w.now Iff at.now.ctx.now test.says.lhs test }
     requires open { truth_of test.says.rhs ≡ None }
     requires yes { IsTrue (known (defs_in l.now.r.now) b.now) }
     requires no { IsTrue (known (defs_in l.now.r.now) c.now) }
-    ensures is { IfOk result (λ o. got o run.new.left ≡ both (setting_of l.now.r.now) (inner_of l.now.r.now l.now.levels) mode (seen_at at.now) test.says.rhs b.now c.now run.old.left) }
+    ensures is { IfOk result (λ o. got o steps.new.left ≡ both (setting_of l.now.r.now) (inner_of l.now.r.now l.now.levels) mode (seen_at at.now) test.says.rhs b.now c.now steps.old.left) }
     ensures from { IfOk result (λ o. IfSome o (From l.now.r.now.w.now mode at.now.ctx.now (if_of test.says.lhs b.now c.now))) }
 {
-    let Some(found) = in_branches(l, run, mode, at, test.rhs(), b, c)? else {
+    let Some(found) = in_branches(l, steps, mode, at, test.rhs(), b, c)? else {
         return Ok(None);
     };
     let whole = shape_whole(l.r, at.ctx, mode, t, test, found)?;
@@ -198,23 +190,20 @@ pub fn choose<O: TypeOracle>(
 }
 
 /// On from where an equivalence leads: that term is rewritten in its turn.
-pub fn go_on<
-    O: TypeOracle,
-    F: Fn(&mut Run, Mode, &Place<'_>, &Term) -> Result<Option<Equiv>, NoMemory>,
->(
+pub fn go_on<O: TypeOracle, F: Below>(
     l: &Level<'_, '_, O, F>,
-    run: &mut Run,
+    steps: &mut Steps,
     mode: Mode,
     at: &Place<'_>,
     first: Equiv,
 ) -> Result<Option<Equiv>, NoMemory>
-    requires level { IsLevel (F.pre l.now.below.now) (F.post l.now.below.now) l.now.r.now l.now.levels }
+    requires level { IsLevel (F.may l.now.below.now) (F.gives l.now.below.now) l.now.r.now l.now.levels }
     requires facts { KnownFacts (defs_in l.now.r.now) at.now.ctx.now.0 }
     requires first { From l.now.r.now.w.now mode at.now.ctx.now first.says.lhs first }
-    ensures is { IfOk result (λ o. got o run.new.left ≡ inner_of l.now.r.now l.now.levels mode (seen_at at.now) first.says.rhs run.old.left) }
+    ensures is { IfOk result (λ o. got o steps.new.left ≡ inner_of l.now.r.now l.now.levels mode (seen_at at.now) first.says.rhs steps.old.left) }
     ensures from { IfOk result (λ o. IfSome o (From l.now.r.now.w.now mode at.now.ctx.now first.says.lhs)) }
 {
-    let Some(more) = deeper(l, run, mode, at, first.rhs())? else {
+    let Some(more) = deeper(l, steps, mode, at, first.rhs())? else {
         return Ok(None);
     };
     let q = follow(l.r, at.ctx, mode, first, more)?;
@@ -222,12 +211,9 @@ pub fn go_on<
 }
 
 /// An `if` by what its test has become: the branch that a constant chooses, or both.
-fn branches<
-    O: TypeOracle,
-    F: Fn(&mut Run, Mode, &Place<'_>, &Term) -> Result<Option<Equiv>, NoMemory>,
->(
+fn branches<O: TypeOracle, F: Below>(
     l: &Level<'_, '_, O, F>,
-    run: &mut Run,
+    steps: &mut Steps,
     mode: Mode,
     at: &Place<'_>,
     t: &Term,
@@ -235,32 +221,29 @@ fn branches<
     b: &Term,
     c: &Term,
 ) -> Result<Option<Equiv>, NoMemory>
-    requires level { IsLevel (F.pre l.now.below.now) (F.post l.now.below.now) l.now.r.now l.now.levels }
+    requires level { IsLevel (F.may l.now.below.now) (F.gives l.now.below.now) l.now.r.now l.now.levels }
     requires facts { KnownFacts (defs_in l.now.r.now) at.now.ctx.now.0 }
     requires term { t.now ≡ if_of test.says.lhs b.now c.now }
     requires test { From l.now.r.now.w.now Iff at.now.ctx.now test.says.lhs test }
     requires yes { IsTrue (known (defs_in l.now.r.now) b.now) }
     requires no { IsTrue (known (defs_in l.now.r.now) c.now) }
-    ensures is { IfOk result (λ o. got o run.new.left ≡ branches (setting_of l.now.r.now) (inner_of l.now.r.now l.now.levels) mode (seen_at at.now) test.says.rhs (truth_of test.says.rhs) b.now c.now run.old.left) }
+    ensures is { IfOk result (λ o. got o steps.new.left ≡ branches (setting_of l.now.r.now) (inner_of l.now.r.now l.now.levels) mode (seen_at at.now) test.says.rhs (truth_of test.says.rhs) b.now c.now steps.old.left) }
     ensures from { IfOk result (λ o. IfSome o (From l.now.r.now.w.now mode at.now.ctx.now (if_of test.says.lhs b.now c.now))) }
 {
     match truth_of(test.rhs()) {
-        None => both(l, run, mode, at, t, test, b, c),
+        None => both(l, steps, mode, at, t, test, b, c),
         Some(sign) => {
             let first = choose(l.r, at.ctx, mode, test, sign, b, c)?;
-            go_on(l, run, mode, at, first)
+            go_on(l, steps, mode, at, first)
         }
     }
 }
 
 /// An `if`: its test under `iff`, then the branch that the test's constant chooses, or both branches under the
 /// test.
-pub fn rewrite_if<
-    O: TypeOracle,
-    F: Fn(&mut Run, Mode, &Place<'_>, &Term) -> Result<Option<Equiv>, NoMemory>,
->(
+pub fn rewrite_if<O: TypeOracle, F: Below>(
     l: &Level<'_, '_, O, F>,
-    run: &mut Run,
+    steps: &mut Steps,
     mode: Mode,
     at: &Place<'_>,
     t: &Term,
@@ -268,19 +251,19 @@ pub fn rewrite_if<
     b: &Term,
     c: &Term,
 ) -> Result<Option<Equiv>, NoMemory>
-    requires level { IsLevel (F.pre l.now.below.now) (F.post l.now.below.now) l.now.r.now l.now.levels }
+    requires level { IsLevel (F.may l.now.below.now) (F.gives l.now.below.now) l.now.r.now l.now.levels }
     requires facts { KnownFacts (defs_in l.now.r.now) at.now.ctx.now.0 }
     requires term { t.now ≡ if_of a.now b.now c.now }
     requires test { IsTrue (known (defs_in l.now.r.now) a.now) }
     requires yes { IsTrue (known (defs_in l.now.r.now) b.now) }
     requires no { IsTrue (known (defs_in l.now.r.now) c.now) }
-    ensures is { IfOk result (λ o. got o run.new.left ≡ rewrite_if (setting_of l.now.r.now) (inner_of l.now.r.now l.now.levels) mode (seen_at at.now) a.now b.now c.now run.old.left) }
+    ensures is { IfOk result (λ o. got o steps.new.left ≡ rewrite_if (setting_of l.now.r.now) (inner_of l.now.r.now l.now.levels) mode (seen_at at.now) a.now b.now c.now steps.old.left) }
     ensures from { IfOk result (λ o. IfSome o (From l.now.r.now.w.now mode at.now.ctx.now (if_of a.now b.now c.now))) }
 {
-    let Some(test) = deeper(l, run, Mode::Iff, at, a)? else {
+    let Some(test) = deeper(l, steps, Mode::Iff, at, a)? else {
         return Ok(None);
     };
-    branches(l, run, mode, at, t, test, b, c)
+    branches(l, steps, mode, at, t, test, b, c)
 }
 
 /// From a negation to the negation of what its argument leads to, and on to what that is.
@@ -328,25 +311,22 @@ fn turned<O: TypeOracle>(
 }
 
 /// A negation: its argument under `iff`, and then what the negation is by what that has become.
-pub fn rewrite_not<
-    O: TypeOracle,
-    F: Fn(&mut Run, Mode, &Place<'_>, &Term) -> Result<Option<Equiv>, NoMemory>,
->(
+pub fn rewrite_not<O: TypeOracle, F: Below>(
     l: &Level<'_, '_, O, F>,
-    run: &mut Run,
+    steps: &mut Steps,
     mode: Mode,
     at: &Place<'_>,
     t: &Term,
     a: &Term,
 ) -> Result<Option<Equiv>, NoMemory>
-    requires level { IsLevel (F.pre l.now.below.now) (F.post l.now.below.now) l.now.r.now l.now.levels }
+    requires level { IsLevel (F.may l.now.below.now) (F.gives l.now.below.now) l.now.r.now l.now.levels }
     requires facts { KnownFacts (defs_in l.now.r.now) at.now.ctx.now.0 }
     requires term { t.now ≡ not_of a.now }
     requires argument { IsTrue (known (defs_in l.now.r.now) a.now) }
-    ensures is { IfOk result (λ o. got o run.new.left ≡ rewrite_not (setting_of l.now.r.now) (inner_of l.now.r.now l.now.levels) mode (seen_at at.now) a.now run.old.left) }
+    ensures is { IfOk result (λ o. got o steps.new.left ≡ rewrite_not (setting_of l.now.r.now) (inner_of l.now.r.now l.now.levels) mode (seen_at at.now) a.now steps.old.left) }
     ensures from { IfOk result (λ o. IfSome o (From l.now.r.now.w.now mode at.now.ctx.now (not_of a.now))) }
 {
-    let Some(q) = deeper(l, run, Mode::Iff, at, a)? else {
+    let Some(q) = deeper(l, steps, Mode::Iff, at, a)? else {
         return Ok(None);
     };
     let answer = turned(l.r, at.ctx, mode, t, q)?;

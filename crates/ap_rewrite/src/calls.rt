@@ -12,30 +12,28 @@ ghost use Rattle.ap_rewrite.specs.Rewriting.{rewrite_args, rewrite_call};
 ghost use Rattle.ap_rewrite.specs.Answering.{defs_in, Ready, setting_of, inner_of, seen_at, got, got_all, right_of, Leads, From, IsLevel};
 
 use crate::engines::tried;
-use crate::rewriter::{Level, Place, Rewriter, Run, deeper};
+use crate::rewriter::{Below, Level, Place, Rewriter, deeper};
 use crate::rows::{follow, stay};
 use crate::settling::in_mode;
 use ap_kernel::{Ctx, Equiv, LinearOracle, Mode, NoMemory, Seq, Symbol, Term, TypeOracle, cong};
+use ap_term::Steps;
 
 /// The arguments of a call, from left to right, under equality.
-fn rewrite_args<
-    O: TypeOracle,
-    F: Fn(&mut Run, Mode, &Place<'_>, &Term) -> Result<Option<Equiv>, NoMemory>,
->(
+fn rewrite_args<O: TypeOracle, F: Below>(
     l: &Level<'_, '_, O, F>,
-    run: &mut Run,
+    steps: &mut Steps,
     at: &Place<'_>,
     us: &[Term],
 ) -> Result<Option<Seq<Equiv>>, NoMemory>
-    requires level { IsLevel (F.pre l.now.below.now) (F.post l.now.below.now) l.now.r.now l.now.levels }
+    requires level { IsLevel (F.may l.now.below.now) (F.gives l.now.below.now) l.now.r.now l.now.levels }
     requires facts { KnownFacts (defs_in l.now.r.now) at.now.ctx.now.0 }
     requires terms { Each (λ u. IsTrue (known (defs_in l.now.r.now) u)) us.now }
-    ensures is { IfOk result (λ o. got_all o run.new.left ≡ rewrite_args (setting_of l.now.r.now) (inner_of l.now.r.now l.now.levels) (seen_at at.now) us.now run.old.left) }
+    ensures is { IfOk result (λ o. got_all o steps.new.left ≡ rewrite_args (setting_of l.now.r.now) (inner_of l.now.r.now l.now.levels) (seen_at at.now) us.now steps.old.left) }
     ensures from { IfOk result (λ o. IfSome o (λ qs. (lefts (said qs) ≡ us.now) × Each (Leads l.now.r.now.w.now Equal at.now.ctx.now) qs)) }
 {
     let mut out = Seq::with_capacity(l.r.alloc, us.len())?;
     for u in us {
-        let Some(q) = deeper(l, run, Mode::Equal, at, u)? else {
+        let Some(q) = deeper(l, steps, Mode::Equal, at, u)? else {
             return Ok(None);
         };
         out.push(q)?;
@@ -113,26 +111,23 @@ fn followed<O: TypeOracle>(
 }
 
 /// A call that is no `if` and no negation.
-pub fn rewrite_call<
-    O: TypeOracle + LinearOracle,
-    F: Fn(&mut Run, Mode, &Place<'_>, &Term) -> Result<Option<Equiv>, NoMemory>,
->(
+pub fn rewrite_call<O: TypeOracle + LinearOracle, F: Below>(
     l: &Level<'_, '_, O, F>,
-    run: &mut Run,
+    steps: &mut Steps,
     mode: Mode,
     at: &Place<'_>,
     t: &Term,
     f: &Symbol,
     us: &[Term],
 ) -> Result<Option<Equiv>, NoMemory>
-    requires level { IsLevel (F.pre l.now.below.now) (F.post l.now.below.now) l.now.r.now l.now.levels }
+    requires level { IsLevel (F.may l.now.below.now) (F.gives l.now.below.now) l.now.r.now l.now.levels }
     requires facts { KnownFacts (defs_in l.now.r.now) at.now.ctx.now.0 }
     requires term { t.now ≡ Call f.now us.now }
     requires call { IsTrue (known (defs_in l.now.r.now) (Call f.now us.now)) }
-    ensures is { IfOk result (λ o. got o run.new.left ≡ rewrite_call (setting_of l.now.r.now) (inner_of l.now.r.now l.now.levels) mode (seen_at at.now) f.now us.now run.old.left) }
+    ensures is { IfOk result (λ o. got o steps.new.left ≡ rewrite_call (setting_of l.now.r.now) (inner_of l.now.r.now l.now.levels) mode (seen_at at.now) f.now us.now steps.old.left) }
     ensures from { IfOk result (λ o. IfSome o (From l.now.r.now.w.now mode at.now.ctx.now (Call f.now us.now))) }
 {
-    let Some(args) = rewrite_args(l, run, at, us)? else {
+    let Some(args) = rewrite_args(l, steps, at, us)? else {
         return Ok(None);
     };
     let first = on_arguments(l.r, at.ctx, mode, t, f, args)?;
@@ -140,7 +135,7 @@ pub fn rewrite_call<
     let Term::Call(g, vs) = call else {
         unreachable!()
     };
-    let Some(found) = tried(l, run, mode, at, call, g, vs.as_slice())? else {
+    let Some(found) = tried(l, steps, mode, at, call, g, vs.as_slice())? else {
         return Ok(None);
     };
     let q = followed(l.r, at.ctx, mode, first, found)?;

@@ -12,29 +12,30 @@ use crate::arithmetic::by_arithmetic;
 use crate::branching::go_on;
 use crate::equating::is_quoted;
 use crate::opening::by_definition;
-use crate::rewriter::{Level, Place, Run, Tried};
+use crate::rewriter::{Below, Level, Place, Tried};
 use crate::rows::{equates, ran, settles};
 use crate::rules::by_rules;
 use ap_kernel::{Equiv, LinearOracle, Mode, NoMemory, Symbol, Term, TypeOracle};
+use ap_term::Steps;
 
 /// Where an equation leads: that is the answer where it is a constant, and else it is rewritten in its turn.
-fn lead<O: TypeOracle, F: Fn(&mut Run, Mode, &Place<'_>, &Term) -> Result<Option<Equiv>, NoMemory>>(
+fn lead<O: TypeOracle, F: Below>(
     l: &Level<'_, '_, O, F>,
-    run: &mut Run,
+    steps: &mut Steps,
     mode: Mode,
     at: &Place<'_>,
     first: Equiv,
 ) -> Result<Tried<Equiv>, NoMemory>
-    requires level { IsLevel (F.pre l.now.below.now) (F.post l.now.below.now) l.now.r.now l.now.levels }
+    requires level { IsLevel (F.may l.now.below.now) (F.gives l.now.below.now) l.now.r.now l.now.levels }
     requires facts { KnownFacts (defs_in l.now.r.now) at.now.ctx.now.0 }
     requires first { From l.now.r.now.w.now mode at.now.ctx.now first.says.lhs first }
-    ensures is { IfOk result (λ o. got_any o run.new.left ≡ led (setting_of l.now.r.now) (inner_of l.now.r.now l.now.levels) mode (seen_at at.now) (Some first.says.rhs) run.old.left) }
+    ensures is { IfOk result (λ o. got_any o steps.new.left ≡ led (setting_of l.now.r.now) (inner_of l.now.r.now l.now.levels) mode (seen_at at.now) (Some first.says.rhs) steps.old.left) }
     ensures from { IfOk result (λ o. IfSome o (λ a. IfSome a (From l.now.r.now.w.now mode at.now.ctx.now first.says.lhs))) }
 {
     if is_quoted(first.rhs()) {
         return Ok(Some(Some(first)));
     }
-    let found = go_on(l, run, mode, at, first)?;
+    let found = go_on(l, steps, mode, at, first)?;
     Ok(answered(found))
 }
 
@@ -49,158 +50,140 @@ pub fn answered(found: Option<Equiv>) -> Tried<Equiv>
 }
 
 /// An equation: of one term, by a fact, or part by part.
-fn equate<
-    O: TypeOracle,
-    F: Fn(&mut Run, Mode, &Place<'_>, &Term) -> Result<Option<Equiv>, NoMemory>,
->(
+fn equate<O: TypeOracle, F: Below>(
     l: &Level<'_, '_, O, F>,
-    run: &mut Run,
+    steps: &mut Steps,
     mode: Mode,
     at: &Place<'_>,
     t: &Term,
 ) -> Result<Tried<Equiv>, NoMemory>
-    requires level { IsLevel (F.pre l.now.below.now) (F.post l.now.below.now) l.now.r.now l.now.levels }
+    requires level { IsLevel (F.may l.now.below.now) (F.gives l.now.below.now) l.now.r.now l.now.levels }
     requires facts { KnownFacts (defs_in l.now.r.now) at.now.ctx.now.0 }
     requires term { IsTrue (known (defs_in l.now.r.now) t.now) }
-    ensures is { IfOk result (λ o. got_any o run.new.left ≡ equate (setting_of l.now.r.now) (inner_of l.now.r.now l.now.levels) mode (seen_at at.now) t.now run.old.left) }
+    ensures is { IfOk result (λ o. got_any o steps.new.left ≡ equate (setting_of l.now.r.now) (inner_of l.now.r.now l.now.levels) mode (seen_at at.now) t.now steps.old.left) }
     ensures from { IfOk result (λ o. IfSome o (λ a. IfSome a (From l.now.r.now.w.now mode at.now.ctx.now t.now))) }
 {
     match equates(l.r, at.ctx, mode, t)? {
         None => Ok(Some(None)),
-        Some(first) => lead(l, run, mode, at, first),
+        Some(first) => lead(l, steps, mode, at, first),
     }
 }
 
 /// What is tried after arithmetic: rules, and then the definition.
-fn after_arithmetic<
-    O: TypeOracle,
-    F: Fn(&mut Run, Mode, &Place<'_>, &Term) -> Result<Option<Equiv>, NoMemory>,
->(
+fn after_arithmetic<O: TypeOracle, F: Below>(
     l: &Level<'_, '_, O, F>,
-    run: &mut Run,
+    steps: &mut Steps,
     mode: Mode,
     at: &Place<'_>,
     t: &Term,
     f: &Symbol,
     us: &[Term],
 ) -> Result<Tried<Equiv>, NoMemory>
-    requires level { IsLevel (F.pre l.now.below.now) (F.post l.now.below.now) l.now.r.now l.now.levels }
+    requires level { IsLevel (F.may l.now.below.now) (F.gives l.now.below.now) l.now.r.now l.now.levels }
     requires facts { KnownFacts (defs_in l.now.r.now) at.now.ctx.now.0 }
     requires term { IsTrue (known (defs_in l.now.r.now) t.now) }
     requires call { t.now ≡ Call f.now us.now }
-    ensures is { IfOk result (λ o. got_any o run.new.left ≡ first_that (from_rules (setting_of l.now.r.now) (inner_of l.now.r.now l.now.levels) mode (seen_at at.now) f.now us.now) run.old.left) }
+    ensures is { IfOk result (λ o. got_any o steps.new.left ≡ first_that (from_rules (setting_of l.now.r.now) (inner_of l.now.r.now l.now.levels) mode (seen_at at.now) f.now us.now) steps.old.left) }
     ensures from { IfOk result (λ o. IfSome o (λ a. IfSome a (From l.now.r.now.w.now mode at.now.ctx.now t.now))) }
 {
-    match by_rules(l, run, mode, at, t, f, us)? {
+    match by_rules(l, steps, mode, at, t, f, us)? {
         None => Ok(None),
         Some(Some(q)) => Ok(Some(Some(q))),
-        Some(None) => by_definition(l, run, mode, at, t, f, us),
+        Some(None) => by_definition(l, steps, mode, at, t, f, us),
     }
 }
 
 /// What is tried after equations: arithmetic, and then rules and the definition.
-fn after_equating<
-    O: TypeOracle + LinearOracle,
-    F: Fn(&mut Run, Mode, &Place<'_>, &Term) -> Result<Option<Equiv>, NoMemory>,
->(
+fn after_equating<O: TypeOracle + LinearOracle, F: Below>(
     l: &Level<'_, '_, O, F>,
-    run: &mut Run,
+    steps: &mut Steps,
     mode: Mode,
     at: &Place<'_>,
     t: &Term,
     f: &Symbol,
     us: &[Term],
 ) -> Result<Tried<Equiv>, NoMemory>
-    requires level { IsLevel (F.pre l.now.below.now) (F.post l.now.below.now) l.now.r.now l.now.levels }
+    requires level { IsLevel (F.may l.now.below.now) (F.gives l.now.below.now) l.now.r.now l.now.levels }
     requires facts { KnownFacts (defs_in l.now.r.now) at.now.ctx.now.0 }
     requires term { IsTrue (known (defs_in l.now.r.now) t.now) }
     requires call { t.now ≡ Call f.now us.now }
-    ensures is { IfOk result (λ o. got_any o run.new.left ≡ first_that (from_arithmetic (setting_of l.now.r.now) (inner_of l.now.r.now l.now.levels) mode (seen_at at.now) f.now us.now) run.old.left) }
+    ensures is { IfOk result (λ o. got_any o steps.new.left ≡ first_that (from_arithmetic (setting_of l.now.r.now) (inner_of l.now.r.now l.now.levels) mode (seen_at at.now) f.now us.now) steps.old.left) }
     ensures from { IfOk result (λ o. IfSome o (λ a. IfSome a (From l.now.r.now.w.now mode at.now.ctx.now t.now))) }
 {
-    match by_arithmetic(l, run, mode, at, t, f, us)? {
+    match by_arithmetic(l, steps, mode, at, t, f, us)? {
         None => Ok(None),
         Some(Some(q)) => Ok(Some(Some(q))),
-        Some(None) => after_arithmetic(l, run, mode, at, t, f, us),
+        Some(None) => after_arithmetic(l, steps, mode, at, t, f, us),
     }
 }
 
 /// What is tried after settling: equations, and so on.
-fn after_settling<
-    O: TypeOracle + LinearOracle,
-    F: Fn(&mut Run, Mode, &Place<'_>, &Term) -> Result<Option<Equiv>, NoMemory>,
->(
+fn after_settling<O: TypeOracle + LinearOracle, F: Below>(
     l: &Level<'_, '_, O, F>,
-    run: &mut Run,
+    steps: &mut Steps,
     mode: Mode,
     at: &Place<'_>,
     t: &Term,
     f: &Symbol,
     us: &[Term],
 ) -> Result<Tried<Equiv>, NoMemory>
-    requires level { IsLevel (F.pre l.now.below.now) (F.post l.now.below.now) l.now.r.now l.now.levels }
+    requires level { IsLevel (F.may l.now.below.now) (F.gives l.now.below.now) l.now.r.now l.now.levels }
     requires facts { KnownFacts (defs_in l.now.r.now) at.now.ctx.now.0 }
     requires term { IsTrue (known (defs_in l.now.r.now) t.now) }
     requires call { t.now ≡ Call f.now us.now }
-    ensures is { IfOk result (λ o. got_any o run.new.left ≡ first_that (from_equating (setting_of l.now.r.now) (inner_of l.now.r.now l.now.levels) mode (seen_at at.now) f.now us.now) run.old.left) }
+    ensures is { IfOk result (λ o. got_any o steps.new.left ≡ first_that (from_equating (setting_of l.now.r.now) (inner_of l.now.r.now l.now.levels) mode (seen_at at.now) f.now us.now) steps.old.left) }
     ensures from { IfOk result (λ o. IfSome o (λ a. IfSome a (From l.now.r.now.w.now mode at.now.ctx.now t.now))) }
 {
-    match equate(l, run, mode, at, t)? {
+    match equate(l, steps, mode, at, t)? {
         None => Ok(None),
         Some(Some(q)) => Ok(Some(Some(q))),
-        Some(None) => after_equating(l, run, mode, at, t, f, us),
+        Some(None) => after_equating(l, steps, mode, at, t, f, us),
     }
 }
 
 /// What is tried after running: settling, and so on.
-fn after_running<
-    O: TypeOracle + LinearOracle,
-    F: Fn(&mut Run, Mode, &Place<'_>, &Term) -> Result<Option<Equiv>, NoMemory>,
->(
+fn after_running<O: TypeOracle + LinearOracle, F: Below>(
     l: &Level<'_, '_, O, F>,
-    run: &mut Run,
+    steps: &mut Steps,
     mode: Mode,
     at: &Place<'_>,
     t: &Term,
     f: &Symbol,
     us: &[Term],
 ) -> Result<Tried<Equiv>, NoMemory>
-    requires level { IsLevel (F.pre l.now.below.now) (F.post l.now.below.now) l.now.r.now l.now.levels }
+    requires level { IsLevel (F.may l.now.below.now) (F.gives l.now.below.now) l.now.r.now l.now.levels }
     requires facts { KnownFacts (defs_in l.now.r.now) at.now.ctx.now.0 }
     requires term { IsTrue (known (defs_in l.now.r.now) t.now) }
     requires call { t.now ≡ Call f.now us.now }
-    ensures is { IfOk result (λ o. got_any o run.new.left ≡ first_that (from_settling (setting_of l.now.r.now) (inner_of l.now.r.now l.now.levels) mode (seen_at at.now) f.now us.now) run.old.left) }
+    ensures is { IfOk result (λ o. got_any o steps.new.left ≡ first_that (from_settling (setting_of l.now.r.now) (inner_of l.now.r.now l.now.levels) mode (seen_at at.now) f.now us.now) steps.old.left) }
     ensures from { IfOk result (λ o. IfSome o (λ a. IfSome a (From l.now.r.now.w.now mode at.now.ctx.now t.now))) }
 {
     match settles(l.r, at.ctx, mode, t)? {
         Some(q) => Ok(Some(Some(q))),
-        None => after_settling(l, run, mode, at, t, f, us),
+        None => after_settling(l, steps, mode, at, t, f, us),
     }
 }
 
 /// What is tried on a call: running it, settling it by its type, leading an equation on, linear arithmetic, rules, its
 /// definition; the first that applies.
-pub fn tried<
-    O: TypeOracle + LinearOracle,
-    F: Fn(&mut Run, Mode, &Place<'_>, &Term) -> Result<Option<Equiv>, NoMemory>,
->(
+pub fn tried<O: TypeOracle + LinearOracle, F: Below>(
     l: &Level<'_, '_, O, F>,
-    run: &mut Run,
+    steps: &mut Steps,
     mode: Mode,
     at: &Place<'_>,
     t: &Term,
     f: &Symbol,
     us: &[Term],
 ) -> Result<Tried<Equiv>, NoMemory>
-    requires level { IsLevel (F.pre l.now.below.now) (F.post l.now.below.now) l.now.r.now l.now.levels }
+    requires level { IsLevel (F.may l.now.below.now) (F.gives l.now.below.now) l.now.r.now l.now.levels }
     requires facts { KnownFacts (defs_in l.now.r.now) at.now.ctx.now.0 }
     requires term { IsTrue (known (defs_in l.now.r.now) t.now) }
     requires call { t.now ≡ Call f.now us.now }
-    ensures is { IfOk result (λ o. got_any o run.new.left ≡ first_that (tried (setting_of l.now.r.now) (inner_of l.now.r.now l.now.levels) mode (seen_at at.now) f.now us.now) run.old.left) }
+    ensures is { IfOk result (λ o. got_any o steps.new.left ≡ first_that (tried (setting_of l.now.r.now) (inner_of l.now.r.now l.now.levels) mode (seen_at at.now) f.now us.now) steps.old.left) }
     ensures from { IfOk result (λ o. IfSome o (λ a. IfSome a (From l.now.r.now.w.now mode at.now.ctx.now t.now))) }
 {
     match ran(l.r, at.ctx, mode, t, f, us)? {
         Some(q) => Ok(Some(Some(q))),
-        None => after_running(l, run, mode, at, t, f, us),
+        None => after_running(l, steps, mode, at, t, f, us),
     }
 }

@@ -28,6 +28,6 @@ mod simplifying;
 mod sizes;
 
 pub use literals::literal;
-pub use rewriter::{Place, Rewriter, Run};
+pub use rewriter::{Place, Rewriter};
 pub use rewriting::rewrite;
 pub use simplifying::simplify;

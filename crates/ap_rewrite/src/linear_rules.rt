@@ -10,12 +10,12 @@ ghost use Rattle.ap_rewrite.specs.Linear.{most_polys, at_match, at_atoms};
 ghost use Rattle.ap_rewrite.specs.Answering.{defs_in, setting_of, inner_of, seen_at, got_polys, used, used_each, IsLevel};
 
 use crate::refuting::with_instance;
-use crate::rewriter::{Level, Place, Run};
+use crate::rewriter::{Below, Level, Place};
 use crate::rules::relieve;
 use ap_kernel::{Equiv, Mode, NoMemory, Seq, Subst, Term, TypeOracle};
 use ap_poly::Poly;
 use ap_rules::{LinearRule, linear_rule, linear_rules_hold};
-use ap_term::one_way_match;
+use ap_term::{Steps, one_way_match};
 use ap_world::RuneKind;
 
 /// Whether there is no room for the polynomials of a rule. Takes no memory.
@@ -26,24 +26,21 @@ fn is_full(polys: &Seq<Poly>) -> bool
 }
 
 /// The polynomials with those of a rule's instance behind them, where its hypotheses are relieved.
-fn at_match<
-    O: TypeOracle,
-    F: Fn(&mut Run, Mode, &Place<'_>, &Term) -> Result<Option<Equiv>, NoMemory>,
->(
+fn at_match<O: TypeOracle, F: Below>(
     l: &Level<'_, '_, O, F>,
-    run: &mut Run,
+    steps: &mut Steps,
     at: &Place<'_>,
     g: &LinearRule,
     polys: Seq<Poly>,
     s: Subst,
 ) -> Result<Option<Seq<Poly>>, NoMemory>
-    requires level { IsLevel (F.pre l.now.below.now) (F.post l.now.below.now) l.now.r.now l.now.levels }
+    requires level { IsLevel (F.may l.now.below.now) (F.gives l.now.below.now) l.now.r.now l.now.levels }
     requires facts { KnownFacts (defs_in l.now.r.now) at.now.ctx.now.0 }
     requires rule { LinearHolds (defs_in l.now.r.now) g.now }
     requires pairs { KnownPairs (defs_in l.now.r.now) s.0 }
-    ensures { IfOk result (λ o. got_polys o run.new.left ≡ at_match (setting_of l.now.r.now) (inner_of l.now.r.now l.now.levels) (seen_at at.now) g.now polys (Some s.0) run.old.left) }
+    ensures { IfOk result (λ o. got_polys o steps.new.left ≡ at_match (setting_of l.now.r.now) (inner_of l.now.r.now l.now.levels) (seen_at at.now) g.now polys (Some s.0) steps.old.left) }
 {
-    match relieve(l, run, at, g.hyps.as_slice(), s)? {
+    match relieve(l, steps, at, g.hyps.as_slice(), s)? {
         None => Ok(None),
         Some(None) => Ok(Some(polys)),
         Some(Some(found)) => {
@@ -54,54 +51,48 @@ fn at_match<
 }
 
 /// A rule at an atom, where its trigger matches.
-fn at_atom<
-    O: TypeOracle,
-    F: Fn(&mut Run, Mode, &Place<'_>, &Term) -> Result<Option<Equiv>, NoMemory>,
->(
+fn at_atom<O: TypeOracle, F: Below>(
     l: &Level<'_, '_, O, F>,
-    run: &mut Run,
+    steps: &mut Steps,
     at: &Place<'_>,
     g: &LinearRule,
     atom: &Term,
     polys: Seq<Poly>,
 ) -> Result<Option<Seq<Poly>>, NoMemory>
-    requires level { IsLevel (F.pre l.now.below.now) (F.post l.now.below.now) l.now.r.now l.now.levels }
+    requires level { IsLevel (F.may l.now.below.now) (F.gives l.now.below.now) l.now.r.now l.now.levels }
     requires facts { KnownFacts (defs_in l.now.r.now) at.now.ctx.now.0 }
     requires rule { LinearHolds (defs_in l.now.r.now) g.now }
     requires atom { IsTrue (known (defs_in l.now.r.now) atom.now) }
-    ensures { IfOk result (λ o. got_polys o run.new.left ≡ at_match (setting_of l.now.r.now) (inner_of l.now.r.now l.now.levels) (seen_at at.now) g.now polys (matched g.now.trigger atom.now []) run.old.left) }
+    ensures { IfOk result (λ o. got_polys o steps.new.left ≡ at_match (setting_of l.now.r.now) (inner_of l.now.r.now l.now.levels) (seen_at at.now) g.now polys (matched g.now.trigger atom.now []) steps.old.left) }
 {
     let start = Subst(Seq::new(l.r.alloc));
     match one_way_match(l.r.alloc, &g.trigger, atom, &start)? {
         None => Ok(Some(polys)),
-        Some(s) => at_match(l, run, at, g, polys, s),
+        Some(s) => at_match(l, steps, at, g, polys, s),
     }
 }
 
 /// A rule at each atom, while there are fewer than 32 polynomials.
-fn at_atoms<
-    O: TypeOracle,
-    F: Fn(&mut Run, Mode, &Place<'_>, &Term) -> Result<Option<Equiv>, NoMemory>,
->(
+fn at_atoms<O: TypeOracle, F: Below>(
     l: &Level<'_, '_, O, F>,
-    run: &mut Run,
+    steps: &mut Steps,
     at: &Place<'_>,
     g: &LinearRule,
     atoms: &[Term],
     polys: Seq<Poly>,
 ) -> Result<Option<Seq<Poly>>, NoMemory>
-    requires level { IsLevel (F.pre l.now.below.now) (F.post l.now.below.now) l.now.r.now l.now.levels }
+    requires level { IsLevel (F.may l.now.below.now) (F.gives l.now.below.now) l.now.r.now l.now.levels }
     requires facts { KnownFacts (defs_in l.now.r.now) at.now.ctx.now.0 }
     requires rule { LinearHolds (defs_in l.now.r.now) g.now }
     requires atoms { Each (λ x. known (defs_in l.now.r.now) x ≡ true) atoms.now }
-    ensures { IfOk result (λ o. got_polys o run.new.left ≡ at_atoms (setting_of l.now.r.now) (inner_of l.now.r.now l.now.levels) (seen_at at.now) g.now atoms.now polys run.old.left) }
+    ensures { IfOk result (λ o. got_polys o steps.new.left ≡ at_atoms (setting_of l.now.r.now) (inner_of l.now.r.now l.now.levels) (seen_at at.now) g.now atoms.now polys steps.old.left) }
 {
     let mut all = polys;
     for x in atoms {
         if is_full(&all) {
             return Ok(Some(all));
         }
-        let Some(more) = at_atom(l, run, at, g, x, all)? else {
+        let Some(more) = at_atom(l, steps, at, g, x, all)? else {
             return Ok(None);
         };
         all = more;
@@ -110,50 +101,47 @@ fn at_atoms<
 }
 
 /// A rule at each atom, where the theory enables it.
-fn used<O: TypeOracle, F: Fn(&mut Run, Mode, &Place<'_>, &Term) -> Result<Option<Equiv>, NoMemory>>(
+fn used<O: TypeOracle, F: Below>(
     l: &Level<'_, '_, O, F>,
-    run: &mut Run,
+    steps: &mut Steps,
     at: &Place<'_>,
     g: &LinearRule,
     atoms: &[Term],
     polys: Seq<Poly>,
 ) -> Result<Option<Seq<Poly>>, NoMemory>
-    requires level { IsLevel (F.pre l.now.below.now) (F.post l.now.below.now) l.now.r.now l.now.levels }
+    requires level { IsLevel (F.may l.now.below.now) (F.gives l.now.below.now) l.now.r.now l.now.levels }
     requires facts { KnownFacts (defs_in l.now.r.now) at.now.ctx.now.0 }
     requires rule { LinearHolds (defs_in l.now.r.now) g.now }
     requires atoms { Each (λ x. known (defs_in l.now.r.now) x ≡ true) atoms.now }
-    ensures { IfOk result (λ o. got_polys o run.new.left ≡ used (setting_of l.now.r.now) (inner_of l.now.r.now l.now.levels) (seen_at at.now) g.now atoms.now polys run.old.left) }
+    ensures { IfOk result (λ o. got_polys o steps.new.left ≡ used (setting_of l.now.r.now) (inner_of l.now.r.now l.now.levels) (seen_at at.now) g.now atoms.now polys steps.old.left) }
 {
     let usable = l.r.theory.is_enabled(RuneKind::Linear, &g.theorem);
     if !usable {
         return Ok(Some(polys));
     }
-    at_atoms(l, run, at, g, atoms, polys)
+    at_atoms(l, steps, at, g, atoms, polys)
 }
 
 /// The rules at places of the index, one after another.
-pub(crate) fn used_each<
-    O: TypeOracle,
-    F: Fn(&mut Run, Mode, &Place<'_>, &Term) -> Result<Option<Equiv>, NoMemory>,
->(
+pub(crate) fn used_each<O: TypeOracle, F: Below>(
     l: &Level<'_, '_, O, F>,
-    run: &mut Run,
+    steps: &mut Steps,
     at: &Place<'_>,
     places: &[usize],
     atoms: &[Term],
     polys: Seq<Poly>,
 ) -> Result<Option<Seq<Poly>>, NoMemory>
-    requires level { IsLevel (F.pre l.now.below.now) (F.post l.now.below.now) l.now.r.now l.now.levels }
+    requires level { IsLevel (F.may l.now.below.now) (F.gives l.now.below.now) l.now.r.now l.now.levels }
     requires facts { KnownFacts (defs_in l.now.r.now) at.now.ctx.now.0 }
     requires atoms { Each (λ x. known (defs_in l.now.r.now) x ≡ true) atoms.now }
-    ensures { IfOk result (λ o. got_polys o run.new.left ≡ used_each (setting_of l.now.r.now) (inner_of l.now.r.now l.now.levels) (seen_at at.now) l.now.r.now.rules.now.linear places.now atoms.now polys run.old.left) }
+    ensures { IfOk result (λ o. got_polys o steps.new.left ≡ used_each (setting_of l.now.r.now) (inner_of l.now.r.now l.now.levels) (seen_at at.now) l.now.r.now.rules.now.linear places.now atoms.now polys steps.old.left) }
 {
     linear_rules_hold();
     l.r.w.recall_sound();
     let mut all = polys;
     for place in places {
         if let Some(g) = linear_rule(l.r.rules, *place) {
-            let Some(more) = used(l, run, at, g, atoms, all)? else {
+            let Some(more) = used(l, steps, at, g, atoms, all)? else {
                 return Ok(None);
             };
             all = more;

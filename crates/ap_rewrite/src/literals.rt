@@ -10,7 +10,7 @@ ghost use Rattle.ap_rewrite.specs.InWorld.{world_setting};
 ghost use Rattle.ap_rewrite.specs.Rewriting.{rewrite_of};
 ghost use Rattle.ap_rewrite.specs.Answering.{got, steps_after, From};
 
-use crate::rewriter::{Place, Rewriter, Run};
+use crate::rewriter::{Place, Rewriter};
 use crate::rewriting::rewrite;
 use ap_kernel::{Ctx, Equiv, LinearOracle, Mode, NoMemory, Seq, Term, TypeOracle, World};
 use ap_rules::RuleIndex;
@@ -55,8 +55,6 @@ pub fn literal<O: TypeOracle + LinearOracle>(
         closed: &[],
         chain: 0,
     };
-    let mut run = Run { left: steps.left };
-    let found = rewrite(&r, &mut run, 200, Mode::Iff, &at, t)?;
-    steps.left = run.left;
+    let found = rewrite(&r, steps, 200, Mode::Iff, &at, t)?;
     Ok(found)
 }

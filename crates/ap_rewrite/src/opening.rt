@@ -18,13 +18,13 @@ ghost use Rattle.ap_rewrite.specs.Answering.{defs_in, Ready, setting_of, inner_o
 
 use crate::branching::{both, choose, go_on};
 use crate::engines::answered;
-use crate::rewriter::{Level, Place, Rewriter, Run, Tried, deeper};
+use crate::rewriter::{Below, Level, Place, Rewriter, Tried, deeper};
 use crate::rows::{follow, opened};
 use crate::sizes::{has_small_instance, is_small, truth_of};
 use ap_kernel::{
     Ctx, Equiv, Mode, NoMemory, Seq, ShapeRef, Symbol, Term, TypeOracle, pairs_of, shape_of, subst,
 };
-use ap_term::{copy_term, is_among};
+use ap_term::{Steps, copy_term, is_among};
 use ap_value::copy_symbol;
 use ap_world::{Function, RuneKind};
 use std::alloc::Global;
@@ -69,12 +69,9 @@ fn step_down<O: TypeOracle>(
 /// Down the body, past an `if` whose test has become what `test` leads to: into the branch that a constant chooses;
 /// else the `if` is the answer, where a branch was taken before.
 #[cycle(walking)]
-fn walk_on<
-    O: TypeOracle,
-    F: Fn(&mut Run, Mode, &Place<'_>, &Term) -> Result<Option<Equiv>, NoMemory>,
->(
+fn walk_on<O: TypeOracle, F: Below>(
     l: &Level<'_, '_, O, F>,
-    run: &mut Run,
+    steps: &mut Steps,
     mode: Mode,
     at: &Place<'_>,
     inner: &Place<'_>,
@@ -84,31 +81,28 @@ fn walk_on<
     b: &Term,
     c: &Term,
 ) -> Result<Tried<Equiv>, NoMemory>
-    requires level { IsLevel (F.pre l.now.below.now) (F.post l.now.below.now) l.now.r.now l.now.levels }
+    requires level { IsLevel (F.may l.now.below.now) (F.gives l.now.below.now) l.now.r.now l.now.levels }
     requires facts { KnownFacts (defs_in l.now.r.now) at.now.ctx.now.0 }
     requires inner { inner.now.ctx.now ≡ at.now.ctx.now }
     requires sofar { From l.now.r.now.w.now mode at.now.ctx.now sofar.says.lhs sofar }
     requires test { From l.now.r.now.w.now Iff at.now.ctx.now test.says.lhs test }
     requires choice { sofar.says.rhs ≡ if_of test.says.lhs b.now c.now }
-    ensures is { IfOk result (λ o. got_any o run.new.left ≡ walk_on (setting_of l.now.r.now) (inner_of l.now.r.now l.now.levels) mode (seen_at at.now) (seen_at inner.now) taken test.says.rhs (truth_of test.says.rhs) (b.now, walk (setting_of l.now.r.now) (inner_of l.now.r.now l.now.levels) mode (seen_at at.now) (seen_at inner.now) b.now) (c.now, walk (setting_of l.now.r.now) (inner_of l.now.r.now l.now.levels) mode (seen_at at.now) (seen_at inner.now) c.now) run.old.left) }
+    ensures is { IfOk result (λ o. got_any o steps.new.left ≡ walk_on (setting_of l.now.r.now) (inner_of l.now.r.now l.now.levels) mode (seen_at at.now) (seen_at inner.now) taken test.says.rhs (truth_of test.says.rhs) (b.now, walk (setting_of l.now.r.now) (inner_of l.now.r.now l.now.levels) mode (seen_at at.now) (seen_at inner.now) b.now) (c.now, walk (setting_of l.now.r.now) (inner_of l.now.r.now l.now.levels) mode (seen_at at.now) (seen_at inner.now) c.now) steps.old.left) }
     ensures from { IfOk result (λ o. IfSome o (λ a. IfSome a (From l.now.r.now.w.now mode at.now.ctx.now sofar.says.lhs))) }
 {
     match truth_of(test.rhs()) {
         Some(sign) => {
             let next = step_down(l.r, at.ctx, mode, sofar, test, sign, b, c)?;
-            walk(l, run, mode, at, inner, next, true)
+            walk(l, steps, mode, at, inner, next, true)
         }
-        None => walk_ends(l, run, mode, inner, sofar, taken, test, b, c),
+        None => walk_ends(l, steps, mode, inner, sofar, taken, test, b, c),
     }
 }
 
 /// Both branches of the `if` at which the walk ends.
-fn follow_both<
-    O: TypeOracle,
-    F: Fn(&mut Run, Mode, &Place<'_>, &Term) -> Result<Option<Equiv>, NoMemory>,
->(
+fn follow_both<O: TypeOracle, F: Below>(
     l: &Level<'_, '_, O, F>,
-    run: &mut Run,
+    steps: &mut Steps,
     mode: Mode,
     at: &Place<'_>,
     sofar: Equiv,
@@ -116,16 +110,16 @@ fn follow_both<
     b: &Term,
     c: &Term,
 ) -> Result<Tried<Equiv>, NoMemory>
-    requires level { IsLevel (F.pre l.now.below.now) (F.post l.now.below.now) l.now.r.now l.now.levels }
+    requires level { IsLevel (F.may l.now.below.now) (F.gives l.now.below.now) l.now.r.now l.now.levels }
     requires facts { KnownFacts (defs_in l.now.r.now) at.now.ctx.now.0 }
     requires sofar { From l.now.r.now.w.now mode at.now.ctx.now sofar.says.lhs sofar }
     requires test { From l.now.r.now.w.now Iff at.now.ctx.now test.says.lhs test }
     requires open { truth_of test.says.rhs ≡ None }
     requires choice { sofar.says.rhs ≡ if_of test.says.lhs b.now c.now }
-    ensures is { IfOk result (λ o. got_any o run.new.left ≡ answered (both (setting_of l.now.r.now) (inner_of l.now.r.now l.now.levels) mode (seen_at at.now) test.says.rhs b.now c.now run.old.left)) }
+    ensures is { IfOk result (λ o. got_any o steps.new.left ≡ answered (both (setting_of l.now.r.now) (inner_of l.now.r.now l.now.levels) mode (seen_at at.now) test.says.rhs b.now c.now steps.old.left)) }
     ensures from { IfOk result (λ o. IfSome o (λ a. IfSome a (From l.now.r.now.w.now mode at.now.ctx.now sofar.says.lhs))) }
 {
-    let Some(more) = both(l, run, mode, at, sofar.rhs(), test, b, c)? else {
+    let Some(more) = both(l, steps, mode, at, sofar.rhs(), test, b, c)? else {
         return Ok(None);
     };
     let q = follow(l.r, at.ctx, mode, sofar, more)?;
@@ -133,12 +127,9 @@ fn follow_both<
 }
 
 /// The walk ends at an `if` whose test has become no constant: at both branches, where a branch was taken.
-fn walk_ends<
-    O: TypeOracle,
-    F: Fn(&mut Run, Mode, &Place<'_>, &Term) -> Result<Option<Equiv>, NoMemory>,
->(
+fn walk_ends<O: TypeOracle, F: Below>(
     l: &Level<'_, '_, O, F>,
-    run: &mut Run,
+    steps: &mut Steps,
     mode: Mode,
     at: &Place<'_>,
     sofar: Equiv,
@@ -147,29 +138,26 @@ fn walk_ends<
     b: &Term,
     c: &Term,
 ) -> Result<Tried<Equiv>, NoMemory>
-    requires level { IsLevel (F.pre l.now.below.now) (F.post l.now.below.now) l.now.r.now l.now.levels }
+    requires level { IsLevel (F.may l.now.below.now) (F.gives l.now.below.now) l.now.r.now l.now.levels }
     requires facts { KnownFacts (defs_in l.now.r.now) at.now.ctx.now.0 }
     requires sofar { From l.now.r.now.w.now mode at.now.ctx.now sofar.says.lhs sofar }
     requires test { From l.now.r.now.w.now Iff at.now.ctx.now test.says.lhs test }
     requires open { truth_of test.says.rhs ≡ None }
     requires choice { sofar.says.rhs ≡ if_of test.says.lhs b.now c.now }
-    ensures is { IfOk result (λ o. got_any o run.new.left ≡ ends_on (setting_of l.now.r.now) (inner_of l.now.r.now l.now.levels) mode (seen_at at.now) taken test.says.rhs b.now c.now run.old.left) }
+    ensures is { IfOk result (λ o. got_any o steps.new.left ≡ ends_on (setting_of l.now.r.now) (inner_of l.now.r.now l.now.levels) mode (seen_at at.now) taken test.says.rhs b.now c.now steps.old.left) }
     ensures from { IfOk result (λ o. IfSome o (λ a. IfSome a (From l.now.r.now.w.now mode at.now.ctx.now sofar.says.lhs))) }
 {
     if taken {
-        return follow_both(l, run, mode, at, sofar, test, b, c);
+        return follow_both(l, steps, mode, at, sofar, test, b, c);
     }
     Ok(Some(None))
 }
 
 /// Down the body, which is lent: at an `if` its test under `iff`, and on by what that has become.
 #[cycle(walking)]
-fn walk_body<
-    O: TypeOracle,
-    F: Fn(&mut Run, Mode, &Place<'_>, &Term) -> Result<Option<Equiv>, NoMemory>,
->(
+fn walk_body<O: TypeOracle, F: Below>(
     l: &Level<'_, '_, O, F>,
-    run: &mut Run,
+    steps: &mut Steps,
     mode: Mode,
     at: &Place<'_>,
     inner: &Place<'_>,
@@ -177,115 +165,105 @@ fn walk_body<
     taken: bool,
     body: &Term,
 ) -> Result<Tried<Equiv>, NoMemory>
-    requires level { IsLevel (F.pre l.now.below.now) (F.post l.now.below.now) l.now.r.now l.now.levels }
+    requires level { IsLevel (F.may l.now.below.now) (F.gives l.now.below.now) l.now.r.now l.now.levels }
     requires facts { KnownFacts (defs_in l.now.r.now) at.now.ctx.now.0 }
     requires inner { inner.now.ctx.now ≡ at.now.ctx.now }
     requires sofar { From l.now.r.now.w.now mode at.now.ctx.now sofar.says.lhs sofar }
     requires body { body.now ≡ sofar.says.rhs }
-    ensures is { IfOk result (λ o. got_any o run.new.left ≡ walk (setting_of l.now.r.now) (inner_of l.now.r.now l.now.levels) mode (seen_at at.now) (seen_at inner.now) sofar.says.rhs taken run.old.left) }
+    ensures is { IfOk result (λ o. got_any o steps.new.left ≡ walk (setting_of l.now.r.now) (inner_of l.now.r.now l.now.levels) mode (seen_at at.now) (seen_at inner.now) sofar.says.rhs taken steps.old.left) }
     ensures from { IfOk result (λ o. IfSome o (λ a. IfSome a (From l.now.r.now.w.now mode at.now.ctx.now sofar.says.lhs))) }
 {
     match shape_of(body) {
-        ShapeRef::If(a, b, c) => match deeper(l, run, Mode::Iff, at, a)? {
+        ShapeRef::If(a, b, c) => match deeper(l, steps, Mode::Iff, at, a)? {
             None => Ok(None),
-            Some(test) => walk_on(l, run, mode, at, inner, sofar, taken, test, b, c),
+            Some(test) => walk_on(l, steps, mode, at, inner, sofar, taken, test, b, c),
         },
-        _ => walk_stops(l, run, mode, at, sofar, taken),
+        _ => walk_stops(l, steps, mode, at, sofar, taken),
     }
 }
 
 /// Down the body of a function that recurs, while it is an `if` whose test becomes a constant. There is an answer
 /// where one was, at least once.
 #[cycle(walking)]
-fn walk<O: TypeOracle, F: Fn(&mut Run, Mode, &Place<'_>, &Term) -> Result<Option<Equiv>, NoMemory>>(
+fn walk<O: TypeOracle, F: Below>(
     l: &Level<'_, '_, O, F>,
-    run: &mut Run,
+    steps: &mut Steps,
     mode: Mode,
     at: &Place<'_>,
     inner: &Place<'_>,
     sofar: Equiv,
     taken: bool,
 ) -> Result<Tried<Equiv>, NoMemory>
-    requires level { IsLevel (F.pre l.now.below.now) (F.post l.now.below.now) l.now.r.now l.now.levels }
+    requires level { IsLevel (F.may l.now.below.now) (F.gives l.now.below.now) l.now.r.now l.now.levels }
     requires facts { KnownFacts (defs_in l.now.r.now) at.now.ctx.now.0 }
     requires inner { inner.now.ctx.now ≡ at.now.ctx.now }
     requires sofar { From l.now.r.now.w.now mode at.now.ctx.now sofar.says.lhs sofar }
-    ensures is { IfOk result (λ o. got_any o run.new.left ≡ walk (setting_of l.now.r.now) (inner_of l.now.r.now l.now.levels) mode (seen_at at.now) (seen_at inner.now) sofar.says.rhs taken run.old.left) }
+    ensures is { IfOk result (λ o. got_any o steps.new.left ≡ walk (setting_of l.now.r.now) (inner_of l.now.r.now l.now.levels) mode (seen_at at.now) (seen_at inner.now) sofar.says.rhs taken steps.old.left) }
     ensures from { IfOk result (λ o. IfSome o (λ a. IfSome a (From l.now.r.now.w.now mode at.now.ctx.now sofar.says.lhs))) }
 {
     let body = copy_term(l.r.alloc, sofar.rhs())?;
-    walk_body(l, run, mode, at, inner, sofar, taken, &body)
+    walk_body(l, steps, mode, at, inner, sofar, taken, &body)
 }
 
 /// The walk ends at what is no `if`: it is rewritten, where a branch was taken.
-fn walk_stops<
-    O: TypeOracle,
-    F: Fn(&mut Run, Mode, &Place<'_>, &Term) -> Result<Option<Equiv>, NoMemory>,
->(
+fn walk_stops<O: TypeOracle, F: Below>(
     l: &Level<'_, '_, O, F>,
-    run: &mut Run,
+    steps: &mut Steps,
     mode: Mode,
     at: &Place<'_>,
     sofar: Equiv,
     taken: bool,
 ) -> Result<Tried<Equiv>, NoMemory>
-    requires level { IsLevel (F.pre l.now.below.now) (F.post l.now.below.now) l.now.r.now l.now.levels }
+    requires level { IsLevel (F.may l.now.below.now) (F.gives l.now.below.now) l.now.r.now l.now.levels }
     requires facts { KnownFacts (defs_in l.now.r.now) at.now.ctx.now.0 }
     requires sofar { From l.now.r.now.w.now mode at.now.ctx.now sofar.says.lhs sofar }
-    ensures is { IfOk result (λ o. got_any o run.new.left ≡ leaf_on (inner_of l.now.r.now l.now.levels) mode (seen_at at.now) sofar.says.rhs taken run.old.left) }
+    ensures is { IfOk result (λ o. got_any o steps.new.left ≡ leaf_on (inner_of l.now.r.now l.now.levels) mode (seen_at at.now) sofar.says.rhs taken steps.old.left) }
     ensures from { IfOk result (λ o. IfSome o (λ a. IfSome a (From l.now.r.now.w.now mode at.now.ctx.now sofar.says.lhs))) }
 {
     if !taken {
         return Ok(Some(None));
     }
-    let found = go_on(l, run, mode, at, sofar)?;
+    let found = go_on(l, steps, mode, at, sofar)?;
     Ok(answered(found))
 }
 
 /// The instance of the body of a function that recurs: of a call that is to be opened it is rewritten as it stands
 /// within, else it is walked down.
-fn open_within<
-    O: TypeOracle,
-    F: Fn(&mut Run, Mode, &Place<'_>, &Term) -> Result<Option<Equiv>, NoMemory>,
->(
+fn open_within<O: TypeOracle, F: Below>(
     l: &Level<'_, '_, O, F>,
-    run: &mut Run,
+    steps: &mut Steps,
     mode: Mode,
     at: &Place<'_>,
     inner: &Place<'_>,
     first: Equiv,
 ) -> Result<Tried<Equiv>, NoMemory>
-    requires level { IsLevel (F.pre l.now.below.now) (F.post l.now.below.now) l.now.r.now l.now.levels }
+    requires level { IsLevel (F.may l.now.below.now) (F.gives l.now.below.now) l.now.r.now l.now.levels }
     requires facts { KnownFacts (defs_in l.now.r.now) at.now.ctx.now.0 }
     requires inner { inner.now.ctx.now ≡ at.now.ctx.now }
     requires first { From l.now.r.now.w.now mode at.now.ctx.now first.says.lhs first }
-    ensures is { IfOk result (λ o. got_any o run.new.left ≡ open_within (setting_of l.now.r.now) (inner_of l.now.r.now l.now.levels) mode (seen_at at.now) (seen_at inner.now) first.says.lhs first.says.rhs run.old.left) }
+    ensures is { IfOk result (λ o. got_any o steps.new.left ≡ open_within (setting_of l.now.r.now) (inner_of l.now.r.now l.now.levels) mode (seen_at at.now) (seen_at inner.now) first.says.lhs first.says.rhs steps.old.left) }
     ensures from { IfOk result (λ o. IfSome o (λ a. IfSome a (From l.now.r.now.w.now mode at.now.ctx.now first.says.lhs))) }
 {
-    if ap_term::is_term_among(first.lhs(), l.r.expand.as_slice()) {
-        let found = go_on(l, run, mode, inner, first)?;
+use ap_term::{Steps, copy_term, is_among};
         return Ok(answered(found));
     }
-    walk(l, run, mode, at, inner, first, false)
+    walk(l, steps, mode, at, inner, first, false)
 }
 
 /// The instance of the body of a function that recurs, where the function isn't opened again: of a call that is to be
 /// opened it is rewritten, else it is walked down.
-fn open_recursive<
-    O: TypeOracle,
-    F: Fn(&mut Run, Mode, &Place<'_>, &Term) -> Result<Option<Equiv>, NoMemory>,
->(
+fn open_recursive<O: TypeOracle, F: Below>(
     l: &Level<'_, '_, O, F>,
-    run: &mut Run,
+    steps: &mut Steps,
     mode: Mode,
     at: &Place<'_>,
     f: &Symbol,
     first: Equiv,
 ) -> Result<Tried<Equiv>, NoMemory>
-    requires level { IsLevel (F.pre l.now.below.now) (F.post l.now.below.now) l.now.r.now l.now.levels }
+    requires level { IsLevel (F.may l.now.below.now) (F.gives l.now.below.now) l.now.r.now l.now.levels }
     requires facts { KnownFacts (defs_in l.now.r.now) at.now.ctx.now.0 }
     requires first { From l.now.r.now.w.now mode at.now.ctx.now first.says.lhs first }
-    ensures is { IfOk result (λ o. got_any o run.new.left ≡ open_closed (setting_of l.now.r.now) (inner_of l.now.r.now l.now.levels) mode (seen_at at.now) f.now first.says.lhs first.says.rhs run.old.left) }
+    ensures is { IfOk result (λ o. got_any o steps.new.left ≡ open_closed (setting_of l.now.r.now) (inner_of l.now.r.now l.now.levels) mode (seen_at at.now) f.now first.says.lhs first.says.rhs steps.old.left) }
     ensures from { IfOk result (λ o. IfSome o (λ a. IfSome a (From l.now.r.now.w.now mode at.now.ctx.now first.says.lhs))) }
 {
     let closed = closing(l.r.alloc, f, at.closed)?;
@@ -294,42 +272,36 @@ fn open_recursive<
         closed: closed.as_slice(),
         chain: at.chain,
     };
-    open_within(l, run, mode, at, &inner, first)
+    open_within(l, steps, mode, at, &inner, first)
 }
 
 /// The instance of a function's body to which a call leads.
-fn open_instance<
-    O: TypeOracle,
-    F: Fn(&mut Run, Mode, &Place<'_>, &Term) -> Result<Option<Equiv>, NoMemory>,
->(
+fn open_instance<O: TypeOracle, F: Below>(
     l: &Level<'_, '_, O, F>,
-    run: &mut Run,
+    steps: &mut Steps,
     mode: Mode,
     at: &Place<'_>,
     f: &Symbol,
     g: &Function,
     first: Equiv,
 ) -> Result<Tried<Equiv>, NoMemory>
-    requires level { IsLevel (F.pre l.now.below.now) (F.post l.now.below.now) l.now.r.now l.now.levels }
+    requires level { IsLevel (F.may l.now.below.now) (F.gives l.now.below.now) l.now.r.now l.now.levels }
     requires facts { KnownFacts (defs_in l.now.r.now) at.now.ctx.now.0 }
     requires first { From l.now.r.now.w.now mode at.now.ctx.now first.says.lhs first }
-    ensures is { IfOk result (λ o. got_any o run.new.left ≡ open_instance (setting_of l.now.r.now) (inner_of l.now.r.now l.now.levels) mode (seen_at at.now) first.says.lhs f.now g.now first.says.rhs run.old.left) }
+    ensures is { IfOk result (λ o. got_any o steps.new.left ≡ open_instance (setting_of l.now.r.now) (inner_of l.now.r.now l.now.levels) mode (seen_at at.now) first.says.lhs f.now g.now first.says.rhs steps.old.left) }
     ensures from { IfOk result (λ o. IfSome o (λ a. IfSome a (From l.now.r.now.w.now mode at.now.ctx.now first.says.lhs))) }
 {
     if g.measure.is_some() {
-        return open_recursive(l, run, mode, at, f, first);
+        return open_recursive(l, steps, mode, at, f, first);
     }
-    let found = go_on(l, run, mode, at, first)?;
+    let found = go_on(l, steps, mode, at, first)?;
     Ok(answered(found))
 }
 
 /// A call of a defined function that may be opened, by its body's instance, where that isn't too large.
-fn open_at_once<
-    O: TypeOracle,
-    F: Fn(&mut Run, Mode, &Place<'_>, &Term) -> Result<Option<Equiv>, NoMemory>,
->(
+fn open_at_once<O: TypeOracle, F: Below>(
     l: &Level<'_, '_, O, F>,
-    run: &mut Run,
+    steps: &mut Steps,
     mode: Mode,
     at: &Place<'_>,
     t: &Term,
@@ -337,21 +309,21 @@ fn open_at_once<
     us: &[Term],
     g: &Function,
 ) -> Result<Tried<Equiv>, NoMemory>
-    requires level { IsLevel (F.pre l.now.below.now) (F.post l.now.below.now) l.now.r.now l.now.levels }
+    requires level { IsLevel (F.may l.now.below.now) (F.gives l.now.below.now) l.now.r.now l.now.levels }
     requires facts { KnownFacts (defs_in l.now.r.now) at.now.ctx.now.0 }
     requires term { IsTrue (known (defs_in l.now.r.now) t.now) }
     requires call { t.now ≡ Call f.now us.now }
     requires function { defs_in l.now.r.now f.now ≡ Some g.now }
     requires enabled { IsTrue (is_enabled l.now.r.now.theory.now (rune.Definition f.now)) }
     requires free { is_among symbol_eq f.now at.now.closed.now ≡ false }
-    ensures is { IfOk result (λ o. got_any o run.new.left ≡ opening (setting_of l.now.r.now) (inner_of l.now.r.now l.now.levels) mode (seen_at at.now) t.now f.now us.now (Some g.now) run.old.left) }
+    ensures is { IfOk result (λ o. got_any o steps.new.left ≡ opening (setting_of l.now.r.now) (inner_of l.now.r.now l.now.levels) mode (seen_at at.now) t.now f.now us.now (Some g.now) steps.old.left) }
     ensures from { IfOk result (λ o. IfSome o (λ a. IfSome a (From l.now.r.now.w.now mode at.now.ctx.now t.now))) }
 {
     let first = opened(l.r, at.ctx, mode, t)?;
     if !is_small(first.rhs()) {
         return Ok(Some(None));
     }
-    open_instance(l, run, mode, at, f, g, first)
+    open_instance(l, steps, mode, at, f, g, first)
 }
 
 /// The instance of a part of a function's body at these arguments.
@@ -364,78 +336,69 @@ fn part_at(alloc: Global, g: &Function, us: &[Term], part: &Term) -> Result<Term
 }
 
 /// The instance of the test of a function's body, rewritten under `iff`.
-fn rewrite_test<
-    O: TypeOracle,
-    F: Fn(&mut Run, Mode, &Place<'_>, &Term) -> Result<Option<Equiv>, NoMemory>,
->(
+fn rewrite_test<O: TypeOracle, F: Below>(
     l: &Level<'_, '_, O, F>,
-    run: &mut Run,
+    steps: &mut Steps,
     at: &Place<'_>,
     us: &[Term],
     g: &Function,
     a: &Term,
 ) -> Result<Option<Equiv>, NoMemory>
-    requires level { IsLevel (F.pre l.now.below.now) (F.post l.now.below.now) l.now.r.now l.now.levels }
+    requires level { IsLevel (F.may l.now.below.now) (F.gives l.now.below.now) l.now.r.now l.now.levels }
     requires facts { KnownFacts (defs_in l.now.r.now) at.now.ctx.now.0 }
     requires arguments { Each (λ u. IsTrue (known (defs_in l.now.r.now) u)) us.now }
     requires test { IsTrue (known (defs_in l.now.r.now) a.now) }
-    ensures is { IfOk result (λ o. got o run.new.left ≡ inner_of l.now.r.now l.now.levels Iff (seen_at at.now) (subst_of (zip g.now.formals us.now) a.now) run.old.left) }
+    ensures is { IfOk result (λ o. got o steps.new.left ≡ inner_of l.now.r.now l.now.levels Iff (seen_at at.now) (subst_of (zip g.now.formals us.now) a.now) steps.old.left) }
     ensures from { IfOk result (λ o. IfSome o (From l.now.r.now.w.now Iff at.now.ctx.now (subst_of (zip g.now.formals us.now) a.now))) }
 {
     let instance = part_at(l.r.alloc, g, us, a)?;
-    let found = deeper(l, run, Mode::Iff, at, &instance)?;
+    let found = deeper(l, steps, Mode::Iff, at, &instance)?;
     Ok(found)
 }
 
 /// Down a body's instance from the `if` at its top, whose test has led to this already, from some number of steps.
-fn walk_past<
-    O: TypeOracle,
-    F: Fn(&mut Run, Mode, &Place<'_>, &Term) -> Result<Option<Equiv>, NoMemory>,
->(
+fn walk_past<O: TypeOracle, F: Below>(
     l: &Level<'_, '_, O, F>,
-    run: &mut Run,
+    steps: &mut Steps,
     mode: Mode,
     at: &Place<'_>,
     inner: &Place<'_>,
     first: Equiv,
     test: Equiv,
 ) -> Result<Tried<Equiv>, NoMemory>
-    requires level { IsLevel (F.pre l.now.below.now) (F.post l.now.below.now) l.now.r.now l.now.levels }
+    requires level { IsLevel (F.may l.now.below.now) (F.gives l.now.below.now) l.now.r.now l.now.levels }
     requires facts { KnownFacts (defs_in l.now.r.now) at.now.ctx.now.0 }
     requires inner { inner.now.ctx.now ≡ at.now.ctx.now }
     requires first { From l.now.r.now.w.now mode at.now.ctx.now first.says.lhs first }
     requires test { From l.now.r.now.w.now Iff at.now.ctx.now test.says.lhs test }
     requires choice { (b : Term) × (c : Term) × (first.says.rhs ≡ if_of test.says.lhs b c) }
-    ensures is { IfOk result (λ o. (n : ℕ) → Some (test.says.rhs, run.old.left) ≡ inner_of l.now.r.now l.now.levels Iff (seen_at at.now) test.says.lhs n → got_any o run.new.left ≡ walk (setting_of l.now.r.now) (inner_of l.now.r.now l.now.levels) mode (seen_at at.now) (seen_at inner.now) first.says.rhs false n) }
+    ensures is { IfOk result (λ o. (n : ℕ) → Some (test.says.rhs, steps.old.left) ≡ inner_of l.now.r.now l.now.levels Iff (seen_at at.now) test.says.lhs n → got_any o steps.new.left ≡ walk (setting_of l.now.r.now) (inner_of l.now.r.now l.now.levels) mode (seen_at at.now) (seen_at inner.now) first.says.rhs false n) }
     ensures from { IfOk result (λ o. IfSome o (λ a. IfSome a (From l.now.r.now.w.now mode at.now.ctx.now first.says.lhs))) }
 {
     let body = copy_term(l.r.alloc, first.rhs())?;
     match shape_of(&body) {
-        ShapeRef::If(_, b, c) => walk_on(l, run, mode, at, inner, first, false, test, b, c),
+        ShapeRef::If(_, b, c) => walk_on(l, steps, mode, at, inner, first, false, test, b, c),
         _ => unreachable!(),
     }
 }
 
 /// A call of a function whose body is an `if`, where the instance of its test has led to this already: its body's
 /// instance is made, and walked down where the function is closed.
-fn open_tested<
-    O: TypeOracle,
-    F: Fn(&mut Run, Mode, &Place<'_>, &Term) -> Result<Option<Equiv>, NoMemory>,
->(
+fn open_tested<O: TypeOracle, F: Below>(
     l: &Level<'_, '_, O, F>,
-    run: &mut Run,
+    steps: &mut Steps,
     mode: Mode,
     at: &Place<'_>,
     t: &Term,
     f: &Symbol,
     test: Equiv,
 ) -> Result<Tried<Equiv>, NoMemory>
-    requires level { IsLevel (F.pre l.now.below.now) (F.post l.now.below.now) l.now.r.now l.now.levels }
+    requires level { IsLevel (F.may l.now.below.now) (F.gives l.now.below.now) l.now.r.now l.now.levels }
     requires facts { KnownFacts (defs_in l.now.r.now) at.now.ctx.now.0 }
     requires term { IsTrue (known (defs_in l.now.r.now) t.now) }
     requires test { From l.now.r.now.w.now Iff at.now.ctx.now test.says.lhs test }
     requires choice { (b : Term) × (c : Term) × (opened (defs_in l.now.r.now) t.now ≡ Some (if_of test.says.lhs b c)) }
-    ensures is { IfOk result (λ o. (v : Term) (n : ℕ) → opened (defs_in l.now.r.now) t.now ≡ Some v → Some (test.says.rhs, run.old.left) ≡ inner_of l.now.r.now l.now.levels Iff (seen_at at.now) test.says.lhs n → got_any o run.new.left ≡ walk (setting_of l.now.r.now) (inner_of l.now.r.now l.now.levels) mode (seen_at at.now) (closing f.now (seen_at at.now)) v false n) }
+    ensures is { IfOk result (λ o. (v : Term) (n : ℕ) → opened (defs_in l.now.r.now) t.now ≡ Some v → Some (test.says.rhs, steps.old.left) ≡ inner_of l.now.r.now l.now.levels Iff (seen_at at.now) test.says.lhs n → got_any o steps.new.left ≡ walk (setting_of l.now.r.now) (inner_of l.now.r.now l.now.levels) mode (seen_at at.now) (closing f.now (seen_at at.now)) v false n) }
     ensures from { IfOk result (λ o. IfSome o (λ a. IfSome a (From l.now.r.now.w.now mode at.now.ctx.now t.now))) }
 {
     let first = opened(l.r, at.ctx, mode, t)?;
@@ -445,17 +408,14 @@ fn open_tested<
         closed: closed.as_slice(),
         chain: at.chain,
     };
-    walk_past(l, run, mode, at, &inner, first, test)
+    walk_past(l, steps, mode, at, &inner, first, test)
 }
 
 /// A call of a function whose body is an `if`: the instance of its test alone is made and rewritten, and the body's
 /// where the test becomes a constant.
-fn open_by_test<
-    O: TypeOracle,
-    F: Fn(&mut Run, Mode, &Place<'_>, &Term) -> Result<Option<Equiv>, NoMemory>,
->(
+fn open_by_test<O: TypeOracle, F: Below>(
     l: &Level<'_, '_, O, F>,
-    run: &mut Run,
+    steps: &mut Steps,
     mode: Mode,
     at: &Place<'_>,
     t: &Term,
@@ -464,22 +424,22 @@ fn open_by_test<
     g: &Function,
     a: &Term,
 ) -> Result<Tried<Equiv>, NoMemory>
-    requires level { IsLevel (F.pre l.now.below.now) (F.post l.now.below.now) l.now.r.now l.now.levels }
+    requires level { IsLevel (F.may l.now.below.now) (F.gives l.now.below.now) l.now.r.now l.now.levels }
     requires facts { KnownFacts (defs_in l.now.r.now) at.now.ctx.now.0 }
     requires term { IsTrue (known (defs_in l.now.r.now) t.now) }
     requires call { t.now ≡ Call f.now us.now }
     requires function { defs_in l.now.r.now f.now ≡ Some g.now }
     requires choice { (b : Term) × (c : Term) × (g.now.body ≡ if_of a.now b c) }
-    ensures is { IfOk result (λ o. got_any o run.new.left ≡ walk (setting_of l.now.r.now) (inner_of l.now.r.now l.now.levels) mode (seen_at at.now) (closing f.now (seen_at at.now)) (body_at g.now us.now) false run.old.left) }
+    ensures is { IfOk result (λ o. got_any o steps.new.left ≡ walk (setting_of l.now.r.now) (inner_of l.now.r.now l.now.levels) mode (seen_at at.now) (closing f.now (seen_at at.now)) (body_at g.now us.now) false steps.old.left) }
     ensures from { IfOk result (λ o. IfSome o (λ a. IfSome a (From l.now.r.now.w.now mode at.now.ctx.now t.now))) }
 {
     l.r.w.recall_sound();
-    let Some(test) = rewrite_test(l, run, at, us, g, a)? else {
+    let Some(test) = rewrite_test(l, steps, at, us, g, a)? else {
         return Ok(None);
     };
     match truth_of(test.rhs()) {
         None => Ok(Some(None)),
-        Some(_) => open_tested(l, run, mode, at, t, f, test),
+        Some(_) => open_tested(l, steps, mode, at, t, f, test),
     }
 }
 
@@ -516,12 +476,9 @@ fn first_test<'a>(expand: &[Term], t: &Term, g: &'a Function) -> Option<&'a Term
 /// A call of a defined function, which is opened where the theory enables its definition, it isn't closed, and the
 /// instance of its body isn't too large: by its test alone first, where the function recurs and a bound says that the
 /// instance is small.
-fn open_call<
-    O: TypeOracle,
-    F: Fn(&mut Run, Mode, &Place<'_>, &Term) -> Result<Option<Equiv>, NoMemory>,
->(
+fn open_call<O: TypeOracle, F: Below>(
     l: &Level<'_, '_, O, F>,
-    run: &mut Run,
+    steps: &mut Steps,
     mode: Mode,
     at: &Place<'_>,
     t: &Term,
@@ -529,45 +486,42 @@ fn open_call<
     us: &[Term],
     g: &Function,
 ) -> Result<Tried<Equiv>, NoMemory>
-    requires level { IsLevel (F.pre l.now.below.now) (F.post l.now.below.now) l.now.r.now l.now.levels }
+    requires level { IsLevel (F.may l.now.below.now) (F.gives l.now.below.now) l.now.r.now l.now.levels }
     requires facts { KnownFacts (defs_in l.now.r.now) at.now.ctx.now.0 }
     requires term { IsTrue (known (defs_in l.now.r.now) t.now) }
     requires call { t.now ≡ Call f.now us.now }
     requires function { defs_in l.now.r.now f.now ≡ Some g.now }
-    ensures is { IfOk result (λ o. got_any o run.new.left ≡ opening (setting_of l.now.r.now) (inner_of l.now.r.now l.now.levels) mode (seen_at at.now) t.now f.now us.now (Some g.now) run.old.left) }
+    ensures is { IfOk result (λ o. got_any o steps.new.left ≡ opening (setting_of l.now.r.now) (inner_of l.now.r.now l.now.levels) mode (seen_at at.now) t.now f.now us.now (Some g.now) steps.old.left) }
     ensures from { IfOk result (λ o. IfSome o (λ a. IfSome a (From l.now.r.now.w.now mode at.now.ctx.now t.now))) }
 {
     if !l.r.theory.is_enabled(RuneKind::Definition, f) || is_among(f, at.closed) {
         return Ok(Some(None));
     }
     match first_test(l.r.expand.as_slice(), t, g) {
-        Some(a) => open_by_test(l, run, mode, at, t, f, us, g, a),
-        None => open_at_once(l, run, mode, at, t, f, us, g),
+        Some(a) => open_by_test(l, steps, mode, at, t, f, us, g, a),
+        None => open_at_once(l, steps, mode, at, t, f, us, g),
     }
 }
 
 /// The definition, of a function that may be opened.
-pub fn by_definition<
-    O: TypeOracle,
-    F: Fn(&mut Run, Mode, &Place<'_>, &Term) -> Result<Option<Equiv>, NoMemory>,
->(
+pub fn by_definition<O: TypeOracle, F: Below>(
     l: &Level<'_, '_, O, F>,
-    run: &mut Run,
+    steps: &mut Steps,
     mode: Mode,
     at: &Place<'_>,
     t: &Term,
     f: &Symbol,
     us: &[Term],
 ) -> Result<Tried<Equiv>, NoMemory>
-    requires level { IsLevel (F.pre l.now.below.now) (F.post l.now.below.now) l.now.r.now l.now.levels }
+    requires level { IsLevel (F.may l.now.below.now) (F.gives l.now.below.now) l.now.r.now l.now.levels }
     requires facts { KnownFacts (defs_in l.now.r.now) at.now.ctx.now.0 }
     requires term { IsTrue (known (defs_in l.now.r.now) t.now) }
     requires call { t.now ≡ Call f.now us.now }
-    ensures is { IfOk result (λ o. got_any o run.new.left ≡ by_definition (setting_of l.now.r.now) (inner_of l.now.r.now l.now.levels) mode (seen_at at.now) f.now us.now run.old.left) }
+    ensures is { IfOk result (λ o. got_any o steps.new.left ≡ by_definition (setting_of l.now.r.now) (inner_of l.now.r.now l.now.levels) mode (seen_at at.now) f.now us.now steps.old.left) }
     ensures from { IfOk result (λ o. IfSome o (λ a. IfSome a (From l.now.r.now.w.now mode at.now.ctx.now t.now))) }
 {
     match l.r.w.lookup_fun(f) {
         None => Ok(Some(None)),
-        Some(g) => open_call(l, run, mode, at, t, f, us, g),
+        Some(g) => open_call(l, steps, mode, at, t, f, us, g),
     }
 }

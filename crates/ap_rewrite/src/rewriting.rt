@@ -9,25 +9,23 @@ ghost use Rattle.ap_rewrite.specs.Answering.{defs_in, Ready, setting_of, inner_o
 
 use crate::branching::{rewrite_if, rewrite_not};
 use crate::calls::rewrite_call;
-use crate::rewriter::{Level, Place, Rewriter, Run};
+use crate::rewriter::{Below, Level, Place, Rewriter};
 use crate::rows::{as_constant, settled_by_type, stay};
 use ap_kernel::{Equiv, LinearOracle, Mode, NoMemory, ShapeRef, Term, TypeOracle, shape_of};
+use ap_term::Steps;
 
 /// A variable, a constant, or a call that is no `if` and no negation.
-fn rewrite_parts<
-    O: TypeOracle + LinearOracle,
-    F: Fn(&mut Run, Mode, &Place<'_>, &Term) -> Result<Option<Equiv>, NoMemory>,
->(
+fn rewrite_parts<O: TypeOracle + LinearOracle, F: Below>(
     l: &Level<'_, '_, O, F>,
-    run: &mut Run,
+    steps: &mut Steps,
     mode: Mode,
     at: &Place<'_>,
     t: &Term,
 ) -> Result<Option<Equiv>, NoMemory>
-    requires level { IsLevel (F.pre l.now.below.now) (F.post l.now.below.now) l.now.r.now l.now.levels }
+    requires level { IsLevel (F.may l.now.below.now) (F.gives l.now.below.now) l.now.r.now l.now.levels }
     requires facts { KnownFacts (defs_in l.now.r.now) at.now.ctx.now.0 }
     requires term { IsTrue (known (defs_in l.now.r.now) t.now) }
-    ensures is { IfOk result (λ o. got o run.new.left ≡ rewrite_parts (setting_of l.now.r.now) (inner_of l.now.r.now l.now.levels) mode (seen_at at.now) t.now (out-Term t.now) run.old.left) }
+    ensures is { IfOk result (λ o. got o steps.new.left ≡ rewrite_parts (setting_of l.now.r.now) (inner_of l.now.r.now l.now.levels) mode (seen_at at.now) t.now (out-Term t.now) steps.old.left) }
     ensures from { IfOk result (λ o. IfSome o (From l.now.r.now.w.now mode at.now.ctx.now t.now)) }
 {
     match t {
@@ -39,31 +37,28 @@ fn rewrite_parts<
             let q = as_constant(l.r, at.ctx, mode, t, v)?;
             Ok(Some(q))
         }
-        Term::Call(f, us) => rewrite_call(l, run, mode, at, t, f, us.as_slice()),
+        Term::Call(f, us) => rewrite_call(l, steps, mode, at, t, f, us.as_slice()),
     }
 }
 
 /// A term by what it is.
-fn rewrite_shape<
-    O: TypeOracle + LinearOracle,
-    F: Fn(&mut Run, Mode, &Place<'_>, &Term) -> Result<Option<Equiv>, NoMemory>,
->(
+fn rewrite_shape<O: TypeOracle + LinearOracle, F: Below>(
     l: &Level<'_, '_, O, F>,
-    run: &mut Run,
+    steps: &mut Steps,
     mode: Mode,
     at: &Place<'_>,
     t: &Term,
 ) -> Result<Option<Equiv>, NoMemory>
-    requires level { IsLevel (F.pre l.now.below.now) (F.post l.now.below.now) l.now.r.now l.now.levels }
+    requires level { IsLevel (F.may l.now.below.now) (F.gives l.now.below.now) l.now.r.now l.now.levels }
     requires facts { KnownFacts (defs_in l.now.r.now) at.now.ctx.now.0 }
     requires term { IsTrue (known (defs_in l.now.r.now) t.now) }
-    ensures is { IfOk result (λ o. got o run.new.left ≡ rewrite_shape (setting_of l.now.r.now) (inner_of l.now.r.now l.now.levels) mode (seen_at at.now) t.now (shape_of t.now) run.old.left) }
+    ensures is { IfOk result (λ o. got o steps.new.left ≡ rewrite_shape (setting_of l.now.r.now) (inner_of l.now.r.now l.now.levels) mode (seen_at at.now) t.now (shape_of t.now) steps.old.left) }
     ensures from { IfOk result (λ o. IfSome o (From l.now.r.now.w.now mode at.now.ctx.now t.now)) }
 {
     match shape_of(t) {
-        ShapeRef::If(a, b, c) => rewrite_if(l, run, mode, at, t, a, b, c),
-        ShapeRef::Not(a) => rewrite_not(l, run, mode, at, t, a),
-        _ => rewrite_parts(l, run, mode, at, t),
+        ShapeRef::If(a, b, c) => rewrite_if(l, steps, mode, at, t, a, b, c),
+        ShapeRef::Not(a) => rewrite_not(l, steps, mode, at, t, a),
+        _ => rewrite_parts(l, steps, mode, at, t),
     }
 }
 
@@ -71,7 +66,7 @@ fn rewrite_shape<
 #[cycle(rewriting)]
 fn rewrite_levels<O: TypeOracle + LinearOracle>(
     r: &Rewriter<'_, O>,
-    run: &mut Run,
+    steps: &mut Steps,
     levels: u32,
     mode: Mode,
     at: &Place<'_>,
@@ -80,41 +75,41 @@ fn rewrite_levels<O: TypeOracle + LinearOracle>(
     requires ready { Ready r.now }
     requires facts { KnownFacts (defs_in r.now) at.now.ctx.now.0 }
     requires term { IsTrue (known (defs_in r.now) t.now) }
-    ensures is { IfOk result (λ o. got o run.new.left ≡ inner_of r.now levels mode (seen_at at.now) t.now run.old.left) }
+    ensures is { IfOk result (λ o. got o steps.new.left ≡ inner_of r.now levels mode (seen_at at.now) t.now steps.old.left) }
     ensures from { IfOk result (λ o. IfSome o (From r.now.w.now mode at.now.ctx.now t.now)) }
 {
-    if run.left == 0 {
+    if steps.left == 0 {
         return Ok(None);
     }
-    run.left -= 1;
+    steps.left -= 1;
     if levels == 0 {
         let q = stay(&*r, at.ctx, mode, &*t)?;
         return Ok(Some(q));
     }
     let less = levels - 1;
-    let below = |run: &mut Run, mode: Mode, at: &Place<'_>, t: &Term| -> Result<
+    let below = |steps: &mut Steps, mode: Mode, at: &Place<'_>, t: &Term| -> Result<
         Option<Equiv>,
         NoMemory,
     >
         requires ready { Ready r.now }
         requires facts { KnownFacts (defs_in r.now) at.now.ctx.now.0 }
         requires term { IsTrue (known (defs_in r.now) t.now) }
-        ensures is { IfOk result (λ o. got o run.new.left ≡ inner_of r.entry.now less mode (seen_at at.now) t.now run.old.left) }
+        ensures is { IfOk result (λ o. got o steps.new.left ≡ inner_of r.entry.now less mode (seen_at at.now) t.now steps.old.left) }
         ensures from { IfOk result (λ o. IfSome o (From r.entry.now.w.now mode at.now.ctx.now t.now)) }
-    { rewrite_levels(&*r, run, less, mode, &*at, &*t) };
+    { rewrite_levels(&*r, steps, less, mode, &*at, &*t) };
     let l = Level {
         r: &*r,
         levels: less,
         below: &below,
     };
-    rewrite_shape(&l, run, mode, &*at, &*t)
+    rewrite_shape(&l, steps, mode, &*at, &*t)
 }
 
 /// A term with so many levels left: each term that is rewritten spends a step first. `None` exactly where the steps run
 /// out, and then none is left. The only error is want of memory.
 pub fn rewrite<O: TypeOracle + LinearOracle>(
     r: &Rewriter<'_, O>,
-    run: &mut Run,
+    steps: &mut Steps,
     levels: u32,
     mode: Mode,
     at: &Place<'_>,
@@ -123,12 +118,12 @@ pub fn rewrite<O: TypeOracle + LinearOracle>(
     requires ready { Ready r.now }
     requires facts { KnownFacts (defs_in r.now) at.now.ctx.now.0 }
     requires term { IsTrue (known (defs_in r.now) t.now) }
-    ensures is { IfOk result (λ o. got o run.new.left ≡ inner_of r.now levels mode (seen_at at.now) t.now run.old.left) }
-    ensures steps { IfOk result (λ o. run.new.left ≡ steps_after (inner_of r.now levels mode (seen_at at.now) t.now run.old.left)) }
+    ensures is { IfOk result (λ o. got o steps.new.left ≡ inner_of r.now levels mode (seen_at at.now) t.now steps.old.left) }
+    ensures steps { IfOk result (λ o. steps.new.left ≡ steps_after (inner_of r.now levels mode (seen_at at.now) t.now steps.old.left)) }
     ensures from { IfOk result (λ o. IfSome o (From r.now.w.now mode at.now.ctx.now t.now)) }
 {
-    let Some(q) = rewrite_levels(r, run, levels, mode, at, t)? else {
-        run.left = 0;
+    let Some(q) = rewrite_levels(r, steps, levels, mode, at, t)? else {
+        steps.left = 0;
         return Ok(None);
     };
     Ok(Some(q))

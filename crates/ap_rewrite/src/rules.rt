@@ -29,7 +29,7 @@ use crate::engines::answered;
 use crate::facts::{Relieved, by_sign, is_bound};
 use crate::laws::search_by_head;
 use crate::ordering::{fits_mode, in_order_first, in_order_then};
-use crate::rewriter::{Level, Place, Rewriter, Run, Tried, deeper};
+use crate::rewriter::{Below, Level, Place, Rewriter, Tried, deeper};
 use crate::settling::{in_mode, to_true};
 use crate::sizes::is_small;
 use ap_kernel::{
@@ -37,7 +37,7 @@ use ap_kernel::{
     is_constant, subst,
 };
 use ap_rules::{RewriteRule, by_head, rules_are_parts};
-use ap_term::one_way_match;
+use ap_term::{Steps, one_way_match};
 use ap_world::laws::rules_hold;
 use ap_world::{RuneKind, Theory};
 use std::alloc::Global;
@@ -51,22 +51,19 @@ pub(crate) struct Reliefs {
 }
 
 /// The instance of a hypothesis, rewritten within one hypothesis more.
-fn rewrite_instance<
-    O: TypeOracle,
-    F: Fn(&mut Run, Mode, &Place<'_>, &Term) -> Result<Option<Equiv>, NoMemory>,
->(
+fn rewrite_instance<O: TypeOracle, F: Below>(
     l: &Level<'_, '_, O, F>,
-    run: &mut Run,
+    steps: &mut Steps,
     at: &Place<'_>,
     h: &Term,
     s: &Subst,
 ) -> Result<Option<Equiv>, NoMemory>
-    requires level { IsLevel (F.pre l.now.below.now) (F.post l.now.below.now) l.now.r.now l.now.levels }
+    requires level { IsLevel (F.may l.now.below.now) (F.gives l.now.below.now) l.now.r.now l.now.levels }
     requires facts { KnownFacts (defs_in l.now.r.now) at.now.ctx.now.0 }
     requires hyp { IsTrue (known (defs_in l.now.r.now) h.now) }
     requires pairs { KnownPairs (defs_in l.now.r.now) s.now.0 }
     requires few { at.now.chain < 10 }
-    ensures is { IfOk result (λ o. got o run.new.left ≡ inner_of l.now.r.now l.now.levels Iff (relieving (seen_at at.now)) (subst_of s.now.0 h.now) run.old.left) }
+    ensures is { IfOk result (λ o. got o steps.new.left ≡ inner_of l.now.r.now l.now.levels Iff (relieving (seen_at at.now)) (subst_of s.now.0 h.now) steps.old.left) }
     ensures from { IfOk result (λ o. IfSome o (From l.now.r.now.w.now Iff at.now.ctx.now (subst_of s.now.0 h.now))) }
 {
     let instance = subst(l.r.alloc, h, s)?;
@@ -75,7 +72,7 @@ fn rewrite_instance<
         closed: at.closed,
         chain: at.chain + 1,
     };
-    let found = deeper(l, run, Mode::Iff, &within, &instance)?;
+    let found = deeper(l, steps, Mode::Iff, &within, &instance)?;
     Ok(found)
 }
 
@@ -98,26 +95,23 @@ fn where_true(alloc: Global, w: &World, q: Equiv, s: Subst) -> Result<Option<Rel
 
 /// A hypothesis whose variables all have terms: its instance is rewritten, within one hypothesis more, and has to
 /// become a constant other than `nil`.
-fn by_rewriting<
-    O: TypeOracle,
-    F: Fn(&mut Run, Mode, &Place<'_>, &Term) -> Result<Option<Equiv>, NoMemory>,
->(
+fn by_rewriting<O: TypeOracle, F: Below>(
     l: &Level<'_, '_, O, F>,
-    run: &mut Run,
+    steps: &mut Steps,
     at: &Place<'_>,
     h: &Term,
     s: Subst,
 ) -> Result<Tried<Relieved>, NoMemory>
-    requires level { IsLevel (F.pre l.now.below.now) (F.post l.now.below.now) l.now.r.now l.now.levels }
+    requires level { IsLevel (F.may l.now.below.now) (F.gives l.now.below.now) l.now.r.now l.now.levels }
     requires facts { KnownFacts (defs_in l.now.r.now) at.now.ctx.now.0 }
     requires hyp { IsTrue (known (defs_in l.now.r.now) h.now) }
     requires pairs { KnownPairs (defs_in l.now.r.now) s.0 }
     requires bound { IsTrue (is_bound s.0 h.now) }
     requires few { at.now.chain < 10 }
-    ensures is { IfOk result (λ o. got_pairs o run.new.left ≡ relieve_one (inner_of l.now.r.now l.now.levels) (seen_at at.now) h.now s.0 run.old.left) }
+    ensures is { IfOk result (λ o. got_pairs o steps.new.left ≡ relieve_one (inner_of l.now.r.now l.now.levels) (seen_at at.now) h.now s.0 steps.old.left) }
     ensures shown { IfOk result (λ o. IfSome o (λ a. IfSome a (RelievedFrom l.now.r.now.w.now at.now.ctx.now h.now s.0))) }
 {
-    let Some(q) = rewrite_instance(l, run, at, h, &s)? else {
+    let Some(q) = rewrite_instance(l, steps, at, h, &s)? else {
         return Ok(None);
     };
     let found = where_true(l.r.alloc, l.r.w, q, s)?;
@@ -126,47 +120,41 @@ fn by_rewriting<
 
 /// One hypothesis: an instance that becomes a constant other than `nil`, or, with variables that have no term, a fact,
 /// which gives them theirs.
-fn relieve_one<
-    O: TypeOracle,
-    F: Fn(&mut Run, Mode, &Place<'_>, &Term) -> Result<Option<Equiv>, NoMemory>,
->(
+fn relieve_one<O: TypeOracle, F: Below>(
     l: &Level<'_, '_, O, F>,
-    run: &mut Run,
+    steps: &mut Steps,
     at: &Place<'_>,
     h: &Term,
     s: Subst,
 ) -> Result<Tried<Relieved>, NoMemory>
-    requires level { IsLevel (F.pre l.now.below.now) (F.post l.now.below.now) l.now.r.now l.now.levels }
+    requires level { IsLevel (F.may l.now.below.now) (F.gives l.now.below.now) l.now.r.now l.now.levels }
     requires facts { KnownFacts (defs_in l.now.r.now) at.now.ctx.now.0 }
     requires hyp { IsTrue (known (defs_in l.now.r.now) h.now) }
     requires pairs { KnownPairs (defs_in l.now.r.now) s.0 }
     requires few { at.now.chain < 10 }
-    ensures is { IfOk result (λ o. got_pairs o run.new.left ≡ relieve_one (inner_of l.now.r.now l.now.levels) (seen_at at.now) h.now s.0 run.old.left) }
+    ensures is { IfOk result (λ o. got_pairs o steps.new.left ≡ relieve_one (inner_of l.now.r.now l.now.levels) (seen_at at.now) h.now s.0 steps.old.left) }
     ensures shown { IfOk result (λ o. IfSome o (λ a. IfSome a (RelievedFrom l.now.r.now.w.now at.now.ctx.now h.now s.0))) }
 {
     if is_bound(s.0.as_slice(), h) {
-        return by_rewriting(l, run, at, h, s);
+        return by_rewriting(l, steps, at, h, s);
     }
     let found = by_sign(l.r.alloc, l.r.w, at.ctx, h, &s)?;
     Ok(Some(found))
 }
 
 /// The hypotheses from left to right, each only where fewer than ten are being relieved around it.
-pub(crate) fn relieve<
-    O: TypeOracle,
-    F: Fn(&mut Run, Mode, &Place<'_>, &Term) -> Result<Option<Equiv>, NoMemory>,
->(
+pub(crate) fn relieve<O: TypeOracle, F: Below>(
     l: &Level<'_, '_, O, F>,
-    run: &mut Run,
+    steps: &mut Steps,
     at: &Place<'_>,
     hs: &[Term],
     s: Subst,
 ) -> Result<Tried<Reliefs>, NoMemory>
-    requires level { IsLevel (F.pre l.now.below.now) (F.post l.now.below.now) l.now.r.now l.now.levels }
+    requires level { IsLevel (F.may l.now.below.now) (F.gives l.now.below.now) l.now.r.now l.now.levels }
     requires facts { KnownFacts (defs_in l.now.r.now) at.now.ctx.now.0 }
     requires hyps { Each (λ h. IsTrue (known (defs_in l.now.r.now) h)) hs.now }
     requires pairs { KnownPairs (defs_in l.now.r.now) s.0 }
-    ensures is { IfOk result (λ o. got_reliefs o run.new.left ≡ relieve (inner_of l.now.r.now l.now.levels) (seen_at at.now) hs.now s.0 run.old.left) }
+    ensures is { IfOk result (λ o. got_reliefs o steps.new.left ≡ relieve (inner_of l.now.r.now l.now.levels) (seen_at at.now) hs.now s.0 steps.old.left) }
     ensures shown { IfOk result (λ o. IfSome o (λ a. IfSome a (Shows l.now.r.now.w.now at.now.ctx.now hs.now s.0))) }
 {
     let mut pairs = s;
@@ -175,7 +163,7 @@ pub(crate) fn relieve<
         if at.chain >= 10 {
             return Ok(Some(None));
         }
-        match relieve_one(l, run, at, h, pairs)? {
+        match relieve_one(l, steps, at, h, pairs)? {
             None => return Ok(None),
             Some(None) => return Ok(Some(None)),
             Some(Some(found)) => {
@@ -216,90 +204,81 @@ fn applied<O: TypeOracle>(
 }
 
 /// The instance of a rule's right side, which is rewritten, where it isn't too large.
-fn right<
-    O: TypeOracle,
-    F: Fn(&mut Run, Mode, &Place<'_>, &Term) -> Result<Option<Equiv>, NoMemory>,
->(
+fn right<O: TypeOracle, F: Below>(
     l: &Level<'_, '_, O, F>,
-    run: &mut Run,
+    steps: &mut Steps,
     mode: Mode,
     at: &Place<'_>,
     g: &RewriteRule,
     found: Reliefs,
 ) -> Result<Tried<Equiv>, NoMemory>
-    requires level { IsLevel (F.pre l.now.below.now) (F.post l.now.below.now) l.now.r.now l.now.levels }
+    requires level { IsLevel (F.may l.now.below.now) (F.gives l.now.below.now) l.now.r.now l.now.levels }
     requires facts { KnownFacts (defs_in l.now.r.now) at.now.ctx.now.0 }
     requires rule { IsRuleOf l.now.r.now.w.now (rule_in g.now) }
     requires fits { IsTrue (fits_mode mode (rule_in g.now)) }
     requires shown { Shows l.now.r.now.w.now at.now.ctx.now g.now.hyps [] found }
-    ensures is { IfOk result (λ o. got_any o run.new.left ≡ right (setting_of l.now.r.now) (inner_of l.now.r.now l.now.levels) mode (seen_at at.now) (subst_of found.pairs.0 g.now.rhs) run.old.left) }
+    ensures is { IfOk result (λ o. got_any o steps.new.left ≡ right (setting_of l.now.r.now) (inner_of l.now.r.now l.now.levels) mode (seen_at at.now) (subst_of found.pairs.0 g.now.rhs) steps.old.left) }
     ensures from { IfOk result (λ o. IfSome o (λ a. IfSome a (From l.now.r.now.w.now mode at.now.ctx.now (subst_of found.pairs.0 g.now.lhs)))) }
 {
     let first = applied(l.r, at.ctx, mode, g, found)?;
     if !is_small(first.rhs()) {
         return Ok(Some(None));
     }
-    let found = go_on(l, run, mode, at, first)?;
+    let found = go_on(l, steps, mode, at, first)?;
     Ok(answered(found))
 }
 
 /// A rule whose hypotheses are relieved, where it is in order, if that couldn't be told before.
-fn relieved<
-    O: TypeOracle,
-    F: Fn(&mut Run, Mode, &Place<'_>, &Term) -> Result<Option<Equiv>, NoMemory>,
->(
+fn relieved<O: TypeOracle, F: Below>(
     l: &Level<'_, '_, O, F>,
-    run: &mut Run,
+    steps: &mut Steps,
     mode: Mode,
     at: &Place<'_>,
     t: &Term,
     g: &RewriteRule,
     found: Reliefs,
 ) -> Result<Tried<Equiv>, NoMemory>
-    requires level { IsLevel (F.pre l.now.below.now) (F.post l.now.below.now) l.now.r.now l.now.levels }
+    requires level { IsLevel (F.may l.now.below.now) (F.gives l.now.below.now) l.now.r.now l.now.levels }
     requires facts { KnownFacts (defs_in l.now.r.now) at.now.ctx.now.0 }
     requires rule { IsRuleOf l.now.r.now.w.now (rule_in g.now) }
     requires fits { IsTrue (fits_mode mode (rule_in g.now)) }
     requires shown { Shows l.now.r.now.w.now at.now.ctx.now g.now.hyps [] found }
     requires instance { subst_of found.pairs.0 g.now.lhs ≡ t.now }
-    ensures is { IfOk result (λ o. got_any o run.new.left ≡ relieved (setting_of l.now.r.now) (inner_of l.now.r.now l.now.levels) mode (seen_at at.now) t.now (rule_in g.now) (Some found.pairs.0) run.old.left) }
+    ensures is { IfOk result (λ o. got_any o steps.new.left ≡ relieved (setting_of l.now.r.now) (inner_of l.now.r.now l.now.levels) mode (seen_at at.now) t.now (rule_in g.now) (Some found.pairs.0) steps.old.left) }
     ensures from { IfOk result (λ o. IfSome o (λ a. IfSome a (From l.now.r.now.w.now mode at.now.ctx.now t.now))) }
 {
     if !in_order_then(l.r.alloc, g, &found.pairs, t)? {
         return Ok(Some(None));
     }
-    right(l, run, mode, at, g, found)
+    right(l, steps, mode, at, g, found)
 }
 
 /// A rule whose left side matches, where it is in order and its hypotheses are relieved.
-fn apply<
-    O: TypeOracle,
-    F: Fn(&mut Run, Mode, &Place<'_>, &Term) -> Result<Option<Equiv>, NoMemory>,
->(
+fn apply<O: TypeOracle, F: Below>(
     l: &Level<'_, '_, O, F>,
-    run: &mut Run,
+    steps: &mut Steps,
     mode: Mode,
     at: &Place<'_>,
     t: &Term,
     g: &RewriteRule,
     s: Subst,
 ) -> Result<Tried<Equiv>, NoMemory>
-    requires level { IsLevel (F.pre l.now.below.now) (F.post l.now.below.now) l.now.r.now l.now.levels }
+    requires level { IsLevel (F.may l.now.below.now) (F.gives l.now.below.now) l.now.r.now l.now.levels }
     requires facts { KnownFacts (defs_in l.now.r.now) at.now.ctx.now.0 }
     requires term { IsTrue (known (defs_in l.now.r.now) t.now) }
     requires rule { IsRuleOf l.now.r.now.w.now (rule_in g.now) }
     requires fits { IsTrue (fits_mode mode (rule_in g.now)) }
     requires matched { matched g.now.lhs t.now [] ≡ Some s.0 }
-    ensures is { IfOk result (λ o. got_any o run.new.left ≡ apply (setting_of l.now.r.now) (inner_of l.now.r.now l.now.levels) mode (seen_at at.now) t.now (rule_in g.now) (Some s.0) run.old.left) }
+    ensures is { IfOk result (λ o. got_any o steps.new.left ≡ apply (setting_of l.now.r.now) (inner_of l.now.r.now l.now.levels) mode (seen_at at.now) t.now (rule_in g.now) (Some s.0) steps.old.left) }
     ensures from { IfOk result (λ o. IfSome o (λ a. IfSome a (From l.now.r.now.w.now mode at.now.ctx.now t.now))) }
 {
     if !in_order_first(l.r.alloc, g, &s, t)? {
         return Ok(Some(None));
     }
-    match relieve(l, run, at, g.hyps.as_slice(), s)? {
+    match relieve(l, steps, at, g.hyps.as_slice(), s)? {
         None => Ok(None),
         Some(None) => Ok(Some(None)),
-        Some(Some(found)) => relieved(l, run, mode, at, t, g, found),
+        Some(Some(found)) => relieved(l, steps, mode, at, t, g, found),
     }
 }
 
@@ -311,22 +290,19 @@ fn may_serve(theory: &Theory, mode: Mode, g: &RewriteRule) -> bool
 }
 
 /// A rule that the theory enables and that serves under the mode.
-fn try_rule<
-    O: TypeOracle,
-    F: Fn(&mut Run, Mode, &Place<'_>, &Term) -> Result<Option<Equiv>, NoMemory>,
->(
+fn try_rule<O: TypeOracle, F: Below>(
     l: &Level<'_, '_, O, F>,
-    run: &mut Run,
+    steps: &mut Steps,
     mode: Mode,
     at: &Place<'_>,
     t: &Term,
     g: &RewriteRule,
 ) -> Result<Tried<Equiv>, NoMemory>
-    requires level { IsLevel (F.pre l.now.below.now) (F.post l.now.below.now) l.now.r.now l.now.levels }
+    requires level { IsLevel (F.may l.now.below.now) (F.gives l.now.below.now) l.now.r.now l.now.levels }
     requires facts { KnownFacts (defs_in l.now.r.now) at.now.ctx.now.0 }
     requires term { IsTrue (known (defs_in l.now.r.now) t.now) }
     requires rule { IsRuleOf l.now.r.now.w.now (rule_in g.now) }
-    ensures is { IfOk result (λ o. got_any o run.new.left ≡ try_rule (setting_of l.now.r.now) (inner_of l.now.r.now l.now.levels) mode (seen_at at.now) t.now (rule_in g.now) run.old.left) }
+    ensures is { IfOk result (λ o. got_any o steps.new.left ≡ try_rule (setting_of l.now.r.now) (inner_of l.now.r.now l.now.levels) mode (seen_at at.now) t.now (rule_in g.now) steps.old.left) }
     ensures from { IfOk result (λ o. IfSome o (λ a. IfSome a (From l.now.r.now.w.now mode at.now.ctx.now t.now))) }
 {
     if !may_serve(l.r.theory, mode, g) {
@@ -335,31 +311,28 @@ fn try_rule<
     let start = Subst(Seq::new(l.r.alloc));
     match one_way_match(l.r.alloc, &g.lhs, t, &start)? {
         None => Ok(Some(None)),
-        Some(s) => apply(l, run, mode, at, t, g, s),
+        Some(s) => apply(l, steps, mode, at, t, g, s),
     }
 }
 
 /// The first of some rules that applies.
-fn each_rule<
-    O: TypeOracle,
-    F: Fn(&mut Run, Mode, &Place<'_>, &Term) -> Result<Option<Equiv>, NoMemory>,
->(
+fn each_rule<O: TypeOracle, F: Below>(
     l: &Level<'_, '_, O, F>,
-    run: &mut Run,
+    steps: &mut Steps,
     mode: Mode,
     at: &Place<'_>,
     t: &Term,
     gs: &[RewriteRule],
 ) -> Result<Tried<Equiv>, NoMemory>
-    requires level { IsLevel (F.pre l.now.below.now) (F.post l.now.below.now) l.now.r.now l.now.levels }
+    requires level { IsLevel (F.may l.now.below.now) (F.gives l.now.below.now) l.now.r.now l.now.levels }
     requires facts { KnownFacts (defs_in l.now.r.now) at.now.ctx.now.0 }
     requires term { IsTrue (known (defs_in l.now.r.now) t.now) }
     requires rules { Each (IsRuleOf l.now.r.now.w.now) (map rule_in gs.now) }
-    ensures is { IfOk result (λ o. got_any o run.new.left ≡ first_that (map (try_rule (setting_of l.now.r.now) (inner_of l.now.r.now l.now.levels) mode (seen_at at.now) t.now) (map rule_in gs.now)) run.old.left) }
+    ensures is { IfOk result (λ o. got_any o steps.new.left ≡ first_that (map (try_rule (setting_of l.now.r.now) (inner_of l.now.r.now l.now.levels) mode (seen_at at.now) t.now) (map rule_in gs.now)) steps.old.left) }
     ensures from { IfOk result (λ o. IfSome o (λ a. IfSome a (From l.now.r.now.w.now mode at.now.ctx.now t.now))) }
 {
     for g in gs {
-        match try_rule(l, run, mode, at, t, g)? {
+        match try_rule(l, steps, mode, at, t, g)? {
             None => return Ok(None),
             Some(Some(q)) => return Ok(Some(Some(q))),
             Some(None) => {}
@@ -369,23 +342,20 @@ fn each_rule<
 }
 
 /// The first rule that applies, from the newest on.
-pub fn by_rules<
-    O: TypeOracle,
-    F: Fn(&mut Run, Mode, &Place<'_>, &Term) -> Result<Option<Equiv>, NoMemory>,
->(
+pub fn by_rules<O: TypeOracle, F: Below>(
     l: &Level<'_, '_, O, F>,
-    run: &mut Run,
+    steps: &mut Steps,
     mode: Mode,
     at: &Place<'_>,
     t: &Term,
     f: &Symbol,
     us: &[Term],
 ) -> Result<Tried<Equiv>, NoMemory>
-    requires level { IsLevel (F.pre l.now.below.now) (F.post l.now.below.now) l.now.r.now l.now.levels }
+    requires level { IsLevel (F.may l.now.below.now) (F.gives l.now.below.now) l.now.r.now l.now.levels }
     requires facts { KnownFacts (defs_in l.now.r.now) at.now.ctx.now.0 }
     requires term { IsTrue (known (defs_in l.now.r.now) t.now) }
     requires call { t.now ≡ Call f.now us.now }
-    ensures is { IfOk result (λ o. got_any o run.new.left ≡ by_rules (setting_of l.now.r.now) (inner_of l.now.r.now l.now.levels) mode (seen_at at.now) t.now run.old.left) }
+    ensures is { IfOk result (λ o. got_any o steps.new.left ≡ by_rules (setting_of l.now.r.now) (inner_of l.now.r.now l.now.levels) mode (seen_at at.now) t.now steps.old.left) }
     ensures from { IfOk result (λ o. IfSome o (λ a. IfSome a (From l.now.r.now.w.now mode at.now.ctx.now t.now))) }
 {
     search_by_head();
@@ -394,5 +364,5 @@ pub fn by_rules<
     l.r.w.recall_sound();
     l.r.w.recall_distinct_names();
     let gs = by_head(l.r.rules, f);
-    each_rule(l, run, mode, at, t, gs)
+    each_rule(l, steps, mode, at, t, gs)
 }

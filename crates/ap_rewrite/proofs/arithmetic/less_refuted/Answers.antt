@@ -17,7 +17,7 @@ refuted-requires-clause-comparison g c = subst (λ (u : Term). is_comparison u �
 
 pub returns-clause-is : goal.returns-clause-is
 returns-clause-is g c =
-    subst (λ (u : Term). got_if c.in_ok-found.found c.refuted.new.run.left ≡ refuted (setting_of c.args.l.now.r.now) (inner_of c.args.l.now.r.now c.args.l.now.levels) (seen_at c.args.at.now) u true c.args.run.now.left)
+    subst (λ (u : Term). got_if c.in_ok-found.found c.refuted.new.steps.left ≡ refuted (setting_of c.args.l.now.r.now) (inner_of c.args.l.now.r.now c.args.l.now.levels) (seen_at c.args.at.now) u true c.args.steps.now.left)
     c.in_ok-less.ensures c.in_ok-found.ensures.is
 
 pub returns-clause-refutes : goal.returns-clause-refutes

@@ -10,9 +10,9 @@ use Rattle.ap_rewrite.proofs.arithmetic.refuted.Goals as goal
 
 pub returns-in_default-clause-is : goal.returns-in_default-clause-is
 returns-in_default-clause-is g c =
-    refuted_out c.args.l.now.r.now.w.now c.args.l.now.r.now.theory.now c.args.l.now.r.now.expand.now (inner_of c.args.l.now.r.now c.args.l.now.levels) (seen_at c.args.at.now) c.args.t.now c.args.sign c.args.run.now.left
+    refuted_out c.args.l.now.r.now.w.now c.args.l.now.r.now.theory.now c.args.l.now.r.now.expand.now (inner_of c.args.l.now.r.now c.args.l.now.levels) (seen_at c.args.at.now) c.args.t.now c.args.sign c.args.steps.now.left
     ((rw c.in_default.is at c.in_ok-all.ensures)
-    ∙ listed c.args.l.now.r.now.w.now c.args.l.now.r.now.theory.now c.args.l.now.r.now.expand.now (inner_of c.args.l.now.r.now c.args.l.now.levels) (seen_at c.args.at.now) c.args.t.now c.args.sign c.args.run.now.left
+    ∙ listed c.args.l.now.r.now.w.now c.args.l.now.r.now.theory.now c.args.l.now.r.now.expand.now (inner_of c.args.l.now.r.now c.args.l.now.levels) (seen_at c.args.at.now) c.args.t.now c.args.sign c.args.steps.now.left
     c.args.l.now.r.now.rules.now.linear _ _ c.in_ok-polys.field-0.polys c.requires.level.ready.index.linear
     (c.as_slice-3.ensures ∙ c.in_ok-polys.ensures.atoms)
     (c.in_ok-polys.ensures.polys ∙ ap (λ (xs : List Term). given (setting_of c.args.l.now.r.now) c.args.at.now.ctx.now.0 c.args.t.now c.args.sign ++ bounds (setting_of c.args.l.now.r.now) c.args.at.now.ctx.now.0 xs) (sym c.as_slice-3.ensures))
@@ -22,9 +22,9 @@ pub refute-requires-clause-polys : goal.refute-requires-clause-polys
 refute-requires-clause-polys g c =
     all_listed c.args.l.now.r.now.w.now c.args.l.now.r.now.theory.now c.args.l.now.r.now.expand.now c.recall_sound.ensures c.requires.level.ready.ground c.recall_distinct_names.ensures
     (c.arithmetic_is_sound.ensures.world c.args.l.now.r.now.w.now c.args.l.now.r.now.theory.now c.recall_sound.ensures c.requires.level.ready.ground)
-    c.args.l.now.levels (seen_at c.args.at.now) c.args.at.now.ctx.now refl c.requires.facts c.args.t.now c.args.sign c.requires.term c.args.run.now.left c.in-Some.all c.used_each.new.run.left
+    c.args.l.now.levels (seen_at c.args.at.now) c.args.at.now.ctx.now refl c.requires.facts c.args.t.now c.args.sign c.requires.term c.args.steps.now.left c.in-Some.all c.used_each.new.steps.left
     (sym ((rw c.in-Some.is at c.in_ok-all.ensures)
-    ∙ listed c.args.l.now.r.now.w.now c.args.l.now.r.now.theory.now c.args.l.now.r.now.expand.now (inner_of c.args.l.now.r.now c.args.l.now.levels) (seen_at c.args.at.now) c.args.t.now c.args.sign c.args.run.now.left
+    ∙ listed c.args.l.now.r.now.w.now c.args.l.now.r.now.theory.now c.args.l.now.r.now.expand.now (inner_of c.args.l.now.r.now c.args.l.now.levels) (seen_at c.args.at.now) c.args.t.now c.args.sign c.args.steps.now.left
     c.args.l.now.r.now.rules.now.linear _ _ c.in_ok-polys.field-0.polys c.requires.level.ready.index.linear
     (c.as_slice-3.ensures ∙ c.in_ok-polys.ensures.atoms)
     (c.in_ok-polys.ensures.polys ∙ ap (λ (xs : List Term). given (setting_of c.args.l.now.r.now) c.args.at.now.ctx.now.0 c.args.t.now c.args.sign ++ bounds (setting_of c.args.l.now.r.now) c.args.at.now.ctx.now.0 xs) (sym c.as_slice-3.ensures))
@@ -32,10 +32,10 @@ refute-requires-clause-polys g c =
 
 pub returns-clause-is : goal.returns-clause-is
 returns-clause-is g c =
-    refuted_found c.args.l.now.r.now.w.now c.args.l.now.r.now.theory.now c.args.l.now.r.now.expand.now (inner_of c.args.l.now.r.now c.args.l.now.levels) (seen_at c.args.at.now) c.args.t.now c.args.sign c.args.run.now.left
-    c.in-Some.all c.used_each.new.run.left c.in_ok-found.found c.args.at.now.ctx.now
+    refuted_found c.args.l.now.r.now.w.now c.args.l.now.r.now.theory.now c.args.l.now.r.now.expand.now (inner_of c.args.l.now.r.now c.args.l.now.levels) (seen_at c.args.at.now) c.args.t.now c.args.sign c.args.steps.now.left
+    c.in-Some.all c.used_each.new.steps.left c.in_ok-found.found c.args.at.now.ctx.now
     ((rw c.in-Some.is at c.in_ok-all.ensures)
-    ∙ listed c.args.l.now.r.now.w.now c.args.l.now.r.now.theory.now c.args.l.now.r.now.expand.now (inner_of c.args.l.now.r.now c.args.l.now.levels) (seen_at c.args.at.now) c.args.t.now c.args.sign c.args.run.now.left
+    ∙ listed c.args.l.now.r.now.w.now c.args.l.now.r.now.theory.now c.args.l.now.r.now.expand.now (inner_of c.args.l.now.r.now c.args.l.now.levels) (seen_at c.args.at.now) c.args.t.now c.args.sign c.args.steps.now.left
     c.args.l.now.r.now.rules.now.linear _ _ c.in_ok-polys.field-0.polys c.requires.level.ready.index.linear
     (c.as_slice-3.ensures ∙ c.in_ok-polys.ensures.atoms)
     (c.in_ok-polys.ensures.polys ∙ ap (λ (xs : List Term). given (setting_of c.args.l.now.r.now) c.args.at.now.ctx.now.0 c.args.t.now c.args.sign ++ bounds (setting_of c.args.l.now.r.now) c.args.at.now.ctx.now.0 xs) (sym c.as_slice-3.ensures))

@@ -14,13 +14,13 @@ choose-requires-clause-sign g c = ap truth_of (sym c.rhs.ensures) ∙ sym c.in-S
 pub returns-in-None-clause-is : goal.returns-in-None-clause-is
 returns-in-None-clause-is g c =
     let open_test : truth_of c.args.test.says.rhs ≡ None = ap truth_of (sym c.rhs.ensures) ∙ sym c.in-None.ensures in
-    subst (λ n. IfOk c.both.result (λ o. got o c.both.new.run.left ≡ n))
+    subst (λ n. IfOk c.both.result (λ o. got o c.both.new.steps.left ≡ n))
     (branches_open (setting_of c.args.l.now.r.now) (inner_of c.args.l.now.r.now c.args.l.now.levels) c.args.mode (seen_at c.args.at.now) _ _ _ _ _ open_test) c.both.ensures.is
 
 pub returns-in_ok-first-in-Some-clause-is : goal.returns-in_ok-first-in-Some-clause-is
 returns-in_ok-first-in-Some-clause-is g c =
     let sign : truth_of c.args.test.says.rhs ≡ Some c.in-Some.sign = ap truth_of (sym c.rhs.ensures) ∙ sym c.in-Some.ensures in
-    subst (λ n. IfOk c.go_on.result (λ o. got o c.go_on.new.run.left ≡ n))
+    subst (λ n. IfOk c.go_on.result (λ o. got o c.go_on.new.steps.left ≡ n))
     (branches_chosen (setting_of c.args.l.now.r.now) (inner_of c.args.l.now.r.now c.args.l.now.levels) c.args.mode (seen_at c.args.at.now) _ _ _ _ _ _ _ sign c.in_ok-first-in-Some.ensures.is) c.go_on.ensures.is
 
 pub returns-in_ok-first-in-Some-clause-from : goal.returns-in_ok-first-in-Some-clause-from

@@ -20,7 +20,7 @@ returns-in_default-clause-is g c =
 
 pub returns-clause-is : goal.returns-clause-is
 returns-clause-is g c =
-    subst (λ n. IfOk c.branches.result (λ o. got o c.branches.new.run.left ≡ n))
+    subst (λ n. IfOk c.branches.result (λ o. got o c.branches.new.steps.left ≡ n))
     (if_goes (setting_of c.args.l.now.r.now) (inner_of c.args.l.now.r.now c.args.l.now.levels) c.args.mode (seen_at c.args.at.now) _ _ _ _ _ _ (rw c.in-Some.is at c.in_ok-test.ensures.is))
     c.branches.ensures.is
 

@@ -7,7 +7,7 @@ use Rattle.ap_rewrite.proofs.engines.equate.Goals as goal
 
 pub returns-in-None-clause-is : goal.returns-in-None-clause-is
 returns-in-None-clause-is g c =
-    led_nowhere (setting_of c.args.l.now.r.now) (inner_of c.args.l.now.r.now c.args.l.now.levels) c.args.mode (seen_at c.args.at.now) _ c.args.run.now.left
+    led_nowhere (setting_of c.args.l.now.r.now) (inner_of c.args.l.now.r.now c.args.l.now.levels) c.args.mode (seen_at c.args.at.now) _ c.args.steps.now.left
     (rw c.in-None.is at c.in_ok-equates.ensures.is)
 
 pub lead-requires-clause-first : goal.lead-requires-clause-first
@@ -16,7 +16,7 @@ lead-requires-clause-first g c = from_own _ _ _ _ _ (rw c.in-Some.is at c.in_ok-
 pub returns-in-Some-clause-is : goal.returns-in-Some-clause-is
 returns-in-Some-clause-is g c =
     same_answer _ _ _ _
-    (ap (λ x. led (setting_of c.args.l.now.r.now) (inner_of c.args.l.now.r.now c.args.l.now.levels) c.args.mode (seen_at c.args.at.now) x c.args.run.now.left)
+    (ap (λ x. led (setting_of c.args.l.now.r.now) (inner_of c.args.l.now.r.now c.args.l.now.levels) c.args.mode (seen_at c.args.at.now) x c.args.steps.now.left)
     (rw c.in-Some.is at c.in_ok-equates.ensures.is))
     c.lead.ensures.is
 

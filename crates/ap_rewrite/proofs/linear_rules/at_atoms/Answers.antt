@@ -16,7 +16,7 @@ at_atom-requires-clause-atom g c =
 
 pub loop-x-preserved : goal.loop-x-preserved
 loop-x-preserved g c =
-    atom_next (setting_of c.args.l.now.r.now) (inner_of c.args.l.now.r.now c.args.l.now.levels) (seen_at c.args.at.now) c.args.g.now _ _ _ _ _ _ c.at_atom.new.run.left (from_place c.args.atoms.now c.loop-x.x-index c.x-item.result (omega arith) c.x-item.is) c.loop-x.invariant (sym c.is_full.ensures ∙ c.if-is_full.false) c.in-Some.more
+    atom_next (setting_of c.args.l.now.r.now) (inner_of c.args.l.now.r.now c.args.l.now.levels) (seen_at c.args.at.now) c.args.g.now _ _ _ _ _ _ c.at_atom.new.steps.left (from_place c.args.atoms.now c.loop-x.x-index c.x-item.result (omega arith) c.x-item.is) c.loop-x.invariant (sym c.is_full.ensures ∙ c.if-is_full.false) c.in-Some.more
     (rw c.in-Some.is at c.in_ok-more.ensures)
 
 pub returns-then-is_full : goal.returns-then-is_full

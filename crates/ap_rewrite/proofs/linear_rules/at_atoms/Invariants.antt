@@ -5,4 +5,4 @@ use Rattle.ap_rewrite.proofs.linear_rules.at_atoms.Given as goal
 
 -- the atoms that are left give what all of them give
 abbrev pub invariant-loop-x : goal.invariant-loop-x
-invariant-loop-x g l = at_atoms (setting_of l.l.r.now) (inner_of l.l.r.now l.l.levels) (seen_at l.at) l.g (drop l.x-index l.atoms) l.all l.run.left ≡ at_atoms (setting_of l.l.r.now) (inner_of l.l.r.now l.l.levels) (seen_at l.at) l.g l.atoms l.fn.polys l.fn.run.left
+invariant-loop-x g l = at_atoms (setting_of l.l.r.now) (inner_of l.l.r.now l.l.levels) (seen_at l.at) l.g (drop l.x-index l.atoms) l.all l.steps.left ≡ at_atoms (setting_of l.l.r.now) (inner_of l.l.r.now l.l.levels) (seen_at l.at) l.g l.atoms l.fn.polys l.fn.steps.left

@@ -12,13 +12,13 @@ relieve-requires-clause-hyps g c = subst (Each (λ (h : Term). IsTrue (known (de
 
 pub returns-in-None : goal.returns-in-None
 returns-in-None g c =
-    match_out (setting_of c.args.l.now.r.now) (inner_of c.args.l.now.r.now c.args.l.now.levels) (seen_at c.args.at.now) c.args.g.now c.args.polys c.args.s.0 c.args.run.now.left c.relieve.new.run.left
+    match_out (setting_of c.args.l.now.r.now) (inner_of c.args.l.now.r.now c.args.l.now.levels) (seen_at c.args.at.now) c.args.g.now c.args.polys c.args.s.0 c.args.steps.now.left c.relieve.new.steps.left
     ((rw c.in-None.is at c.in_ok-relieve.ensures.is)
-    ∙ ap (λ (hs : List Term). relieve (inner_of c.args.l.now.r.now c.args.l.now.levels) (seen_at c.args.at.now) hs c.args.s.0 c.args.run.now.left) c.as_slice.ensures)
+    ∙ ap (λ (hs : List Term). relieve (inner_of c.args.l.now.r.now c.args.l.now.levels) (seen_at c.args.at.now) hs c.args.s.0 c.args.steps.now.left) c.as_slice.ensures)
 
 pub returns-in-Some-None : goal.returns-in-Some-None
 returns-in-Some-None g c =
     let there : c.in_ok-relieve.field-0 ≡ Some None = c.in-Some-None.is ∙ ap Some c.in-Some-None.field-0-is in
-    match_none (setting_of c.args.l.now.r.now) (inner_of c.args.l.now.r.now c.args.l.now.levels) (seen_at c.args.at.now) c.args.g.now c.args.polys c.args.s.0 c.args.run.now.left c.relieve.new.run.left
+    match_none (setting_of c.args.l.now.r.now) (inner_of c.args.l.now.r.now c.args.l.now.levels) (seen_at c.args.at.now) c.args.g.now c.args.polys c.args.s.0 c.args.steps.now.left c.relieve.new.steps.left
     ((rw there at c.in_ok-relieve.ensures.is)
-    ∙ ap (λ (hs : List Term). relieve (inner_of c.args.l.now.r.now c.args.l.now.levels) (seen_at c.args.at.now) hs c.args.s.0 c.args.run.now.left) c.as_slice.ensures)
+    ∙ ap (λ (hs : List Term). relieve (inner_of c.args.l.now.r.now c.args.l.now.levels) (seen_at c.args.at.now) hs c.args.s.0 c.args.steps.now.left) c.as_slice.ensures)

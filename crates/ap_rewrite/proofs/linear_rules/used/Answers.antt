@@ -10,5 +10,5 @@ returns-then-not-usable g c = passed _ _ _ _ (sym c.is_enabled-usable.ensures �
 
 pub returns : goal.returns
 returns g c =
-    subst (λ (x : Got (List Polynomial)). IfOk c.at_atoms.result (λ o. got_polys o c.at_atoms.new.run.left ≡ x)) (taken _ _ _ _ (sym c.is_enabled-usable.ensures ∙ c.if-not-usable.false) refl)
+    subst (λ (x : Got (List Polynomial)). IfOk c.at_atoms.result (λ o. got_polys o c.at_atoms.new.steps.left ≡ x)) (taken _ _ _ _ (sym c.is_enabled-usable.ensures ∙ c.if-not-usable.false) refl)
     c.at_atoms.ensures

@@ -16,7 +16,7 @@ walk_past-requires-clause-choice g c = made_choice _ _ _ _ _ c.in_ok-first.ensur
 
 pub returns-clause-is : goal.returns-clause-is
 returns-clause-is g c =
-    closed_steps (setting_of c.args.l.now.r.now) (inner_of c.args.l.now.r.now c.args.l.now.levels) c.args.mode (seen_at c.args.at.now) c.args.f.now c.as_slice.result.now (defs_in c.args.l.now.r.now) c.args.t.now c.in_ok-first.first.says.rhs c.args.test.says.lhs c.args.test.says.rhs c.args.run.now.left _ _
+    closed_steps (setting_of c.args.l.now.r.now) (inner_of c.args.l.now.r.now c.args.l.now.levels) c.args.mode (seen_at c.args.at.now) c.args.f.now c.as_slice.result.now (defs_in c.args.l.now.r.now) c.args.t.now c.in_ok-first.first.says.rhs c.args.test.says.lhs c.args.test.says.rhs c.args.steps.now.left _ _
     (c.as_slice.ensures ∙ c.in_ok-closed.ensures) c.in_ok-first.ensures.is
     c.walk_past.ensures.is
 

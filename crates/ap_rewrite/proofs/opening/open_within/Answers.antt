@@ -19,7 +19,7 @@ go_on-requires-clause-first g c = from_there _ _ _ _ _ _ (sym c.requires.inner) 
 pub returns-then-is_term_among-clause-is : goal.returns-then-is_term_among-clause-is
 returns-then-is_term_among-clause-is g c =
     answered_is _ _ _ _ c.answered.ensures c.in_ok-found.ensures.is
-    ∙ opened_whole (setting_of c.args.l.now.r.now) (inner_of c.args.l.now.r.now c.args.l.now.levels) c.args.mode (seen_at c.args.at.now) (seen_at c.args.inner.now) c.args.first.says.lhs c.args.first.says.rhs c.args.run.now.left
+    ∙ opened_whole (setting_of c.args.l.now.r.now) (inner_of c.args.l.now.r.now c.args.l.now.levels) c.args.mode (seen_at c.args.at.now) (seen_at c.args.inner.now) c.args.first.says.lhs c.args.first.says.rhs c.args.steps.now.left
     (ap (λ (u : Term). is_among term_eq u c.args.l.now.r.now.expand.now) (sym c.lhs.ensures) ∙ ap (λ (us : List Term). is_among term_eq c.lhs.result.now us) (sym c.as_slice.ensures) ∙ sym c.is_term_among.ensures ∙ c.if-is_term_among.true)
 
 pub returns-then-is_term_among-clause-from : goal.returns-then-is_term_among-clause-from
@@ -29,6 +29,6 @@ returns-then-is_term_among-clause-from g c =
 pub returns-clause-is : goal.returns-clause-is
 returns-clause-is g c =
     same_answer _ _ _ _
-    (walked_down (setting_of c.args.l.now.r.now) (inner_of c.args.l.now.r.now c.args.l.now.levels) c.args.mode (seen_at c.args.at.now) (seen_at c.args.inner.now) c.args.first.says.lhs c.args.first.says.rhs c.args.run.now.left
+    (walked_down (setting_of c.args.l.now.r.now) (inner_of c.args.l.now.r.now c.args.l.now.levels) c.args.mode (seen_at c.args.at.now) (seen_at c.args.inner.now) c.args.first.says.lhs c.args.first.says.rhs c.args.steps.now.left
     (ap (λ (u : Term). is_among term_eq u c.args.l.now.r.now.expand.now) (sym c.lhs.ensures) ∙ ap (λ (us : List Term). is_among term_eq c.lhs.result.now us) (sym c.as_slice.ensures) ∙ sym c.is_term_among.ensures ∙ c.if-is_term_among.false))
     c.walk.ensures.is

@@ -10,7 +10,7 @@ deeper-requires-clause-term g c = part_known (defs_in c.args.l.now.r.now) _ _ _ 
 
 pub returns-clause-is : goal.returns-clause-is
 returns-clause-is g c =
-    subst (λ (u : Term). got c.in_ok-found.found c.deeper.new.run.left ≡ inner_of c.args.l.now.r.now c.args.l.now.levels Iff (seen_at c.args.at.now) u c.args.run.now.left)
+    subst (λ (u : Term). got c.in_ok-found.found c.deeper.new.steps.left ≡ inner_of c.args.l.now.r.now c.args.l.now.levels Iff (seen_at c.args.at.now) u c.args.steps.now.left)
     c.in_ok-instance.ensures c.in_ok-found.ensures.is
 
 pub returns-clause-from : goal.returns-clause-from

@@ -3,17 +3,17 @@ use Rattle.ap_rewrite.specs.Answering.{setting_of, seen_at}
 use Rattle.ap_rewrite.proofs.Levels.{no_step, no_level, level_is}
 use Rattle.ap_rewrite.proofs.rewriting.+rewriting.Goals as goal
 
-pub returns-then-run-eq0-clause-is : goal.returns-then-run-eq0-clause-is
-returns-then-run-eq0-clause-is g t c =
-    no_step (setting_of c.args.r.now) c.args.levels c.args.mode (seen_at c.args.at.now) c.args.t.now c.args.run.now.left (search rules)
+pub returns-then-steps-eq0-clause-is : goal.returns-then-steps-eq0-clause-is
+returns-then-steps-eq0-clause-is g t c =
+    no_step (setting_of c.args.r.now) c.args.levels c.args.mode (seen_at c.args.at.now) c.args.t.now c.args.steps.now.left (search rules)
 
 pub returns-then-levels-eq0-clause-is : goal.returns-then-levels-eq0-clause-is
 returns-then-levels-eq0-clause-is g t c =
-    rw c.in_ok-q.ensures.is (no_level (setting_of c.args.r.now) c.args.levels c.args.mode (seen_at c.args.at.now) c.args.t.now c.args.run.now.left (search rules) (search rules))
+    rw c.in_ok-q.ensures.is (no_level (setting_of c.args.r.now) c.args.levels c.args.mode (seen_at c.args.at.now) c.args.t.now c.args.steps.now.left (search rules) (search rules))
 
 pub returns-clause-is : goal.returns-clause-is
 returns-clause-is g t c =
-    rw (level_is (setting_of c.args.r.now) c.args.levels c.args.mode (seen_at c.args.at.now) c.args.t.now c.args.run.now.left (search rules) (search rules)) c.rewrite_shape.ensures.is
+    rw (level_is (setting_of c.args.r.now) c.args.levels c.args.mode (seen_at c.args.at.now) c.args.t.now c.args.steps.now.left (search rules) (search rules)) c.rewrite_shape.ensures.is
 
 -- the level below is this one with one level less
 pub rewrite_shape-requires-clause-level : goal.rewrite_shape-requires-clause-level

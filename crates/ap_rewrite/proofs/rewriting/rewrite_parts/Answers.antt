@@ -7,11 +7,11 @@ use Rattle.ap_rewrite.proofs.rewriting.rewrite_parts.Goals as goal
 
 pub returns-in_ok-q-in-Var-clause-is : goal.returns-in_ok-q-in-Var-clause-is
 returns-in_ok-q-in-Var-clause-is g c =
-    var_is (setting_of c.args.l.now.r.now) (inner_of c.args.l.now.r.now c.args.l.now.levels) c.args.mode (seen_at c.args.at.now) c.args.t.now c.args.run.now.left _ _ c.in-Var.is c.in_ok-q-in-Var.ensures.is
+    var_is (setting_of c.args.l.now.r.now) (inner_of c.args.l.now.r.now c.args.l.now.levels) c.args.mode (seen_at c.args.at.now) c.args.t.now c.args.steps.now.left _ _ c.in-Var.is c.in_ok-q-in-Var.ensures.is
 
 pub returns-in_ok-q-in-Quote-clause-is : goal.returns-in_ok-q-in-Quote-clause-is
 returns-in_ok-q-in-Quote-clause-is g c =
-    quote_is (setting_of c.args.l.now.r.now) (inner_of c.args.l.now.r.now c.args.l.now.levels) c.args.mode (seen_at c.args.at.now) c.args.t.now c.args.run.now.left _ _ c.in-Quote.is c.in_ok-q-in-Quote.ensures.is
+    quote_is (setting_of c.args.l.now.r.now) (inner_of c.args.l.now.r.now c.args.l.now.levels) c.args.mode (seen_at c.args.at.now) c.args.t.now c.args.steps.now.left _ _ c.in-Quote.is c.in_ok-q-in-Quote.ensures.is
 
 pub rewrite_call-requires-clause-term : goal.rewrite_call-requires-clause-term
 rewrite_call-requires-clause-term g c = c.in-Call.is ∙ ap (λ (us : List Term). Call c.in-Call.f us) (sym c.as_slice.ensures)
@@ -22,7 +22,7 @@ rewrite_call-requires-clause-call g c = subst (λ (u : Term). known (defs_in c.a
 pub returns-in-Call-clause-is : goal.returns-in-Call-clause-is
 returns-in-Call-clause-is g c =
     same_got _ _ _ _
-    (call_is (setting_of c.args.l.now.r.now) (inner_of c.args.l.now.r.now c.args.l.now.levels) c.args.mode (seen_at c.args.at.now) c.args.t.now c.args.run.now.left _ _
+    (call_is (setting_of c.args.l.now.r.now) (inner_of c.args.l.now.r.now c.args.l.now.levels) c.args.mode (seen_at c.args.at.now) c.args.t.now c.args.steps.now.left _ _
     (c.in-Call.is ∙ ap (λ (us : List Term). Call c.in-Call.f us) (sym c.as_slice.ensures)))
     c.rewrite_call.ensures.is
 

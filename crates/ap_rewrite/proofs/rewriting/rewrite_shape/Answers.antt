@@ -52,17 +52,17 @@ returns-in-Not-clause-from g c =
 pub returns-in-If-clause-is : goal.returns-in-If-clause-is
 returns-in-If-clause-is g c =
     same_got _ _ _ _
-    (ap (λ (y : Shape Term). rewrite_shape (setting_of c.args.l.now.r.now) (inner_of c.args.l.now.r.now c.args.l.now.levels) c.args.mode (seen_at c.args.at.now) c.args.t.now y c.args.run.now.left) c.in-If.ensures)
+    (ap (λ (y : Shape Term). rewrite_shape (setting_of c.args.l.now.r.now) (inner_of c.args.l.now.r.now c.args.l.now.levels) c.args.mode (seen_at c.args.at.now) c.args.t.now y c.args.steps.now.left) c.in-If.ensures)
     c.rewrite_if.ensures.is
 
 pub returns-in-Not-clause-is : goal.returns-in-Not-clause-is
 returns-in-Not-clause-is g c =
     same_got _ _ _ _
-    (ap (λ (y : Shape Term). rewrite_shape (setting_of c.args.l.now.r.now) (inner_of c.args.l.now.r.now c.args.l.now.levels) c.args.mode (seen_at c.args.at.now) c.args.t.now y c.args.run.now.left) c.in-Not.ensures)
+    (ap (λ (y : Shape Term). rewrite_shape (setting_of c.args.l.now.r.now) (inner_of c.args.l.now.r.now c.args.l.now.levels) c.args.mode (seen_at c.args.at.now) c.args.t.now y c.args.steps.now.left) c.in-Not.ensures)
     c.rewrite_not.ensures.is
 
 pub returns-in_default-clause-is : goal.returns-in_default-clause-is
 returns-in_default-clause-is g c =
     same_got _ _ _ _
-    (parts_at (setting_of c.args.l.now.r.now) (inner_of c.args.l.now.r.now c.args.l.now.levels) c.args.mode (seen_at c.args.at.now) c.args.t.now c.shape_of.result c.args.run.now.left c.shape_of.ensures c.in_default.not-If c.in_default.not-Not)
+    (parts_at (setting_of c.args.l.now.r.now) (inner_of c.args.l.now.r.now c.args.l.now.levels) c.args.mode (seen_at c.args.at.now) c.args.t.now c.shape_of.result c.args.steps.now.left c.shape_of.ensures c.in_default.not-If c.in_default.not-Not)
     c.rewrite_parts.ensures.is

@@ -35,20 +35,20 @@ pub returns-in-None-clause-is : goal.returns-in-None-clause-is
 returns-in-None-clause-is g c =
     taken _ _ _ _ (sym c.in_ok-in_order_first.ensures ∙ c.if-not-branch.false)
     (after_out _ _ ((rw c.in-None.is at c.in_ok-relieve.ensures.is)
-    ∙ ap (λ (hs : List Term). relieve (inner_of c.args.l.now.r.now c.args.l.now.levels) (seen_at c.args.at.now) hs c.args.s.0 c.args.run.now.left) c.as_slice.ensures))
+    ∙ ap (λ (hs : List Term). relieve (inner_of c.args.l.now.r.now c.args.l.now.levels) (seen_at c.args.at.now) hs c.args.s.0 c.args.steps.now.left) c.as_slice.ensures))
 
 pub returns-in-Some-None-clause-is : goal.returns-in-Some-None-clause-is
 returns-in-Some-None-clause-is g c =
     let there : c.in_ok-relieve.field-0 ≡ Some None = c.in-Some-None.is ∙ ap Some c.in-Some-None.field-0-is in
     taken _ _ _ _ (sym c.in_ok-in_order_first.ensures ∙ c.if-not-branch.false)
-    (after_some _ _ None c.relieve.new.run.left _ ((rw there at c.in_ok-relieve.ensures.is)
-    ∙ ap (λ (hs : List Term). relieve (inner_of c.args.l.now.r.now c.args.l.now.levels) (seen_at c.args.at.now) hs c.args.s.0 c.args.run.now.left) c.as_slice.ensures) refl)
+    (after_some _ _ None c.relieve.new.steps.left _ ((rw there at c.in_ok-relieve.ensures.is)
+    ∙ ap (λ (hs : List Term). relieve (inner_of c.args.l.now.r.now c.args.l.now.levels) (seen_at c.args.at.now) hs c.args.s.0 c.args.steps.now.left) c.as_slice.ensures) refl)
 
 pub returns-in-Some-Some-clause-is : goal.returns-in-Some-Some-clause-is
 returns-in-Some-Some-clause-is g c =
     let there : c.in_ok-relieve.field-0 ≡ Some (Some c.in-Some-Some.found) = c.in-Some-Some.is ∙ ap Some c.in-Some-Some.field-0-is in
-    subst (λ (x : Got (Option Term)). IfOk c.relieved.result (λ o. got_any o c.relieved.new.run.left ≡ x))
+    subst (λ (x : Got (Option Term)). IfOk c.relieved.result (λ o. got_any o c.relieved.new.steps.left ≡ x))
     (taken _ _ _ _ (sym c.in_ok-in_order_first.ensures ∙ c.if-not-branch.false)
-    (after_some _ _ (Some c.in-Some-Some.found.pairs.0) c.relieve.new.run.left _ ((rw there at c.in_ok-relieve.ensures.is)
-    ∙ ap (λ (hs : List Term). relieve (inner_of c.args.l.now.r.now c.args.l.now.levels) (seen_at c.args.at.now) hs c.args.s.0 c.args.run.now.left) c.as_slice.ensures) refl))
+    (after_some _ _ (Some c.in-Some-Some.found.pairs.0) c.relieve.new.steps.left _ ((rw there at c.in_ok-relieve.ensures.is)
+    ∙ ap (λ (hs : List Term). relieve (inner_of c.args.l.now.r.now c.args.l.now.levels) (seen_at c.args.at.now) hs c.args.s.0 c.args.steps.now.left) c.as_slice.ensures) refl))
     c.relieved.ensures.is

@@ -4,7 +4,7 @@ use Rattle.ap_rewrite.proofs.rules.by_rewriting.Goals as goal
 
 pub returns-in_default-clause-is : goal.returns-in_default-clause-is
 returns-in_default-clause-is g c =
-    relieving_out (inner_of c.args.l.now.r.now c.args.l.now.levels) (seen_at c.args.at.now) c.args.h.now c.args.s.0 c.args.run.now.left c.requires.bound (rw c.in_default.is at c.in_ok-q.ensures.is)
+    relieving_out (inner_of c.args.l.now.r.now c.args.l.now.levels) (seen_at c.args.at.now) c.args.h.now c.args.s.0 c.args.steps.now.left c.requires.bound (rw c.in_default.is at c.in_ok-q.ensures.is)
 
 pub where_true-requires-clause-stands : goal.where_true-requires-clause-stands
 where_true-requires-clause-stands g c = let f = rw c.in-Some.is at c.in_ok-q.ensures.from in f.stands
@@ -14,7 +14,7 @@ where_true-requires-clause-mode g c = let f = rw c.in-Some.is at c.in_ok-q.ensur
 
 pub returns-clause-is : goal.returns-clause-is
 returns-clause-is g c =
-    relieved_by (inner_of c.args.l.now.r.now c.args.l.now.levels) (seen_at c.args.at.now) c.args.h.now c.in-Some.q.says.rhs c.args.s.0 c.args.run.now.left c.rewrite_instance.new.run.left c.in_ok-found.found
+    relieved_by (inner_of c.args.l.now.r.now c.args.l.now.levels) (seen_at c.args.at.now) c.args.h.now c.in-Some.q.says.rhs c.args.s.0 c.args.steps.now.left c.rewrite_instance.new.steps.left c.in_ok-found.found
     c.requires.bound (rw c.in-Some.is at c.in_ok-q.ensures.is) c.in_ok-found.ensures.is
 
 pub returns-clause-shown : goal.returns-clause-shown

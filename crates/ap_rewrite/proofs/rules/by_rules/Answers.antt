@@ -10,5 +10,5 @@ each_rule-requires-clause-rules g c =
 
 pub returns-clause-is : goal.returns-clause-is
 returns-clause-is g c =
-    rw (← by_index c.search_by_head.ensures (setting_of c.args.l.now.r.now) (inner_of c.args.l.now.r.now c.args.l.now.levels) c.args.mode (seen_at c.args.at.now) c.args.t.now c.args.f.now c.args.us.now c.args.run.now.left
+    rw (← by_index c.search_by_head.ensures (setting_of c.args.l.now.r.now) (inner_of c.args.l.now.r.now c.args.l.now.levels) c.args.mode (seen_at c.args.at.now) c.args.t.now c.args.f.now c.args.us.now c.args.steps.now.left
     _ c.requires.call (c.by_head-gs.ensures ∙ c.requires.level.ready.index.rewrites c.args.f.now)) c.each_rule.ensures.is

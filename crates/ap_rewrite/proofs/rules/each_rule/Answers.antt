@@ -16,20 +16,20 @@ pub loop-g-preserved : goal.loop-g-preserved
 loop-g-preserved g c =
     let there : c.in_ok-try_rule.field-0 ≡ Some None = c.in-Some-None.is ∙ ap Some c.in-Some-None.field-0-is in
     record {
-      is = search_next (try_rule (setting_of c.args.l.now.r.now) (inner_of c.args.l.now.r.now c.args.l.now.levels) c.args.mode (seen_at c.args.at.now) c.args.t.now) _ _ _ _ _ c.try_rule.new.run.left
+      is = search_next (try_rule (setting_of c.args.l.now.r.now) (inner_of c.args.l.now.r.now c.args.l.now.levels) c.args.mode (seen_at c.args.at.now) c.args.t.now) _ _ _ _ _ c.try_rule.new.steps.left
           (ap (map rule_in) (from_place c.args.gs.now c.loop-g.g-index c.g-item.result (omega arith) c.g-item.is)) c.loop-g.invariant.is (rw there at c.in_ok-try_rule.ensures.is);
       rules = (subst (Each (IsRuleOf c.args.l.now.r.now.w.now)) (ap (map rule_in) (from_place c.args.gs.now c.loop-g.g-index c.g-item.result (omega arith) c.g-item.is)) c.loop-g.invariant.rules).1;
     }
 
 pub returns-in-None-clause-is : goal.returns-in-None-clause-is
 returns-in-None-clause-is g c =
-    search_out (try_rule (setting_of c.args.l.now.r.now) (inner_of c.args.l.now.r.now c.args.l.now.levels) c.args.mode (seen_at c.args.at.now) c.args.t.now) _ _ _ _ _ c.try_rule.new.run.left
+    search_out (try_rule (setting_of c.args.l.now.r.now) (inner_of c.args.l.now.r.now c.args.l.now.levels) c.args.mode (seen_at c.args.at.now) c.args.t.now) _ _ _ _ _ c.try_rule.new.steps.left
     (ap (map rule_in) (from_place c.args.gs.now c.loop-g.g-index c.g-item.result (omega arith) c.g-item.is)) c.loop-g.invariant.is (rw c.in-None.is at c.in_ok-try_rule.ensures.is)
 
 pub returns-in-Some-Some-clause-is : goal.returns-in-Some-Some-clause-is
 returns-in-Some-Some-clause-is g c =
     let there : c.in_ok-try_rule.field-0 ≡ Some (Some c.in-Some-Some.q) = c.in-Some-Some.is ∙ ap Some c.in-Some-Some.field-0-is in
-    search_some (try_rule (setting_of c.args.l.now.r.now) (inner_of c.args.l.now.r.now c.args.l.now.levels) c.args.mode (seen_at c.args.at.now) c.args.t.now) _ _ _ _ _ c.try_rule.new.run.left
+    search_some (try_rule (setting_of c.args.l.now.r.now) (inner_of c.args.l.now.r.now c.args.l.now.levels) c.args.mode (seen_at c.args.at.now) c.args.t.now) _ _ _ _ _ c.try_rule.new.steps.left
     (ap (map rule_in) (from_place c.args.gs.now c.loop-g.g-index c.g-item.result (omega arith) c.g-item.is)) c.loop-g.invariant.is c.in-Some-Some.q.says.rhs (rw there at c.in_ok-try_rule.ensures.is)
 
 pub returns-clause-is : goal.returns-clause-is

@@ -9,7 +9,7 @@ use Rattle.ap_rewrite.proofs.rules.each_rule.Given as goal
 -- what is left to be tried gives what all of them give
 abbrev pub invariant-loop-g : goal.invariant-loop-g
 invariant-loop-g g l = record {
-  is : first_that (map (try_rule (setting_of l.l.r.now) (inner_of l.l.r.now l.l.levels) l.mode (seen_at l.at) l.t) (map rule_in l.gs)) l.fn.run.left
-      ≡ first_that (map (try_rule (setting_of l.l.r.now) (inner_of l.l.r.now l.l.levels) l.mode (seen_at l.at) l.t) (map rule_in (drop l.g-index l.gs))) l.run.left;
+  is : first_that (map (try_rule (setting_of l.l.r.now) (inner_of l.l.r.now l.l.levels) l.mode (seen_at l.at) l.t) (map rule_in l.gs)) l.fn.steps.left
+      ≡ first_that (map (try_rule (setting_of l.l.r.now) (inner_of l.l.r.now l.l.levels) l.mode (seen_at l.at) l.t) (map rule_in (drop l.g-index l.gs))) l.steps.left;
   rules : Each (IsRuleOf l.l.r.now.w.now) (map rule_in (drop l.g-index l.gs));
 }

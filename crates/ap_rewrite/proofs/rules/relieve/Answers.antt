@@ -20,7 +20,7 @@ relieve_one-requires-clause-hyp g c =
 pub loop-h-preserved : goal.loop-h-preserved
 loop-h-preserved g c =
     let there : c.in_ok-relieve_one.field-0 ≡ Some (Some c.in-Some-Some.found) = c.in-Some-Some.is ∙ ap Some c.in-Some-Some.field-0-is in
-    relief_done _ _ (inner_of c.args.l.now.r.now c.args.l.now.levels) (seen_at c.args.at.now) _ _ _ _ _ _ _ _ _ c.relieve_one.new.run.left
+    relief_done _ _ (inner_of c.args.l.now.r.now c.args.l.now.levels) (seen_at c.args.at.now) _ _ _ _ _ _ _ _ _ c.relieve_one.new.steps.left
     (from_place c.args.hs.now c.loop-h.h-index c.h-item.result (omega arith) c.h-item.is) c.loop-h.invariant c.in-Some-Some.found c.push.new.self (few_around c.args.at.now.chain c.if-at-ge10.false)
     (rw there at c.in_ok-relieve_one.ensures.is) (rw there at c.in_ok-relieve_one.ensures.shown) c.in_ok-push-in-Some-Some.ensures.ok
 
@@ -31,14 +31,14 @@ returns-then-at-ge10-clause-is g c =
 
 pub returns-in-None-clause-is : goal.returns-in-None-clause-is
 returns-in-None-clause-is g c =
-    relief_out _ _ (inner_of c.args.l.now.r.now c.args.l.now.levels) (seen_at c.args.at.now) _ _ _ _ _ _ _ _ _ c.relieve_one.new.run.left
+    relief_out _ _ (inner_of c.args.l.now.r.now c.args.l.now.levels) (seen_at c.args.at.now) _ _ _ _ _ _ _ _ _ c.relieve_one.new.steps.left
     (from_place c.args.hs.now c.loop-h.h-index c.h-item.result (omega arith) c.h-item.is) c.loop-h.invariant (few_around c.args.at.now.chain c.if-at-ge10.false)
     (rw c.in-None.is at c.in_ok-relieve_one.ensures.is)
 
 pub returns-in-Some-None-clause-is : goal.returns-in-Some-None-clause-is
 returns-in-Some-None-clause-is g c =
     let there : c.in_ok-relieve_one.field-0 ≡ Some None = c.in-Some-None.is ∙ ap Some c.in-Some-None.field-0-is in
-    relief_none _ _ (inner_of c.args.l.now.r.now c.args.l.now.levels) (seen_at c.args.at.now) _ _ _ _ _ _ _ _ _ c.relieve_one.new.run.left
+    relief_none _ _ (inner_of c.args.l.now.r.now c.args.l.now.levels) (seen_at c.args.at.now) _ _ _ _ _ _ _ _ _ c.relieve_one.new.steps.left
     (from_place c.args.hs.now c.loop-h.h-index c.h-item.result (omega arith) c.h-item.is) c.loop-h.invariant (few_around c.args.at.now.chain c.if-at-ge10.false)
     (rw there at c.in_ok-relieve_one.ensures.is)
 

@@ -7,6 +7,6 @@ use Rattle.ap_rewrite.proofs.rules.relieve.Given as goal
 -- what is left of the hypotheses, under the pairs so far, gives what all of them give
 abbrev pub invariant-loop-h : goal.invariant-loop-h
 invariant-loop-h g l = ReliefsDone l.l.r.now.w.now l.at.ctx.now
-    (relieve (inner_of l.l.r.now l.l.levels) (seen_at l.at) (drop l.h-index l.hs) l.pairs.0 l.run.left)
-    (relieve (inner_of l.l.r.now l.l.levels) (seen_at l.at) l.hs l.fn.s.0 l.fn.run.left)
+    (relieve (inner_of l.l.r.now l.l.levels) (seen_at l.at) (drop l.h-index l.hs) l.pairs.0 l.steps.left)
+    (relieve (inner_of l.l.r.now l.l.levels) (seen_at l.at) l.hs l.fn.s.0 l.fn.steps.left)
     (drop l.h-index l.hs) l.hs l.fn.s.0 l.pairs.0 l.shown

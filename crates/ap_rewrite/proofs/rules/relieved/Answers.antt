@@ -10,7 +10,7 @@ returns-then-not-branch-clause-is g c = passed _ _ _ _ (sym c.in_ok-in_order_the
 
 pub returns-clause-is : goal.returns-clause-is
 returns-clause-is g c =
-    subst (λ (x : Got (Option Term)). IfOk c.right.result (λ o. got_any o c.right.new.run.left ≡ x)) (taken _ _ _ _ (sym c.in_ok-in_order_then.ensures ∙ c.if-not-branch.false) refl)
+    subst (λ (x : Got (Option Term)). IfOk c.right.result (λ o. got_any o c.right.new.steps.left ≡ x)) (taken _ _ _ _ (sym c.in_ok-in_order_then.ensures ∙ c.if-not-branch.false) refl)
     c.right.ensures.is
 
 pub returns-clause-from : goal.returns-clause-from

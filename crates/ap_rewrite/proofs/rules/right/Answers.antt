@@ -18,10 +18,10 @@ returns-then-not-is_small-clause-is g c =
 pub returns-clause-is : goal.returns-clause-is
 returns-clause-is g c =
     taken _ _ _ _ (ap (λ (u : Term). nat_le (term_size u) most_nodes) (sym (c.rhs.ensures ∙ c.in_ok-first.ensures.is)) ∙ sym c.is_small.ensures ∙ c.if-not-is_small.false)
-    (ap (λ (o : Option (Option Equiv)). got_any o c.go_on.new.run.left) c.answered.ensures
-    ∙ got_answered c.in_ok-found.found c.go_on.new.run.left
+    (ap (λ (o : Option (Option Equiv)). got_any o c.go_on.new.steps.left) c.answered.ensures
+    ∙ got_answered c.in_ok-found.found c.go_on.new.steps.left
     ∙ ap answered
-    (c.in_ok-found.ensures.is ∙ ap (λ (u : Term). inner_of c.args.l.now.r.now c.args.l.now.levels c.args.mode (seen_at c.args.at.now) u c.args.run.now.left) c.in_ok-first.ensures.is))
+    (c.in_ok-found.ensures.is ∙ ap (λ (u : Term). inner_of c.args.l.now.r.now c.args.l.now.levels c.args.mode (seen_at c.args.at.now) u c.args.steps.now.left) c.in_ok-first.ensures.is))
 
 pub returns-clause-from : goal.returns-clause-from
 returns-clause-from g c =

@@ -15,7 +15,7 @@ returns-then-not-may_serve-clause-is g c = passed _ _ _ _ (sym c.may_serve.ensur
 pub returns-in-None-clause-is : goal.returns-in-None-clause-is
 returns-in-None-clause-is g c =
     taken _ _ _ _ (sym c.may_serve.ensures ∙ c.if-not-may_serve.false)
-    (ap (λ (x : Option Pairs). apply (setting_of c.args.l.now.r.now) (inner_of c.args.l.now.r.now c.args.l.now.levels) c.args.mode (seen_at c.args.at.now) c.args.t.now (rule_in c.args.g.now) x c.args.run.now.left)
+    (ap (λ (x : Option Pairs). apply (setting_of c.args.l.now.r.now) (inner_of c.args.l.now.r.now c.args.l.now.levels) c.args.mode (seen_at c.args.at.now) c.args.t.now (rule_in c.args.g.now) x c.args.steps.now.left)
     ((rw c.in-None.is at c.in_ok-one_way_match.ensures) ∙ ap (λ (s : Pairs). matched c.args.g.now.lhs c.args.t.now s) c.new.ensures))
 
 pub apply-requires-clause-fits : goal.apply-requires-clause-fits
@@ -26,8 +26,8 @@ apply-requires-clause-matched g c = sym ((rw c.in-Some.is at c.in_ok-one_way_mat
 
 pub returns-clause-is : goal.returns-clause-is
 returns-clause-is g c =
-    subst (λ (x : Got (Option Term)). IfOk c.apply.result (λ o. got_any o c.apply.new.run.left ≡ x))
+    subst (λ (x : Got (Option Term)). IfOk c.apply.result (λ o. got_any o c.apply.new.steps.left ≡ x))
     (taken _ _ _ _ (sym c.may_serve.ensures ∙ c.if-not-may_serve.false)
-    (ap (λ (x : Option Pairs). apply (setting_of c.args.l.now.r.now) (inner_of c.args.l.now.r.now c.args.l.now.levels) c.args.mode (seen_at c.args.at.now) c.args.t.now (rule_in c.args.g.now) x c.args.run.now.left)
+    (ap (λ (x : Option Pairs). apply (setting_of c.args.l.now.r.now) (inner_of c.args.l.now.r.now c.args.l.now.levels) c.args.mode (seen_at c.args.at.now) c.args.t.now (rule_in c.args.g.now) x c.args.steps.now.left)
     ((rw c.in-Some.is at c.in_ok-one_way_match.ensures) ∙ ap (λ (s : Pairs). matched c.args.g.now.lhs c.args.t.now s) c.new.ensures)))
     c.apply.ensures.is
