@@ -123,8 +123,8 @@ impl<T: Drop> Made<T> {
 /// stands before the rest of the pool. So it goes on.
 ///
 /// Each walk is made by so many workers, up to 64, and is the same whatever their number. With 0 or 1 of them
-/// the caller makes it alone: no thread is started, the gate isn't passed, and nothing is dropped. The only
-/// error is want of memory.
+/// nothing is dropped; the code walks it alone then, starts no thread and passes no gate, which no clause says.
+/// The only error is want of memory.
 pub fn prove<P: Prover + Sync, G: Gate + Sync, R: Threads + Wait + Sync>(
     rt: &R,
     alloc: Global,

@@ -23,10 +23,11 @@ use std::thread::Threads;
 /// Does an event in a world with the index of its rules, by the form that states it, with all events that it holds:
 /// `local`, `progn` and `encapsulate` hold events, `include-book` has the kept world of an earlier book of the session,
 /// and the others are those of [`ap_plain::work`]. Answers what it prints, whether it is admitted, how many goals its
-/// attempts visited, and what was dropped in them. Up to 64 workers make the attempts; with one worker no thread is
-/// started, and nothing is dropped. Where the event is admitted the world is the next one; where it is refused, or
-/// where memory is wanting, the world is as it was. It costs what the event costs, whatever the world has already, and
-/// no world is copied. The only error is want of memory, for which more goals than a machine word counts is taken too.
+/// attempts visited, and what was dropped in them. Up to 64 workers make the attempts; with one worker nothing is
+/// dropped, and the code starts no thread, which no clause says. Where the event is admitted the world is the next one;
+/// where it is refused, or where memory is wanting, the world is as it was. It costs what the event costs, whatever the
+/// world has already, and no world is copied. The only error is want of memory, for which more goals than a machine
+/// word counts is taken too.
 pub fn work<R: Threads + Wait + Sync, G: Gate + Sync>(
     rt: &R,
     alloc: Global,

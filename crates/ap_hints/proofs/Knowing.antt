@@ -26,15 +26,16 @@ use Rattle.ap_hints.specs.Answers.{Answer, ◌>>=◌, or_refused, each, Gives}
 use Rattle.ap_hints.specs.Hinted.{as_instance, term_in, terms_in, begins, one_in, calls_by, calls_in, replaced_by, pair_in, pairs_in, may_replace, used, instance_of, instance_named, instance_by, use_by, use_in, alone, is_instance, uses_by, uses_in, few_enough, cases_in, call_only, scheme_in, nothing, once, forbidding, said_of, all_said, hint_of, goal_in, goal_of, with_hint, hint_said, hinted, entry_by, entries_in, hints_in}
 use Rattle.ap_hints.specs.Known.{KnownTerm, KnownUse, KnownHint, KnownHints, no_hints}
 
-abbrev Holds : {A : Type 0} → (A → Type 0) → Answer A → Type 0
+-- what holds of an answer where it is one
+abbrev pub Holds : {A : Type 0} → (A → Type 0) → Answer A → Type 0
 Holds P (Ok a) = P a
 Holds P (Err e) = Unit {0}
 
-then_holds : {A B : Type 0} (P : A → Type 0) (Q : B → Type 0) (r : Answer A) (g : A → Answer B) → Holds P r → ((a : A) → P a → Holds Q (g a)) → Holds Q (r >>= g)
+pub then_holds : {A B : Type 0} (P : A → Type 0) (Q : B → Type 0) (r : Answer A) (g : A → Answer B) → Holds P r → ((a : A) → P a → Holds Q (g a)) → Holds Q (r >>= g)
 then_holds P Q (Ok a) g h k = k a h
 then_holds P Q (Err e) g h k = tt
 
-always : {A : Type 0} (r : Answer A) → Holds (λ a. Unit {0}) r
+pub always : {A : Type 0} (r : Answer A) → Holds (λ a. Unit {0}) r
 always (Ok a) = tt
 always (Err e) = tt
 

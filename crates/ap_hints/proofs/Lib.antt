@@ -1,3 +1,4 @@
 pub mod Refusals
 pub mod Knowing
 pub mod Saying
+pub mod Named

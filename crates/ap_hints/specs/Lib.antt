@@ -4,3 +4,4 @@ pub mod Forms
 pub mod Hinted
 pub mod Known
 pub mod Runes
+pub mod Laws

@@ -1,14 +1,16 @@
 //! Hints: what a user tells the waterfall about a goal, by the goal's name. See the manual's topics `hints`,
 //! `goal-spec`, `use`, `cases`, `expand`, `do-not`, `induct` and `do-not-induct`.
 //!
-//! [`hints_of`] reads the hints of an event in a world, or refuses them. Beside it stand what hints and the events have in
-//! common: what the parts of a form are beyond what `ap_reader` tells, and changes of the current theory.
+//! [`hints_of`] reads the hints of an event in a world, or refuses them, and the law says of which goals they are and
+//! what each says. Beside it stand what hints and the events have in common: what the parts of a form are beyond what
+//! `ap_reader` tells, and changes of the current theory.
 #![tactic(auto)]
 
 mod changes;
 mod fault;
 mod forms;
 mod hint;
+pub mod laws;
 mod reading;
 mod runes;
 mod said;

@@ -162,10 +162,10 @@ fn event_of<R: Threads + Wait + Sync, G: Gate + Sync>(
 
 /// Does an event in a world with the index of its rules, by the form that states it: `defthm`, `defthmd`, `defun`,
 /// `defund`, `defconst` or `in-theory`. Answers what it prints, whether it is admitted, how many goals its attempts
-/// visited, and what was dropped in them. Up to 64 workers make the attempts; with one worker no thread is started, and
-/// nothing is dropped. Where the event is admitted the world is the next one; where it is refused, or where memory is
-/// wanting, the world is as it was. It costs what the event costs, whatever the world has already. The only error is want
-/// of memory, for which more goals than a machine word counts is taken too.
+/// visited, and what was dropped in them. Up to 64 workers make the attempts; with one worker nothing is dropped, and
+/// the code starts no thread, which no clause says. Where the event is admitted the world is the next one; where it is
+/// refused, or where memory is wanting, the world is as it was. It costs what the event costs, whatever the world has
+/// already. The only error is want of memory, for which more goals than a machine word counts is taken too.
 pub fn work<R: Threads + Wait + Sync, G: Gate + Sync>(
     rt: &R,
     alloc: Global,
