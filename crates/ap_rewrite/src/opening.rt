@@ -24,7 +24,7 @@ use crate::sizes::{has_small_instance, is_small, truth_of};
 use ap_kernel::{
     Ctx, Equiv, Mode, NoMemory, Seq, ShapeRef, Symbol, Term, TypeOracle, pairs_of, shape_of, subst,
 };
-use ap_term::{Steps, copy_term, is_among};
+use ap_term::{Steps, copy_term, is_among, is_term_among};
 use ap_value::copy_symbol;
 use ap_world::{Function, RuneKind};
 use std::alloc::Global;
@@ -244,7 +244,8 @@ fn open_within<O: TypeOracle, F: Below>(
     ensures is { IfOk result (λ o. got_any o steps.new.left ≡ open_within (setting_of l.now.r.now) (inner_of l.now.r.now l.now.levels) mode (seen_at at.now) (seen_at inner.now) first.says.lhs first.says.rhs steps.old.left) }
     ensures from { IfOk result (λ o. IfSome o (λ a. IfSome a (From l.now.r.now.w.now mode at.now.ctx.now first.says.lhs))) }
 {
-use ap_term::{Steps, copy_term, is_among};
+    if is_term_among(first.lhs(), l.r.expand.as_slice()) {
+        let found = go_on(l, steps, mode, inner, first)?;
         return Ok(answered(found));
     }
     walk(l, steps, mode, at, inner, first, false)
@@ -464,7 +465,7 @@ fn first_test<'a>(expand: &[Term], t: &Term, g: &'a Function) -> Option<&'a Term
     if g.measure.is_none() {
         return None;
     }
-    if ap_term::is_term_among(t, expand) {
+    if is_term_among(t, expand) {
         return None;
     }
     if !has_small_instance(&g.body, t) {
