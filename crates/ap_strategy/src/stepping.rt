@@ -3,13 +3,10 @@ ghost use Rattle.std.specs.Option.{option_map};
 ghost use Rattle.ap_list.specs.Lists.{Each};
 ghost use Rattle.ap_names.specs.Names.{is_pushed};
 ghost use Rattle.ap_hints.specs.Known.{KnownHint};
-ghost use Rattle.ap_walk.specs.declared.act.Process.{Process};
-ghost use Rattle.ap_walk.specs.declared.act.Out.{Out};
-ghost use Rattle.ap_walk.specs.declared.act.Reason.{Reason};
 ghost use Rattle.ap_kernel.specs.Reductions.{KnownClause};
 ghost use Rattle.ap_induct.specs.Choosing.{scheme_of};
 ghost use Rattle.ap_strategy.specs.Goals.{defs_of, hint_for, hinted};
-ghost use Rattle.ap_strategy.specs.Steps.{child, seen_below, counted_down, children, cases_in, done, stop_step, later, missed_step, open_step, pushed_or_open, hint_step, clause_step, induct_step, step_of};
+ghost use Rattle.ap_strategy.specs.Steps.{child, seen_below, counted_down, children, cases_in, done, later, missed_step, open_step, pushed_or_open, hint_step, clause_step, induct_step, step_of};
 
 use crate::clauses::{copy_clause, is_alone};
 use crate::fresh::own_clause;
@@ -103,63 +100,22 @@ fn children<'a, J: Planned>(
     Ok(out)
 }
 
-/// The step at which an attempt stops.
-fn stopped<'a, J: Planned>(missed: bool, reason: Reason) -> Stepped<Task<'a, J>>
-    ensures { result ≡ stop_step missed reason }
-{
-    Stepped {
-        act: Act {
-            process: Process::Stop,
-            missed,
-            limited: false,
-        },
-        out: Out::Stop(reason),
-    }
-}
-
-/// The step of a task that is set aside for an induction.
-fn pushed<'a, J: Planned>(missed: bool, limited: bool) -> Stepped<Task<'a, J>>
-    ensures { result ≡ done Process.Push missed limited Out.Push }
-{
-    Stepped {
-        act: Act {
-            process: Process::Push,
-            missed,
-            limited,
-        },
-        out: Out::Push,
-    }
-}
-
-/// The step of a task that a process splits, where nothing missed.
-fn split<'a, J: Planned>(process: Process, children: Seq<Task<'a, J>>) -> Stepped<Task<'a, J>>
-    ensures { result ≡ done process false false (Out.Split children.entry) }
-{
-    Stepped {
-        act: Act {
-            process,
-            missed: false,
-            limited: false,
-        },
-        out: Out::Split(children),
-    }
-}
-
-/// The step of a task whose children a later process made.
-fn made<'a, J: Planned>(
+/// A step: its process, whether simplification missed, whether it met the limit on steps, and what comes of the task.
+fn done<'a, J: Planned>(
     process: Process,
+    missed: bool,
     limited: bool,
-    children: Seq<Task<'a, J>>,
+    out: Out<Task<'a, J>>,
 ) -> Stepped<Task<'a, J>>
-    ensures { result ≡ done process true limited (Out.Split children.entry) }
+    ensures { result ≡ done process missed limited out.entry }
 {
     Stepped {
         act: Act {
             process,
-            missed: true,
+            missed,
             limited,
         },
-        out: Out::Split(children),
+        out,
     }
 }
 
@@ -175,9 +131,14 @@ fn missed_step<'a, J: Planned>(
     ensures { IfOk result (λ s. s ≡ missed_step task.now limited (later task.now)) }
 {
     let Some((process, clauses)) = later(alloc, task)? else {
-        return Ok(pushed(true, limited));
+        return Ok(done(Process::Push, true, limited, Out::Push));
     };
-    Ok(made(process, limited, children(alloc, task, true, clauses)?))
+    Ok(done(
+        process,
+        true,
+        limited,
+        Out::Split(children(alloc, task, true, clauses)?),
+    ))
 }
 
 /// Simplifies a task; where its clause stays the same, or the steps run out, that is a miss. Where calls aren't to be
@@ -198,9 +159,11 @@ fn open_step<'a, J: Planned>(
     if is_alone(&task.clause, clauses.as_slice()) {
         return missed_step(alloc, task, false);
     }
-    Ok(split(
+    Ok(done(
         Process::Simplify,
-        children(alloc, task, task.under, clauses)?,
+        false,
+        false,
+        Out::Split(children(alloc, task, task.under, clauses)?),
     ))
 }
 
@@ -216,7 +179,7 @@ fn pushed_or_open<'a, J: Planned>(
     ensures { IfOk result (λ s. s ≡ pushed_or_open task.now scheme.now) }
 {
     match scheme {
-        Some(_) => Ok(pushed(false, false)),
+        Some(_) => Ok(done(Process::Push, false, false, Out::Push)),
         None => open_step(alloc, task, shares),
     }
 }
@@ -239,7 +202,12 @@ fn hint_step<'a, J: Planned>(
     task.recall_goal();
     let clause = copy_clause(alloc, &task.clause)?;
     let clauses = hint_goals(alloc, task.plan.world.world(), hint, clause)?;
-    Ok(split(Process::Hint, children(alloc, task, task.under, clauses)?))
+    Ok(done(
+        Process::Hint,
+        false,
+        false,
+        Out::Split(children(alloc, task, task.under, clauses)?),
+    ))
 }
 
 /// The step of a task by its own name's hint, if there is one.
@@ -271,10 +239,10 @@ fn clause_step<'a, J: Planned>(
     ensures { IfOk result (λ s. s ≡ clause_step task.now task.now.clause.0) }
 {
     if task.clause.0.is_empty() {
-        return Ok(stopped(true, Reason::EmptyClause));
+        return Ok(done(Process::Stop, true, false, Out::Stop(Reason::EmptyClause)));
     }
     if task.depth >= 250 {
-        return Ok(stopped(false, Reason::PathDepth));
+        return Ok(done(Process::Stop, false, false, Out::Stop(Reason::PathDepth)));
     }
     hinted_step(alloc, task, shares)
 }
@@ -304,14 +272,21 @@ fn induct_step<'a, J: Planned>(
     ensures { IfOk result (λ s. s ≡ induct_step task.now) }
 {
     if task.name.induction.len() > 9 {
-        return Ok(stopped(false, Reason::InductionDepth));
+        return Ok(done(
+            Process::Stop,
+            false,
+            false,
+            Out::Stop(Reason::InductionDepth),
+        ));
     }
     let Some(clauses) = cases(alloc, task)? else {
-        return Ok(stopped(false, Reason::NoScheme));
+        return Ok(done(Process::Stop, false, false, Out::Stop(Reason::NoScheme)));
     };
-    Ok(split(
+    Ok(done(
         Process::Induct,
-        counted_down(alloc, task, task.under, clauses)?,
+        false,
+        false,
+        Out::Split(counted_down(alloc, task, task.under, clauses)?),
     ))
 }
 
