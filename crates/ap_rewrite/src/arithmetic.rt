@@ -14,7 +14,7 @@ use crate::bounding::{Begun, begin, integers};
 use crate::laws::arithmetic_is_sound;
 use crate::linear_rules::used_each;
 use crate::refuting::refute;
-use crate::rewriter::{Level, Place, Tried};
+use crate::rewriter::{Below, Level, Place, Tried};
 use crate::settling::in_mode;
 use ap_kernel::{
     Equiv, LinearOracle, Mask, Mode, NoMemory, Seq, Symbol, Term, TypeOracle, both_not_less,
@@ -27,17 +27,14 @@ use std::alloc::Global;
 
 /// From a comparison to the truth that its sign denies, where the first 32 of the polynomials that the definition
 /// lists can't all hold.
-fn refuted<
-    O: TypeOracle + LinearOracle,
-    F: Fn(&mut Steps, Mode, &Place<'_>, &Term) -> Result<Option<Equiv>, NoMemory>,
->(
+fn refuted<O: TypeOracle + LinearOracle, F: Below>(
     l: &Level<'_, '_, O, F>,
     steps: &mut Steps,
     at: &Place<'_>,
     t: &Term,
     sign: bool,
 ) -> Result<Tried<Equiv>, NoMemory>
-    requires level { IsLevel (F.pre l.now.below.now) (F.post l.now.below.now) l.now.r.now l.now.levels }
+    requires level { IsLevel (F.may l.now.below.now) (F.gives l.now.below.now) l.now.r.now l.now.levels }
     requires facts { KnownFacts (defs_in l.now.r.now) at.now.ctx.now.0 }
     requires term { IsTrue (known (defs_in l.now.r.now) t.now) }
     requires comparison { IsTrue (is_comparison t.now) }
@@ -68,16 +65,13 @@ fn less_term(alloc: Global, a: &Term, b: &Term) -> Result<Term, NoMemory>
 }
 
 /// A comparison is `'NIL` where it is refuted.
-fn by_truth<
-    O: TypeOracle + LinearOracle,
-    F: Fn(&mut Steps, Mode, &Place<'_>, &Term) -> Result<Option<Equiv>, NoMemory>,
->(
+fn by_truth<O: TypeOracle + LinearOracle, F: Below>(
     l: &Level<'_, '_, O, F>,
     steps: &mut Steps,
     at: &Place<'_>,
     t: &Term,
 ) -> Result<Tried<Equiv>, NoMemory>
-    requires level { IsLevel (F.pre l.now.below.now) (F.post l.now.below.now) l.now.r.now l.now.levels }
+    requires level { IsLevel (F.may l.now.below.now) (F.gives l.now.below.now) l.now.r.now l.now.levels }
     requires facts { KnownFacts (defs_in l.now.r.now) at.now.ctx.now.0 }
     requires term { IsTrue (known (defs_in l.now.r.now) t.now) }
     requires comparison { IsTrue (is_comparison t.now) }
@@ -88,16 +82,13 @@ fn by_truth<
 }
 
 /// `(< a b)`: `'T` where its negation is refuted, else `'NIL` where it is.
-fn by_less<
-    O: TypeOracle + LinearOracle,
-    F: Fn(&mut Steps, Mode, &Place<'_>, &Term) -> Result<Option<Equiv>, NoMemory>,
->(
+fn by_less<O: TypeOracle + LinearOracle, F: Below>(
     l: &Level<'_, '_, O, F>,
     steps: &mut Steps,
     at: &Place<'_>,
     t: &Term,
 ) -> Result<Tried<Equiv>, NoMemory>
-    requires level { IsLevel (F.pre l.now.below.now) (F.post l.now.below.now) l.now.r.now l.now.levels }
+    requires level { IsLevel (F.may l.now.below.now) (F.gives l.now.below.now) l.now.r.now l.now.levels }
     requires facts { KnownFacts (defs_in l.now.r.now) at.now.ctx.now.0 }
     requires term { IsTrue (known (defs_in l.now.r.now) t.now) }
     requires comparison { IsTrue (is_comparison t.now) }
@@ -112,17 +103,14 @@ fn by_less<
 }
 
 /// From `(< a b)` to `'NIL`, where it is refuted.
-fn less_refuted<
-    O: TypeOracle + LinearOracle,
-    F: Fn(&mut Steps, Mode, &Place<'_>, &Term) -> Result<Option<Equiv>, NoMemory>,
->(
+fn less_refuted<O: TypeOracle + LinearOracle, F: Below>(
     l: &Level<'_, '_, O, F>,
     steps: &mut Steps,
     at: &Place<'_>,
     a: &Term,
     b: &Term,
 ) -> Result<Tried<Equiv>, NoMemory>
-    requires level { IsLevel (F.pre l.now.below.now) (F.post l.now.below.now) l.now.r.now l.now.levels }
+    requires level { IsLevel (F.may l.now.below.now) (F.gives l.now.below.now) l.now.r.now l.now.levels }
     requires facts { KnownFacts (defs_in l.now.r.now) at.now.ctx.now.0 }
     requires left { IsTrue (known (defs_in l.now.r.now) a.now) }
     requires right { IsTrue (known (defs_in l.now.r.now) b.now) }
@@ -135,10 +123,7 @@ fn less_refuted<
 }
 
 /// Two integers by their types, of which the first isn't less: whether the second isn't either, so that they are equal.
-fn other_order<
-    O: TypeOracle + LinearOracle,
-    F: Fn(&mut Steps, Mode, &Place<'_>, &Term) -> Result<Option<Equiv>, NoMemory>,
->(
+fn other_order<O: TypeOracle + LinearOracle, F: Below>(
     l: &Level<'_, '_, O, F>,
     steps: &mut Steps,
     at: &Place<'_>,
@@ -147,7 +132,7 @@ fn other_order<
     masks: (Mask, Mask),
     first: Equiv,
 ) -> Result<Tried<Equiv>, NoMemory>
-    requires level { IsLevel (F.pre l.now.below.now) (F.post l.now.below.now) l.now.r.now l.now.levels }
+    requires level { IsLevel (F.may l.now.below.now) (F.gives l.now.below.now) l.now.r.now l.now.levels }
     requires facts { KnownFacts (defs_in l.now.r.now) at.now.ctx.now.0 }
     requires left { IsTrue (known (defs_in l.now.r.now) a.now) }
     requires right { IsTrue (known (defs_in l.now.r.now) b.now) }
@@ -168,10 +153,7 @@ fn other_order<
 }
 
 /// Whether neither of two integers by their types is less: the second order is tried only where the first is refuted.
-fn by_orders<
-    O: TypeOracle + LinearOracle,
-    F: Fn(&mut Steps, Mode, &Place<'_>, &Term) -> Result<Option<Equiv>, NoMemory>,
->(
+fn by_orders<O: TypeOracle + LinearOracle, F: Below>(
     l: &Level<'_, '_, O, F>,
     steps: &mut Steps,
     at: &Place<'_>,
@@ -179,7 +161,7 @@ fn by_orders<
     b: &Term,
     masks: (Mask, Mask),
 ) -> Result<Tried<Equiv>, NoMemory>
-    requires level { IsLevel (F.pre l.now.below.now) (F.post l.now.below.now) l.now.r.now l.now.levels }
+    requires level { IsLevel (F.may l.now.below.now) (F.gives l.now.below.now) l.now.r.now l.now.levels }
     requires facts { KnownFacts (defs_in l.now.r.now) at.now.ctx.now.0 }
     requires left { IsTrue (known (defs_in l.now.r.now) a.now) }
     requires right { IsTrue (known (defs_in l.now.r.now) b.now) }
@@ -195,10 +177,7 @@ fn by_orders<
 }
 
 /// `(equal a b)` of two integers: `'T` where neither is less, else `'NIL` where it is refuted.
-fn by_equal<
-    O: TypeOracle + LinearOracle,
-    F: Fn(&mut Steps, Mode, &Place<'_>, &Term) -> Result<Option<Equiv>, NoMemory>,
->(
+fn by_equal<O: TypeOracle + LinearOracle, F: Below>(
     l: &Level<'_, '_, O, F>,
     steps: &mut Steps,
     at: &Place<'_>,
@@ -207,7 +186,7 @@ fn by_equal<
     b: &Term,
     masks: (Mask, Mask),
 ) -> Result<Tried<Equiv>, NoMemory>
-    requires level { IsLevel (F.pre l.now.below.now) (F.post l.now.below.now) l.now.r.now l.now.levels }
+    requires level { IsLevel (F.may l.now.below.now) (F.gives l.now.below.now) l.now.r.now l.now.levels }
     requires facts { KnownFacts (defs_in l.now.r.now) at.now.ctx.now.0 }
     requires term { IsTrue (known (defs_in l.now.r.now) t.now) }
     requires equation { t.now ≡ equal_of a.now b.now }
@@ -225,10 +204,7 @@ fn by_equal<
 }
 
 /// `(equal a b)`, where both are integers by their types.
-fn by_equation<
-    O: TypeOracle + LinearOracle,
-    F: Fn(&mut Steps, Mode, &Place<'_>, &Term) -> Result<Option<Equiv>, NoMemory>,
->(
+fn by_equation<O: TypeOracle + LinearOracle, F: Below>(
     l: &Level<'_, '_, O, F>,
     steps: &mut Steps,
     at: &Place<'_>,
@@ -236,7 +212,7 @@ fn by_equation<
     a: &Term,
     b: &Term,
 ) -> Result<Tried<Equiv>, NoMemory>
-    requires level { IsLevel (F.pre l.now.below.now) (F.post l.now.below.now) l.now.r.now l.now.levels }
+    requires level { IsLevel (F.may l.now.below.now) (F.gives l.now.below.now) l.now.r.now l.now.levels }
     requires facts { KnownFacts (defs_in l.now.r.now) at.now.ctx.now.0 }
     requires term { IsTrue (known (defs_in l.now.r.now) t.now) }
     requires equation { t.now ≡ equal_of a.now b.now }
@@ -250,10 +226,7 @@ fn by_equation<
 }
 
 /// A comparison, by what it is.
-fn compared<
-    O: TypeOracle + LinearOracle,
-    F: Fn(&mut Steps, Mode, &Place<'_>, &Term) -> Result<Option<Equiv>, NoMemory>,
->(
+fn compared<O: TypeOracle + LinearOracle, F: Below>(
     l: &Level<'_, '_, O, F>,
     steps: &mut Steps,
     at: &Place<'_>,
@@ -261,7 +234,7 @@ fn compared<
     f: &Symbol,
     us: &[Term],
 ) -> Result<Tried<Equiv>, NoMemory>
-    requires level { IsLevel (F.pre l.now.below.now) (F.post l.now.below.now) l.now.r.now l.now.levels }
+    requires level { IsLevel (F.may l.now.below.now) (F.gives l.now.below.now) l.now.r.now l.now.levels }
     requires facts { KnownFacts (defs_in l.now.r.now) at.now.ctx.now.0 }
     requires term { IsTrue (known (defs_in l.now.r.now) t.now) }
     requires call { t.now ≡ Call f.now us.now }
@@ -280,10 +253,7 @@ fn compared<
 
 /// What linear arithmetic decides of a call, under a mode: of `<`, and of `equal` where both sides are integers by
 /// their types. See the manual's topic `linear-arithmetic`.
-pub(crate) fn by_arithmetic<
-    O: TypeOracle + LinearOracle,
-    F: Fn(&mut Steps, Mode, &Place<'_>, &Term) -> Result<Option<Equiv>, NoMemory>,
->(
+pub(crate) fn by_arithmetic<O: TypeOracle + LinearOracle, F: Below>(
     l: &Level<'_, '_, O, F>,
     steps: &mut Steps,
     mode: Mode,
@@ -292,7 +262,7 @@ pub(crate) fn by_arithmetic<
     f: &Symbol,
     us: &[Term],
 ) -> Result<Tried<Equiv>, NoMemory>
-    requires level { IsLevel (F.pre l.now.below.now) (F.post l.now.below.now) l.now.r.now l.now.levels }
+    requires level { IsLevel (F.may l.now.below.now) (F.gives l.now.below.now) l.now.r.now l.now.levels }
     requires facts { KnownFacts (defs_in l.now.r.now) at.now.ctx.now.0 }
     requires term { IsTrue (known (defs_in l.now.r.now) t.now) }
     requires call { t.now ≡ Call f.now us.now }

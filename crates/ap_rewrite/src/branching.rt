@@ -10,7 +10,7 @@ ghost use Rattle.ap_rewrite.specs.Settings.{under};
 ghost use Rattle.ap_rewrite.specs.Rewriting.{truth_of, shaped, negated, both, branches, rewrite_if, rewrite_not};
 ghost use Rattle.ap_rewrite.specs.Answering.{defs_in, Ready, setting_of, inner_of, seen_at, got, got_branches, in_branches, From, FromBranches, IsLevel};
 
-use crate::rewriter::{Level, Place, Rewriter, deeper};
+use crate::rewriter::{Below, Level, Place, Rewriter, deeper};
 use crate::rows::{follow, join, negate, plainest, simplest};
 use crate::sizes::truth_of;
 use ap_kernel::{
@@ -26,10 +26,7 @@ pub(crate) struct BothBranches {
 }
 
 /// A term under what another's sign adds to the facts.
-fn under<
-    O: TypeOracle,
-    F: Fn(&mut Steps, Mode, &Place<'_>, &Term) -> Result<Option<Equiv>, NoMemory>,
->(
+fn under<O: TypeOracle, F: Below>(
     l: &Level<'_, '_, O, F>,
     steps: &mut Steps,
     mode: Mode,
@@ -38,7 +35,7 @@ fn under<
     sign: bool,
     t: &Term,
 ) -> Result<Option<Equiv>, NoMemory>
-    requires level { IsLevel (F.pre l.now.below.now) (F.post l.now.below.now) l.now.r.now l.now.levels }
+    requires level { IsLevel (F.may l.now.below.now) (F.gives l.now.below.now) l.now.r.now l.now.levels }
     requires facts { KnownFacts (defs_in l.now.r.now) at.now.ctx.now.0 }
     requires test { IsTrue (known (defs_in l.now.r.now) a.now) }
     requires term { IsTrue (known (defs_in l.now.r.now) t.now) }
@@ -115,10 +112,7 @@ fn shape_whole<O: TypeOracle>(
 }
 
 /// What both branches of an `if` lead to, each under the test's sign. `None` where the steps run out.
-fn in_branches<
-    O: TypeOracle,
-    F: Fn(&mut Steps, Mode, &Place<'_>, &Term) -> Result<Option<Equiv>, NoMemory>,
->(
+fn in_branches<O: TypeOracle, F: Below>(
     l: &Level<'_, '_, O, F>,
     steps: &mut Steps,
     mode: Mode,
@@ -127,7 +121,7 @@ fn in_branches<
     b: &Term,
     c: &Term,
 ) -> Result<Option<BothBranches>, NoMemory>
-    requires level { IsLevel (F.pre l.now.below.now) (F.post l.now.below.now) l.now.r.now l.now.levels }
+    requires level { IsLevel (F.may l.now.below.now) (F.gives l.now.below.now) l.now.r.now l.now.levels }
     requires facts { KnownFacts (defs_in l.now.r.now) at.now.ctx.now.0 }
     requires test { IsTrue (known (defs_in l.now.r.now) a.now) }
     requires yes { IsTrue (known (defs_in l.now.r.now) b.now) }
@@ -145,10 +139,7 @@ fn in_branches<
 }
 
 /// An `if` whose test has become no constant: both branches under its test.
-pub fn both<
-    O: TypeOracle,
-    F: Fn(&mut Steps, Mode, &Place<'_>, &Term) -> Result<Option<Equiv>, NoMemory>,
->(
+pub fn both<O: TypeOracle, F: Below>(
     l: &Level<'_, '_, O, F>,
     steps: &mut Steps,
     mode: Mode,
@@ -158,7 +149,7 @@ pub fn both<
     b: &Term,
     c: &Term,
 ) -> Result<Option<Equiv>, NoMemory>
-    requires level { IsLevel (F.pre l.now.below.now) (F.post l.now.below.now) l.now.r.now l.now.levels }
+    requires level { IsLevel (F.may l.now.below.now) (F.gives l.now.below.now) l.now.r.now l.now.levels }
     requires facts { KnownFacts (defs_in l.now.r.now) at.now.ctx.now.0 }
     requires term { t.now ≡ if_of test.says.lhs b.now c.now }
     requires test { From l.now.r.now.w.now Iff at.now.ctx.now test.says.lhs test }
@@ -199,17 +190,14 @@ pub fn choose<O: TypeOracle>(
 }
 
 /// On from where an equivalence leads: that term is rewritten in its turn.
-pub fn go_on<
-    O: TypeOracle,
-    F: Fn(&mut Steps, Mode, &Place<'_>, &Term) -> Result<Option<Equiv>, NoMemory>,
->(
+pub fn go_on<O: TypeOracle, F: Below>(
     l: &Level<'_, '_, O, F>,
     steps: &mut Steps,
     mode: Mode,
     at: &Place<'_>,
     first: Equiv,
 ) -> Result<Option<Equiv>, NoMemory>
-    requires level { IsLevel (F.pre l.now.below.now) (F.post l.now.below.now) l.now.r.now l.now.levels }
+    requires level { IsLevel (F.may l.now.below.now) (F.gives l.now.below.now) l.now.r.now l.now.levels }
     requires facts { KnownFacts (defs_in l.now.r.now) at.now.ctx.now.0 }
     requires first { From l.now.r.now.w.now mode at.now.ctx.now first.says.lhs first }
     ensures is { IfOk result (λ o. got o steps.new.left ≡ inner_of l.now.r.now l.now.levels mode (seen_at at.now) first.says.rhs steps.old.left) }
@@ -223,10 +211,7 @@ pub fn go_on<
 }
 
 /// An `if` by what its test has become: the branch that a constant chooses, or both.
-fn branches<
-    O: TypeOracle,
-    F: Fn(&mut Steps, Mode, &Place<'_>, &Term) -> Result<Option<Equiv>, NoMemory>,
->(
+fn branches<O: TypeOracle, F: Below>(
     l: &Level<'_, '_, O, F>,
     steps: &mut Steps,
     mode: Mode,
@@ -236,7 +221,7 @@ fn branches<
     b: &Term,
     c: &Term,
 ) -> Result<Option<Equiv>, NoMemory>
-    requires level { IsLevel (F.pre l.now.below.now) (F.post l.now.below.now) l.now.r.now l.now.levels }
+    requires level { IsLevel (F.may l.now.below.now) (F.gives l.now.below.now) l.now.r.now l.now.levels }
     requires facts { KnownFacts (defs_in l.now.r.now) at.now.ctx.now.0 }
     requires term { t.now ≡ if_of test.says.lhs b.now c.now }
     requires test { From l.now.r.now.w.now Iff at.now.ctx.now test.says.lhs test }
@@ -256,10 +241,7 @@ fn branches<
 
 /// An `if`: its test under `iff`, then the branch that the test's constant chooses, or both branches under the
 /// test.
-pub fn rewrite_if<
-    O: TypeOracle,
-    F: Fn(&mut Steps, Mode, &Place<'_>, &Term) -> Result<Option<Equiv>, NoMemory>,
->(
+pub fn rewrite_if<O: TypeOracle, F: Below>(
     l: &Level<'_, '_, O, F>,
     steps: &mut Steps,
     mode: Mode,
@@ -269,7 +251,7 @@ pub fn rewrite_if<
     b: &Term,
     c: &Term,
 ) -> Result<Option<Equiv>, NoMemory>
-    requires level { IsLevel (F.pre l.now.below.now) (F.post l.now.below.now) l.now.r.now l.now.levels }
+    requires level { IsLevel (F.may l.now.below.now) (F.gives l.now.below.now) l.now.r.now l.now.levels }
     requires facts { KnownFacts (defs_in l.now.r.now) at.now.ctx.now.0 }
     requires term { t.now ≡ if_of a.now b.now c.now }
     requires test { IsTrue (known (defs_in l.now.r.now) a.now) }
@@ -329,10 +311,7 @@ fn turned<O: TypeOracle>(
 }
 
 /// A negation: its argument under `iff`, and then what the negation is by what that has become.
-pub fn rewrite_not<
-    O: TypeOracle,
-    F: Fn(&mut Steps, Mode, &Place<'_>, &Term) -> Result<Option<Equiv>, NoMemory>,
->(
+pub fn rewrite_not<O: TypeOracle, F: Below>(
     l: &Level<'_, '_, O, F>,
     steps: &mut Steps,
     mode: Mode,
@@ -340,7 +319,7 @@ pub fn rewrite_not<
     t: &Term,
     a: &Term,
 ) -> Result<Option<Equiv>, NoMemory>
-    requires level { IsLevel (F.pre l.now.below.now) (F.post l.now.below.now) l.now.r.now l.now.levels }
+    requires level { IsLevel (F.may l.now.below.now) (F.gives l.now.below.now) l.now.r.now l.now.levels }
     requires facts { KnownFacts (defs_in l.now.r.now) at.now.ctx.now.0 }
     requires term { t.now ≡ not_of a.now }
     requires argument { IsTrue (known (defs_in l.now.r.now) a.now) }

@@ -12,23 +12,20 @@ ghost use Rattle.ap_rewrite.specs.Rewriting.{rewrite_args, rewrite_call};
 ghost use Rattle.ap_rewrite.specs.Answering.{defs_in, Ready, setting_of, inner_of, seen_at, got, got_all, right_of, Leads, From, IsLevel};
 
 use crate::engines::tried;
-use crate::rewriter::{Level, Place, Rewriter, deeper};
+use crate::rewriter::{Below, Level, Place, Rewriter, deeper};
 use crate::rows::{follow, stay};
 use crate::settling::in_mode;
 use ap_kernel::{Ctx, Equiv, LinearOracle, Mode, NoMemory, Seq, Symbol, Term, TypeOracle, cong};
 use ap_term::Steps;
 
 /// The arguments of a call, from left to right, under equality.
-fn rewrite_args<
-    O: TypeOracle,
-    F: Fn(&mut Steps, Mode, &Place<'_>, &Term) -> Result<Option<Equiv>, NoMemory>,
->(
+fn rewrite_args<O: TypeOracle, F: Below>(
     l: &Level<'_, '_, O, F>,
     steps: &mut Steps,
     at: &Place<'_>,
     us: &[Term],
 ) -> Result<Option<Seq<Equiv>>, NoMemory>
-    requires level { IsLevel (F.pre l.now.below.now) (F.post l.now.below.now) l.now.r.now l.now.levels }
+    requires level { IsLevel (F.may l.now.below.now) (F.gives l.now.below.now) l.now.r.now l.now.levels }
     requires facts { KnownFacts (defs_in l.now.r.now) at.now.ctx.now.0 }
     requires terms { Each (λ u. IsTrue (known (defs_in l.now.r.now) u)) us.now }
     ensures is { IfOk result (λ o. got_all o steps.new.left ≡ rewrite_args (setting_of l.now.r.now) (inner_of l.now.r.now l.now.levels) (seen_at at.now) us.now steps.old.left) }
@@ -114,10 +111,7 @@ fn followed<O: TypeOracle>(
 }
 
 /// A call that is no `if` and no negation.
-pub fn rewrite_call<
-    O: TypeOracle + LinearOracle,
-    F: Fn(&mut Steps, Mode, &Place<'_>, &Term) -> Result<Option<Equiv>, NoMemory>,
->(
+pub fn rewrite_call<O: TypeOracle + LinearOracle, F: Below>(
     l: &Level<'_, '_, O, F>,
     steps: &mut Steps,
     mode: Mode,
@@ -126,7 +120,7 @@ pub fn rewrite_call<
     f: &Symbol,
     us: &[Term],
 ) -> Result<Option<Equiv>, NoMemory>
-    requires level { IsLevel (F.pre l.now.below.now) (F.post l.now.below.now) l.now.r.now l.now.levels }
+    requires level { IsLevel (F.may l.now.below.now) (F.gives l.now.below.now) l.now.r.now l.now.levels }
     requires facts { KnownFacts (defs_in l.now.r.now) at.now.ctx.now.0 }
     requires term { t.now ≡ Call f.now us.now }
     requires call { IsTrue (known (defs_in l.now.r.now) (Call f.now us.now)) }

@@ -12,24 +12,21 @@ use crate::arithmetic::by_arithmetic;
 use crate::branching::go_on;
 use crate::equating::is_quoted;
 use crate::opening::by_definition;
-use crate::rewriter::{Level, Place, Tried};
+use crate::rewriter::{Below, Level, Place, Tried};
 use crate::rows::{equates, ran, settles};
 use crate::rules::by_rules;
 use ap_kernel::{Equiv, LinearOracle, Mode, NoMemory, Symbol, Term, TypeOracle};
 use ap_term::Steps;
 
 /// Where an equation leads: that is the answer where it is a constant, and else it is rewritten in its turn.
-fn lead<
-    O: TypeOracle,
-    F: Fn(&mut Steps, Mode, &Place<'_>, &Term) -> Result<Option<Equiv>, NoMemory>,
->(
+fn lead<O: TypeOracle, F: Below>(
     l: &Level<'_, '_, O, F>,
     steps: &mut Steps,
     mode: Mode,
     at: &Place<'_>,
     first: Equiv,
 ) -> Result<Tried<Equiv>, NoMemory>
-    requires level { IsLevel (F.pre l.now.below.now) (F.post l.now.below.now) l.now.r.now l.now.levels }
+    requires level { IsLevel (F.may l.now.below.now) (F.gives l.now.below.now) l.now.r.now l.now.levels }
     requires facts { KnownFacts (defs_in l.now.r.now) at.now.ctx.now.0 }
     requires first { From l.now.r.now.w.now mode at.now.ctx.now first.says.lhs first }
     ensures is { IfOk result (λ o. got_any o steps.new.left ≡ led (setting_of l.now.r.now) (inner_of l.now.r.now l.now.levels) mode (seen_at at.now) (Some first.says.rhs) steps.old.left) }
@@ -53,17 +50,14 @@ pub fn answered(found: Option<Equiv>) -> Tried<Equiv>
 }
 
 /// An equation: of one term, by a fact, or part by part.
-fn equate<
-    O: TypeOracle,
-    F: Fn(&mut Steps, Mode, &Place<'_>, &Term) -> Result<Option<Equiv>, NoMemory>,
->(
+fn equate<O: TypeOracle, F: Below>(
     l: &Level<'_, '_, O, F>,
     steps: &mut Steps,
     mode: Mode,
     at: &Place<'_>,
     t: &Term,
 ) -> Result<Tried<Equiv>, NoMemory>
-    requires level { IsLevel (F.pre l.now.below.now) (F.post l.now.below.now) l.now.r.now l.now.levels }
+    requires level { IsLevel (F.may l.now.below.now) (F.gives l.now.below.now) l.now.r.now l.now.levels }
     requires facts { KnownFacts (defs_in l.now.r.now) at.now.ctx.now.0 }
     requires term { IsTrue (known (defs_in l.now.r.now) t.now) }
     ensures is { IfOk result (λ o. got_any o steps.new.left ≡ equate (setting_of l.now.r.now) (inner_of l.now.r.now l.now.levels) mode (seen_at at.now) t.now steps.old.left) }
@@ -76,10 +70,7 @@ fn equate<
 }
 
 /// What is tried after arithmetic: rules, and then the definition.
-fn after_arithmetic<
-    O: TypeOracle,
-    F: Fn(&mut Steps, Mode, &Place<'_>, &Term) -> Result<Option<Equiv>, NoMemory>,
->(
+fn after_arithmetic<O: TypeOracle, F: Below>(
     l: &Level<'_, '_, O, F>,
     steps: &mut Steps,
     mode: Mode,
@@ -88,7 +79,7 @@ fn after_arithmetic<
     f: &Symbol,
     us: &[Term],
 ) -> Result<Tried<Equiv>, NoMemory>
-    requires level { IsLevel (F.pre l.now.below.now) (F.post l.now.below.now) l.now.r.now l.now.levels }
+    requires level { IsLevel (F.may l.now.below.now) (F.gives l.now.below.now) l.now.r.now l.now.levels }
     requires facts { KnownFacts (defs_in l.now.r.now) at.now.ctx.now.0 }
     requires term { IsTrue (known (defs_in l.now.r.now) t.now) }
     requires call { t.now ≡ Call f.now us.now }
@@ -103,10 +94,7 @@ fn after_arithmetic<
 }
 
 /// What is tried after equations: arithmetic, and then rules and the definition.
-fn after_equating<
-    O: TypeOracle + LinearOracle,
-    F: Fn(&mut Steps, Mode, &Place<'_>, &Term) -> Result<Option<Equiv>, NoMemory>,
->(
+fn after_equating<O: TypeOracle + LinearOracle, F: Below>(
     l: &Level<'_, '_, O, F>,
     steps: &mut Steps,
     mode: Mode,
@@ -115,7 +103,7 @@ fn after_equating<
     f: &Symbol,
     us: &[Term],
 ) -> Result<Tried<Equiv>, NoMemory>
-    requires level { IsLevel (F.pre l.now.below.now) (F.post l.now.below.now) l.now.r.now l.now.levels }
+    requires level { IsLevel (F.may l.now.below.now) (F.gives l.now.below.now) l.now.r.now l.now.levels }
     requires facts { KnownFacts (defs_in l.now.r.now) at.now.ctx.now.0 }
     requires term { IsTrue (known (defs_in l.now.r.now) t.now) }
     requires call { t.now ≡ Call f.now us.now }
@@ -130,10 +118,7 @@ fn after_equating<
 }
 
 /// What is tried after settling: equations, and so on.
-fn after_settling<
-    O: TypeOracle + LinearOracle,
-    F: Fn(&mut Steps, Mode, &Place<'_>, &Term) -> Result<Option<Equiv>, NoMemory>,
->(
+fn after_settling<O: TypeOracle + LinearOracle, F: Below>(
     l: &Level<'_, '_, O, F>,
     steps: &mut Steps,
     mode: Mode,
@@ -142,7 +127,7 @@ fn after_settling<
     f: &Symbol,
     us: &[Term],
 ) -> Result<Tried<Equiv>, NoMemory>
-    requires level { IsLevel (F.pre l.now.below.now) (F.post l.now.below.now) l.now.r.now l.now.levels }
+    requires level { IsLevel (F.may l.now.below.now) (F.gives l.now.below.now) l.now.r.now l.now.levels }
     requires facts { KnownFacts (defs_in l.now.r.now) at.now.ctx.now.0 }
     requires term { IsTrue (known (defs_in l.now.r.now) t.now) }
     requires call { t.now ≡ Call f.now us.now }
@@ -157,10 +142,7 @@ fn after_settling<
 }
 
 /// What is tried after running: settling, and so on.
-fn after_running<
-    O: TypeOracle + LinearOracle,
-    F: Fn(&mut Steps, Mode, &Place<'_>, &Term) -> Result<Option<Equiv>, NoMemory>,
->(
+fn after_running<O: TypeOracle + LinearOracle, F: Below>(
     l: &Level<'_, '_, O, F>,
     steps: &mut Steps,
     mode: Mode,
@@ -169,7 +151,7 @@ fn after_running<
     f: &Symbol,
     us: &[Term],
 ) -> Result<Tried<Equiv>, NoMemory>
-    requires level { IsLevel (F.pre l.now.below.now) (F.post l.now.below.now) l.now.r.now l.now.levels }
+    requires level { IsLevel (F.may l.now.below.now) (F.gives l.now.below.now) l.now.r.now l.now.levels }
     requires facts { KnownFacts (defs_in l.now.r.now) at.now.ctx.now.0 }
     requires term { IsTrue (known (defs_in l.now.r.now) t.now) }
     requires call { t.now ≡ Call f.now us.now }
@@ -184,10 +166,7 @@ fn after_running<
 
 /// What is tried on a call: running it, settling it by its type, leading an equation on, linear arithmetic, rules, its
 /// definition; the first that applies.
-pub fn tried<
-    O: TypeOracle + LinearOracle,
-    F: Fn(&mut Steps, Mode, &Place<'_>, &Term) -> Result<Option<Equiv>, NoMemory>,
->(
+pub fn tried<O: TypeOracle + LinearOracle, F: Below>(
     l: &Level<'_, '_, O, F>,
     steps: &mut Steps,
     mode: Mode,
@@ -196,7 +175,7 @@ pub fn tried<
     f: &Symbol,
     us: &[Term],
 ) -> Result<Tried<Equiv>, NoMemory>
-    requires level { IsLevel (F.pre l.now.below.now) (F.post l.now.below.now) l.now.r.now l.now.levels }
+    requires level { IsLevel (F.may l.now.below.now) (F.gives l.now.below.now) l.now.r.now l.now.levels }
     requires facts { KnownFacts (defs_in l.now.r.now) at.now.ctx.now.0 }
     requires term { IsTrue (known (defs_in l.now.r.now) t.now) }
     requires call { t.now ≡ Call f.now us.now }

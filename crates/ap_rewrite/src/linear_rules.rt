@@ -10,7 +10,7 @@ ghost use Rattle.ap_rewrite.specs.Linear.{most_polys, at_match, at_atoms};
 ghost use Rattle.ap_rewrite.specs.Answering.{defs_in, setting_of, inner_of, seen_at, got_polys, used, used_each, IsLevel};
 
 use crate::refuting::with_instance;
-use crate::rewriter::{Level, Place};
+use crate::rewriter::{Below, Level, Place};
 use crate::rules::relieve;
 use ap_kernel::{Equiv, Mode, NoMemory, Seq, Subst, Term, TypeOracle};
 use ap_poly::Poly;
@@ -26,10 +26,7 @@ fn is_full(polys: &Seq<Poly>) -> bool
 }
 
 /// The polynomials with those of a rule's instance behind them, where its hypotheses are relieved.
-fn at_match<
-    O: TypeOracle,
-    F: Fn(&mut Steps, Mode, &Place<'_>, &Term) -> Result<Option<Equiv>, NoMemory>,
->(
+fn at_match<O: TypeOracle, F: Below>(
     l: &Level<'_, '_, O, F>,
     steps: &mut Steps,
     at: &Place<'_>,
@@ -37,7 +34,7 @@ fn at_match<
     polys: Seq<Poly>,
     s: Subst,
 ) -> Result<Option<Seq<Poly>>, NoMemory>
-    requires level { IsLevel (F.pre l.now.below.now) (F.post l.now.below.now) l.now.r.now l.now.levels }
+    requires level { IsLevel (F.may l.now.below.now) (F.gives l.now.below.now) l.now.r.now l.now.levels }
     requires facts { KnownFacts (defs_in l.now.r.now) at.now.ctx.now.0 }
     requires rule { LinearHolds (defs_in l.now.r.now) g.now }
     requires pairs { KnownPairs (defs_in l.now.r.now) s.0 }
@@ -54,10 +51,7 @@ fn at_match<
 }
 
 /// A rule at an atom, where its trigger matches.
-fn at_atom<
-    O: TypeOracle,
-    F: Fn(&mut Steps, Mode, &Place<'_>, &Term) -> Result<Option<Equiv>, NoMemory>,
->(
+fn at_atom<O: TypeOracle, F: Below>(
     l: &Level<'_, '_, O, F>,
     steps: &mut Steps,
     at: &Place<'_>,
@@ -65,7 +59,7 @@ fn at_atom<
     atom: &Term,
     polys: Seq<Poly>,
 ) -> Result<Option<Seq<Poly>>, NoMemory>
-    requires level { IsLevel (F.pre l.now.below.now) (F.post l.now.below.now) l.now.r.now l.now.levels }
+    requires level { IsLevel (F.may l.now.below.now) (F.gives l.now.below.now) l.now.r.now l.now.levels }
     requires facts { KnownFacts (defs_in l.now.r.now) at.now.ctx.now.0 }
     requires rule { LinearHolds (defs_in l.now.r.now) g.now }
     requires atom { IsTrue (known (defs_in l.now.r.now) atom.now) }
@@ -79,10 +73,7 @@ fn at_atom<
 }
 
 /// A rule at each atom, while there are fewer than 32 polynomials.
-fn at_atoms<
-    O: TypeOracle,
-    F: Fn(&mut Steps, Mode, &Place<'_>, &Term) -> Result<Option<Equiv>, NoMemory>,
->(
+fn at_atoms<O: TypeOracle, F: Below>(
     l: &Level<'_, '_, O, F>,
     steps: &mut Steps,
     at: &Place<'_>,
@@ -90,7 +81,7 @@ fn at_atoms<
     atoms: &[Term],
     polys: Seq<Poly>,
 ) -> Result<Option<Seq<Poly>>, NoMemory>
-    requires level { IsLevel (F.pre l.now.below.now) (F.post l.now.below.now) l.now.r.now l.now.levels }
+    requires level { IsLevel (F.may l.now.below.now) (F.gives l.now.below.now) l.now.r.now l.now.levels }
     requires facts { KnownFacts (defs_in l.now.r.now) at.now.ctx.now.0 }
     requires rule { LinearHolds (defs_in l.now.r.now) g.now }
     requires atoms { Each (λ x. known (defs_in l.now.r.now) x ≡ true) atoms.now }
@@ -110,10 +101,7 @@ fn at_atoms<
 }
 
 /// A rule at each atom, where the theory enables it.
-fn used<
-    O: TypeOracle,
-    F: Fn(&mut Steps, Mode, &Place<'_>, &Term) -> Result<Option<Equiv>, NoMemory>,
->(
+fn used<O: TypeOracle, F: Below>(
     l: &Level<'_, '_, O, F>,
     steps: &mut Steps,
     at: &Place<'_>,
@@ -121,7 +109,7 @@ fn used<
     atoms: &[Term],
     polys: Seq<Poly>,
 ) -> Result<Option<Seq<Poly>>, NoMemory>
-    requires level { IsLevel (F.pre l.now.below.now) (F.post l.now.below.now) l.now.r.now l.now.levels }
+    requires level { IsLevel (F.may l.now.below.now) (F.gives l.now.below.now) l.now.r.now l.now.levels }
     requires facts { KnownFacts (defs_in l.now.r.now) at.now.ctx.now.0 }
     requires rule { LinearHolds (defs_in l.now.r.now) g.now }
     requires atoms { Each (λ x. known (defs_in l.now.r.now) x ≡ true) atoms.now }
@@ -135,10 +123,7 @@ fn used<
 }
 
 /// The rules at places of the index, one after another.
-pub(crate) fn used_each<
-    O: TypeOracle,
-    F: Fn(&mut Steps, Mode, &Place<'_>, &Term) -> Result<Option<Equiv>, NoMemory>,
->(
+pub(crate) fn used_each<O: TypeOracle, F: Below>(
     l: &Level<'_, '_, O, F>,
     steps: &mut Steps,
     at: &Place<'_>,
@@ -146,7 +131,7 @@ pub(crate) fn used_each<
     atoms: &[Term],
     polys: Seq<Poly>,
 ) -> Result<Option<Seq<Poly>>, NoMemory>
-    requires level { IsLevel (F.pre l.now.below.now) (F.post l.now.below.now) l.now.r.now l.now.levels }
+    requires level { IsLevel (F.may l.now.below.now) (F.gives l.now.below.now) l.now.r.now l.now.levels }
     requires facts { KnownFacts (defs_in l.now.r.now) at.now.ctx.now.0 }
     requires atoms { Each (λ x. known (defs_in l.now.r.now) x ≡ true) atoms.now }
     ensures { IfOk result (λ o. got_polys o steps.new.left ≡ used_each (setting_of l.now.r.now) (inner_of l.now.r.now l.now.levels) (seen_at at.now) l.now.r.now.rules.now.linear places.now atoms.now polys steps.old.left) }

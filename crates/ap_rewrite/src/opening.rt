@@ -18,7 +18,7 @@ ghost use Rattle.ap_rewrite.specs.Answering.{defs_in, Ready, setting_of, inner_o
 
 use crate::branching::{both, choose, go_on};
 use crate::engines::answered;
-use crate::rewriter::{Level, Place, Rewriter, Tried, deeper};
+use crate::rewriter::{Below, Level, Place, Rewriter, Tried, deeper};
 use crate::rows::{follow, opened};
 use crate::sizes::{has_small_instance, is_among, is_small, truth_of};
 use ap_kernel::{
@@ -69,10 +69,7 @@ fn step_down<O: TypeOracle>(
 /// Down the body, past an `if` whose test has become what `test` leads to: into the branch that a constant chooses;
 /// else the `if` is the answer, where a branch was taken before.
 #[cycle(walking)]
-fn walk_on<
-    O: TypeOracle,
-    F: Fn(&mut Steps, Mode, &Place<'_>, &Term) -> Result<Option<Equiv>, NoMemory>,
->(
+fn walk_on<O: TypeOracle, F: Below>(
     l: &Level<'_, '_, O, F>,
     steps: &mut Steps,
     mode: Mode,
@@ -84,7 +81,7 @@ fn walk_on<
     b: &Term,
     c: &Term,
 ) -> Result<Tried<Equiv>, NoMemory>
-    requires level { IsLevel (F.pre l.now.below.now) (F.post l.now.below.now) l.now.r.now l.now.levels }
+    requires level { IsLevel (F.may l.now.below.now) (F.gives l.now.below.now) l.now.r.now l.now.levels }
     requires facts { KnownFacts (defs_in l.now.r.now) at.now.ctx.now.0 }
     requires inner { inner.now.ctx.now ≡ at.now.ctx.now }
     requires sofar { From l.now.r.now.w.now mode at.now.ctx.now sofar.says.lhs sofar }
@@ -103,10 +100,7 @@ fn walk_on<
 }
 
 /// Both branches of the `if` at which the walk ends.
-fn follow_both<
-    O: TypeOracle,
-    F: Fn(&mut Steps, Mode, &Place<'_>, &Term) -> Result<Option<Equiv>, NoMemory>,
->(
+fn follow_both<O: TypeOracle, F: Below>(
     l: &Level<'_, '_, O, F>,
     steps: &mut Steps,
     mode: Mode,
@@ -116,7 +110,7 @@ fn follow_both<
     b: &Term,
     c: &Term,
 ) -> Result<Tried<Equiv>, NoMemory>
-    requires level { IsLevel (F.pre l.now.below.now) (F.post l.now.below.now) l.now.r.now l.now.levels }
+    requires level { IsLevel (F.may l.now.below.now) (F.gives l.now.below.now) l.now.r.now l.now.levels }
     requires facts { KnownFacts (defs_in l.now.r.now) at.now.ctx.now.0 }
     requires sofar { From l.now.r.now.w.now mode at.now.ctx.now sofar.says.lhs sofar }
     requires test { From l.now.r.now.w.now Iff at.now.ctx.now test.says.lhs test }
@@ -133,10 +127,7 @@ fn follow_both<
 }
 
 /// The walk ends at an `if` whose test has become no constant: at both branches, where a branch was taken.
-fn walk_ends<
-    O: TypeOracle,
-    F: Fn(&mut Steps, Mode, &Place<'_>, &Term) -> Result<Option<Equiv>, NoMemory>,
->(
+fn walk_ends<O: TypeOracle, F: Below>(
     l: &Level<'_, '_, O, F>,
     steps: &mut Steps,
     mode: Mode,
@@ -147,7 +138,7 @@ fn walk_ends<
     b: &Term,
     c: &Term,
 ) -> Result<Tried<Equiv>, NoMemory>
-    requires level { IsLevel (F.pre l.now.below.now) (F.post l.now.below.now) l.now.r.now l.now.levels }
+    requires level { IsLevel (F.may l.now.below.now) (F.gives l.now.below.now) l.now.r.now l.now.levels }
     requires facts { KnownFacts (defs_in l.now.r.now) at.now.ctx.now.0 }
     requires sofar { From l.now.r.now.w.now mode at.now.ctx.now sofar.says.lhs sofar }
     requires test { From l.now.r.now.w.now Iff at.now.ctx.now test.says.lhs test }
@@ -164,10 +155,7 @@ fn walk_ends<
 
 /// Down the body, which is lent: at an `if` its test under `iff`, and on by what that has become.
 #[cycle(walking)]
-fn walk_body<
-    O: TypeOracle,
-    F: Fn(&mut Steps, Mode, &Place<'_>, &Term) -> Result<Option<Equiv>, NoMemory>,
->(
+fn walk_body<O: TypeOracle, F: Below>(
     l: &Level<'_, '_, O, F>,
     steps: &mut Steps,
     mode: Mode,
@@ -177,7 +165,7 @@ fn walk_body<
     taken: bool,
     body: &Term,
 ) -> Result<Tried<Equiv>, NoMemory>
-    requires level { IsLevel (F.pre l.now.below.now) (F.post l.now.below.now) l.now.r.now l.now.levels }
+    requires level { IsLevel (F.may l.now.below.now) (F.gives l.now.below.now) l.now.r.now l.now.levels }
     requires facts { KnownFacts (defs_in l.now.r.now) at.now.ctx.now.0 }
     requires inner { inner.now.ctx.now ≡ at.now.ctx.now }
     requires sofar { From l.now.r.now.w.now mode at.now.ctx.now sofar.says.lhs sofar }
@@ -197,10 +185,7 @@ fn walk_body<
 /// Down the body of a function that recurs, while it is an `if` whose test becomes a constant. There is an answer
 /// where one was, at least once.
 #[cycle(walking)]
-fn walk<
-    O: TypeOracle,
-    F: Fn(&mut Steps, Mode, &Place<'_>, &Term) -> Result<Option<Equiv>, NoMemory>,
->(
+fn walk<O: TypeOracle, F: Below>(
     l: &Level<'_, '_, O, F>,
     steps: &mut Steps,
     mode: Mode,
@@ -209,7 +194,7 @@ fn walk<
     sofar: Equiv,
     taken: bool,
 ) -> Result<Tried<Equiv>, NoMemory>
-    requires level { IsLevel (F.pre l.now.below.now) (F.post l.now.below.now) l.now.r.now l.now.levels }
+    requires level { IsLevel (F.may l.now.below.now) (F.gives l.now.below.now) l.now.r.now l.now.levels }
     requires facts { KnownFacts (defs_in l.now.r.now) at.now.ctx.now.0 }
     requires inner { inner.now.ctx.now ≡ at.now.ctx.now }
     requires sofar { From l.now.r.now.w.now mode at.now.ctx.now sofar.says.lhs sofar }
@@ -221,10 +206,7 @@ fn walk<
 }
 
 /// The walk ends at what is no `if`: it is rewritten, where a branch was taken.
-fn walk_stops<
-    O: TypeOracle,
-    F: Fn(&mut Steps, Mode, &Place<'_>, &Term) -> Result<Option<Equiv>, NoMemory>,
->(
+fn walk_stops<O: TypeOracle, F: Below>(
     l: &Level<'_, '_, O, F>,
     steps: &mut Steps,
     mode: Mode,
@@ -232,7 +214,7 @@ fn walk_stops<
     sofar: Equiv,
     taken: bool,
 ) -> Result<Tried<Equiv>, NoMemory>
-    requires level { IsLevel (F.pre l.now.below.now) (F.post l.now.below.now) l.now.r.now l.now.levels }
+    requires level { IsLevel (F.may l.now.below.now) (F.gives l.now.below.now) l.now.r.now l.now.levels }
     requires facts { KnownFacts (defs_in l.now.r.now) at.now.ctx.now.0 }
     requires sofar { From l.now.r.now.w.now mode at.now.ctx.now sofar.says.lhs sofar }
     ensures is { IfOk result (λ o. got_any o steps.new.left ≡ leaf_on (inner_of l.now.r.now l.now.levels) mode (seen_at at.now) sofar.says.rhs taken steps.old.left) }
@@ -247,10 +229,7 @@ fn walk_stops<
 
 /// The instance of the body of a function that recurs: of a call that is to be opened it is rewritten as it stands
 /// within, else it is walked down.
-fn open_within<
-    O: TypeOracle,
-    F: Fn(&mut Steps, Mode, &Place<'_>, &Term) -> Result<Option<Equiv>, NoMemory>,
->(
+fn open_within<O: TypeOracle, F: Below>(
     l: &Level<'_, '_, O, F>,
     steps: &mut Steps,
     mode: Mode,
@@ -258,7 +237,7 @@ fn open_within<
     inner: &Place<'_>,
     first: Equiv,
 ) -> Result<Tried<Equiv>, NoMemory>
-    requires level { IsLevel (F.pre l.now.below.now) (F.post l.now.below.now) l.now.r.now l.now.levels }
+    requires level { IsLevel (F.may l.now.below.now) (F.gives l.now.below.now) l.now.r.now l.now.levels }
     requires facts { KnownFacts (defs_in l.now.r.now) at.now.ctx.now.0 }
     requires inner { inner.now.ctx.now ≡ at.now.ctx.now }
     requires first { From l.now.r.now.w.now mode at.now.ctx.now first.says.lhs first }
@@ -274,10 +253,7 @@ fn open_within<
 
 /// The instance of the body of a function that recurs, where the function isn't opened again: of a call that is to be
 /// opened it is rewritten, else it is walked down.
-fn open_recursive<
-    O: TypeOracle,
-    F: Fn(&mut Steps, Mode, &Place<'_>, &Term) -> Result<Option<Equiv>, NoMemory>,
->(
+fn open_recursive<O: TypeOracle, F: Below>(
     l: &Level<'_, '_, O, F>,
     steps: &mut Steps,
     mode: Mode,
@@ -285,7 +261,7 @@ fn open_recursive<
     f: &Symbol,
     first: Equiv,
 ) -> Result<Tried<Equiv>, NoMemory>
-    requires level { IsLevel (F.pre l.now.below.now) (F.post l.now.below.now) l.now.r.now l.now.levels }
+    requires level { IsLevel (F.may l.now.below.now) (F.gives l.now.below.now) l.now.r.now l.now.levels }
     requires facts { KnownFacts (defs_in l.now.r.now) at.now.ctx.now.0 }
     requires first { From l.now.r.now.w.now mode at.now.ctx.now first.says.lhs first }
     ensures is { IfOk result (λ o. got_any o steps.new.left ≡ open_closed (setting_of l.now.r.now) (inner_of l.now.r.now l.now.levels) mode (seen_at at.now) f.now first.says.lhs first.says.rhs steps.old.left) }
@@ -301,10 +277,7 @@ fn open_recursive<
 }
 
 /// The instance of a function's body to which a call leads.
-fn open_instance<
-    O: TypeOracle,
-    F: Fn(&mut Steps, Mode, &Place<'_>, &Term) -> Result<Option<Equiv>, NoMemory>,
->(
+fn open_instance<O: TypeOracle, F: Below>(
     l: &Level<'_, '_, O, F>,
     steps: &mut Steps,
     mode: Mode,
@@ -313,7 +286,7 @@ fn open_instance<
     g: &Function,
     first: Equiv,
 ) -> Result<Tried<Equiv>, NoMemory>
-    requires level { IsLevel (F.pre l.now.below.now) (F.post l.now.below.now) l.now.r.now l.now.levels }
+    requires level { IsLevel (F.may l.now.below.now) (F.gives l.now.below.now) l.now.r.now l.now.levels }
     requires facts { KnownFacts (defs_in l.now.r.now) at.now.ctx.now.0 }
     requires first { From l.now.r.now.w.now mode at.now.ctx.now first.says.lhs first }
     ensures is { IfOk result (λ o. got_any o steps.new.left ≡ open_instance (setting_of l.now.r.now) (inner_of l.now.r.now l.now.levels) mode (seen_at at.now) first.says.lhs f.now g.now first.says.rhs steps.old.left) }
@@ -327,10 +300,7 @@ fn open_instance<
 }
 
 /// A call of a defined function that may be opened, by its body's instance, where that isn't too large.
-fn open_at_once<
-    O: TypeOracle,
-    F: Fn(&mut Steps, Mode, &Place<'_>, &Term) -> Result<Option<Equiv>, NoMemory>,
->(
+fn open_at_once<O: TypeOracle, F: Below>(
     l: &Level<'_, '_, O, F>,
     steps: &mut Steps,
     mode: Mode,
@@ -340,7 +310,7 @@ fn open_at_once<
     us: &[Term],
     g: &Function,
 ) -> Result<Tried<Equiv>, NoMemory>
-    requires level { IsLevel (F.pre l.now.below.now) (F.post l.now.below.now) l.now.r.now l.now.levels }
+    requires level { IsLevel (F.may l.now.below.now) (F.gives l.now.below.now) l.now.r.now l.now.levels }
     requires facts { KnownFacts (defs_in l.now.r.now) at.now.ctx.now.0 }
     requires term { IsTrue (known (defs_in l.now.r.now) t.now) }
     requires call { t.now ≡ Call f.now us.now }
@@ -367,10 +337,7 @@ fn part_at(alloc: Global, g: &Function, us: &[Term], part: &Term) -> Result<Term
 }
 
 /// The instance of the test of a function's body, rewritten under `iff`.
-fn rewrite_test<
-    O: TypeOracle,
-    F: Fn(&mut Steps, Mode, &Place<'_>, &Term) -> Result<Option<Equiv>, NoMemory>,
->(
+fn rewrite_test<O: TypeOracle, F: Below>(
     l: &Level<'_, '_, O, F>,
     steps: &mut Steps,
     at: &Place<'_>,
@@ -378,7 +345,7 @@ fn rewrite_test<
     g: &Function,
     a: &Term,
 ) -> Result<Option<Equiv>, NoMemory>
-    requires level { IsLevel (F.pre l.now.below.now) (F.post l.now.below.now) l.now.r.now l.now.levels }
+    requires level { IsLevel (F.may l.now.below.now) (F.gives l.now.below.now) l.now.r.now l.now.levels }
     requires facts { KnownFacts (defs_in l.now.r.now) at.now.ctx.now.0 }
     requires arguments { Each (λ u. IsTrue (known (defs_in l.now.r.now) u)) us.now }
     requires test { IsTrue (known (defs_in l.now.r.now) a.now) }
@@ -391,10 +358,7 @@ fn rewrite_test<
 }
 
 /// Down a body's instance from the `if` at its top, whose test has led to this already, from some number of steps.
-fn walk_past<
-    O: TypeOracle,
-    F: Fn(&mut Steps, Mode, &Place<'_>, &Term) -> Result<Option<Equiv>, NoMemory>,
->(
+fn walk_past<O: TypeOracle, F: Below>(
     l: &Level<'_, '_, O, F>,
     steps: &mut Steps,
     mode: Mode,
@@ -403,7 +367,7 @@ fn walk_past<
     first: Equiv,
     test: Equiv,
 ) -> Result<Tried<Equiv>, NoMemory>
-    requires level { IsLevel (F.pre l.now.below.now) (F.post l.now.below.now) l.now.r.now l.now.levels }
+    requires level { IsLevel (F.may l.now.below.now) (F.gives l.now.below.now) l.now.r.now l.now.levels }
     requires facts { KnownFacts (defs_in l.now.r.now) at.now.ctx.now.0 }
     requires inner { inner.now.ctx.now ≡ at.now.ctx.now }
     requires first { From l.now.r.now.w.now mode at.now.ctx.now first.says.lhs first }
@@ -421,10 +385,7 @@ fn walk_past<
 
 /// A call of a function whose body is an `if`, where the instance of its test has led to this already: its body's
 /// instance is made, and walked down where the function is closed.
-fn open_tested<
-    O: TypeOracle,
-    F: Fn(&mut Steps, Mode, &Place<'_>, &Term) -> Result<Option<Equiv>, NoMemory>,
->(
+fn open_tested<O: TypeOracle, F: Below>(
     l: &Level<'_, '_, O, F>,
     steps: &mut Steps,
     mode: Mode,
@@ -433,7 +394,7 @@ fn open_tested<
     f: &Symbol,
     test: Equiv,
 ) -> Result<Tried<Equiv>, NoMemory>
-    requires level { IsLevel (F.pre l.now.below.now) (F.post l.now.below.now) l.now.r.now l.now.levels }
+    requires level { IsLevel (F.may l.now.below.now) (F.gives l.now.below.now) l.now.r.now l.now.levels }
     requires facts { KnownFacts (defs_in l.now.r.now) at.now.ctx.now.0 }
     requires term { IsTrue (known (defs_in l.now.r.now) t.now) }
     requires test { From l.now.r.now.w.now Iff at.now.ctx.now test.says.lhs test }
@@ -453,10 +414,7 @@ fn open_tested<
 
 /// A call of a function whose body is an `if`: the instance of its test alone is made and rewritten, and the body's
 /// where the test becomes a constant.
-fn open_by_test<
-    O: TypeOracle,
-    F: Fn(&mut Steps, Mode, &Place<'_>, &Term) -> Result<Option<Equiv>, NoMemory>,
->(
+fn open_by_test<O: TypeOracle, F: Below>(
     l: &Level<'_, '_, O, F>,
     steps: &mut Steps,
     mode: Mode,
@@ -467,7 +425,7 @@ fn open_by_test<
     g: &Function,
     a: &Term,
 ) -> Result<Tried<Equiv>, NoMemory>
-    requires level { IsLevel (F.pre l.now.below.now) (F.post l.now.below.now) l.now.r.now l.now.levels }
+    requires level { IsLevel (F.may l.now.below.now) (F.gives l.now.below.now) l.now.r.now l.now.levels }
     requires facts { KnownFacts (defs_in l.now.r.now) at.now.ctx.now.0 }
     requires term { IsTrue (known (defs_in l.now.r.now) t.now) }
     requires call { t.now ≡ Call f.now us.now }
@@ -519,10 +477,7 @@ fn first_test<'a>(expand: &[Term], t: &Term, g: &'a Function) -> Option<&'a Term
 /// A call of a defined function, which is opened where the theory enables its definition, it isn't closed, and the
 /// instance of its body isn't too large: by its test alone first, where the function recurs and a bound says that the
 /// instance is small.
-fn open_call<
-    O: TypeOracle,
-    F: Fn(&mut Steps, Mode, &Place<'_>, &Term) -> Result<Option<Equiv>, NoMemory>,
->(
+fn open_call<O: TypeOracle, F: Below>(
     l: &Level<'_, '_, O, F>,
     steps: &mut Steps,
     mode: Mode,
@@ -532,7 +487,7 @@ fn open_call<
     us: &[Term],
     g: &Function,
 ) -> Result<Tried<Equiv>, NoMemory>
-    requires level { IsLevel (F.pre l.now.below.now) (F.post l.now.below.now) l.now.r.now l.now.levels }
+    requires level { IsLevel (F.may l.now.below.now) (F.gives l.now.below.now) l.now.r.now l.now.levels }
     requires facts { KnownFacts (defs_in l.now.r.now) at.now.ctx.now.0 }
     requires term { IsTrue (known (defs_in l.now.r.now) t.now) }
     requires call { t.now ≡ Call f.now us.now }
@@ -550,10 +505,7 @@ fn open_call<
 }
 
 /// The definition, of a function that may be opened.
-pub fn by_definition<
-    O: TypeOracle,
-    F: Fn(&mut Steps, Mode, &Place<'_>, &Term) -> Result<Option<Equiv>, NoMemory>,
->(
+pub fn by_definition<O: TypeOracle, F: Below>(
     l: &Level<'_, '_, O, F>,
     steps: &mut Steps,
     mode: Mode,
@@ -562,7 +514,7 @@ pub fn by_definition<
     f: &Symbol,
     us: &[Term],
 ) -> Result<Tried<Equiv>, NoMemory>
-    requires level { IsLevel (F.pre l.now.below.now) (F.post l.now.below.now) l.now.r.now l.now.levels }
+    requires level { IsLevel (F.may l.now.below.now) (F.gives l.now.below.now) l.now.r.now l.now.levels }
     requires facts { KnownFacts (defs_in l.now.r.now) at.now.ctx.now.0 }
     requires term { IsTrue (known (defs_in l.now.r.now) t.now) }
     requires call { t.now ≡ Call f.now us.now }

@@ -33,6 +33,55 @@ pub struct Place<'a> {
 /// What something that may not apply came to: `None` where the steps ran out, `Some(None)` where it doesn't apply.
 pub type Tried<T> = Option<Option<T>>;
 
+/// What rewrites a term one level deeper. `None` where the steps run out.
+pub trait Below {
+    ghost use denote.Ref.{Bor, MutBor};
+    ghost use Rattle.std.specs.Prelude.{Option, Result};
+    ghost use Rattle.std.specs.declared.alloc.AllocError.{AllocError};
+    ghost use Rattle.ap_term.specs.declared.steps.Steps.{Steps};
+    ghost use Rattle.ap_term.specs.declared.term.Term.{Term};
+    ghost use Rattle.ap_kernel.specs.declared.objects.Equiv.{Equiv};
+    ghost use Rattle.ap_kernel.specs.declared.objects.Mode.{Mode};
+    ghost use Rattle.ap_rewrite.specs.declared.rewriter.Place.{Place};
+
+    ghost may: { Self → MutBor Steps → Mode → Bor Place → Bor Term → Type 0 };
+
+    ghost gives: { Self → MutBor Steps → Mode → Bor Place → Bor Term → Result (Option Equiv) AllocError → MutBor Steps → Type 0 };
+
+    /// The term, under a mode, where it stands.
+    fn rewrite(
+        &self,
+        steps: &mut Steps,
+        mode: Mode,
+        at: &Place<'_>,
+        t: &Term,
+    ) -> Result<Option<Equiv>, NoMemory>
+        requires { may self.now steps mode at t }
+        ensures { gives self.now steps.entry mode at.entry t.entry result steps.exit };
+}
+
+/// A closure, where it may be called.
+impl<F: Fn(&mut Steps, Mode, &Place<'_>, &Term) -> Result<Option<Equiv>, NoMemory>> Below for F {
+    ghost use denote.Ref.{Bor, MutBor};
+    ghost use Rattle.std.specs.Prelude.{◌≡◌};
+    ghost use Rattle.ap_term.specs.declared.steps.Steps.{Steps};
+    ghost use Rattle.ap_rewrite.specs.declared.rewriter.Place.{Place};
+
+    ghost may = { λ f s o p t. (y : MutBor Steps) (q : Bor Place) → y.now ≡ s.now → q.now ≡ p.now → F.pre f y o q t };
+
+    ghost gives = { λ f s o p t a u. (y : MutBor Steps) × (q : Bor Place) × (y.now ≡ s.now) × (q.now ≡ p.now) × ((v : MutBor Steps) × (v.now ≡ u.now) × F.post f y o q t a v) };
+
+    fn rewrite(
+        &self,
+        steps: &mut Steps,
+        mode: Mode,
+        at: &Place<'_>,
+        t: &Term,
+    ) -> Result<Option<Equiv>, NoMemory> {
+        self(steps, mode, at, t)
+    }
+}
+
 /// How the terms within a term are rewritten: with so many levels left, by `below`.
 #[derive_where(Clone, Copy)]
 pub struct Level<'a, 'b, O, F> {
@@ -42,21 +91,18 @@ pub struct Level<'a, 'b, O, F> {
 }
 
 /// A term one level deeper. `None` where the steps run out.
-pub fn deeper<
-    O: TypeOracle,
-    F: Fn(&mut Steps, Mode, &Place<'_>, &Term) -> Result<Option<Equiv>, NoMemory>,
->(
+pub fn deeper<O: TypeOracle, F: Below>(
     l: &Level<'_, '_, O, F>,
     steps: &mut Steps,
     mode: Mode,
     at: &Place<'_>,
     t: &Term,
 ) -> Result<Option<Equiv>, NoMemory>
-    requires level { IsLevel (F.pre l.now.below.now) (F.post l.now.below.now) l.now.r.now l.now.levels }
+    requires level { IsLevel (F.may l.now.below.now) (F.gives l.now.below.now) l.now.r.now l.now.levels }
     requires facts { KnownFacts (defs_in l.now.r.now) at.now.ctx.now.0 }
     requires term { IsTrue (known (defs_in l.now.r.now) t.now) }
     ensures is { IfOk result (λ o. got o steps.new.left ≡ inner_of l.now.r.now l.now.levels mode (seen_at at.now) t.now steps.old.left) }
     ensures from { IfOk result (λ o. IfSome o (From l.now.r.now.w.now mode at.now.ctx.now t.now)) }
 {
-    (l.below)(steps, mode, at, t)
+    l.below.rewrite(steps, mode, at, t)
 }

@@ -9,23 +9,20 @@ ghost use Rattle.ap_rewrite.specs.Answering.{defs_in, Ready, setting_of, inner_o
 
 use crate::branching::{rewrite_if, rewrite_not};
 use crate::calls::rewrite_call;
-use crate::rewriter::{Level, Place, Rewriter};
+use crate::rewriter::{Below, Level, Place, Rewriter};
 use crate::rows::{as_constant, settled_by_type, stay};
 use ap_kernel::{Equiv, LinearOracle, Mode, NoMemory, ShapeRef, Term, TypeOracle, shape_of};
 use ap_term::Steps;
 
 /// A variable, a constant, or a call that is no `if` and no negation.
-fn rewrite_parts<
-    O: TypeOracle + LinearOracle,
-    F: Fn(&mut Steps, Mode, &Place<'_>, &Term) -> Result<Option<Equiv>, NoMemory>,
->(
+fn rewrite_parts<O: TypeOracle + LinearOracle, F: Below>(
     l: &Level<'_, '_, O, F>,
     steps: &mut Steps,
     mode: Mode,
     at: &Place<'_>,
     t: &Term,
 ) -> Result<Option<Equiv>, NoMemory>
-    requires level { IsLevel (F.pre l.now.below.now) (F.post l.now.below.now) l.now.r.now l.now.levels }
+    requires level { IsLevel (F.may l.now.below.now) (F.gives l.now.below.now) l.now.r.now l.now.levels }
     requires facts { KnownFacts (defs_in l.now.r.now) at.now.ctx.now.0 }
     requires term { IsTrue (known (defs_in l.now.r.now) t.now) }
     ensures is { IfOk result (λ o. got o steps.new.left ≡ rewrite_parts (setting_of l.now.r.now) (inner_of l.now.r.now l.now.levels) mode (seen_at at.now) t.now (out-Term t.now) steps.old.left) }
@@ -45,17 +42,14 @@ fn rewrite_parts<
 }
 
 /// A term by what it is.
-fn rewrite_shape<
-    O: TypeOracle + LinearOracle,
-    F: Fn(&mut Steps, Mode, &Place<'_>, &Term) -> Result<Option<Equiv>, NoMemory>,
->(
+fn rewrite_shape<O: TypeOracle + LinearOracle, F: Below>(
     l: &Level<'_, '_, O, F>,
     steps: &mut Steps,
     mode: Mode,
     at: &Place<'_>,
     t: &Term,
 ) -> Result<Option<Equiv>, NoMemory>
-    requires level { IsLevel (F.pre l.now.below.now) (F.post l.now.below.now) l.now.r.now l.now.levels }
+    requires level { IsLevel (F.may l.now.below.now) (F.gives l.now.below.now) l.now.r.now l.now.levels }
     requires facts { KnownFacts (defs_in l.now.r.now) at.now.ctx.now.0 }
     requires term { IsTrue (known (defs_in l.now.r.now) t.now) }
     ensures is { IfOk result (λ o. got o steps.new.left ≡ rewrite_shape (setting_of l.now.r.now) (inner_of l.now.r.now l.now.levels) mode (seen_at at.now) t.now (shape_of t.now) steps.old.left) }

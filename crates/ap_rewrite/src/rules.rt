@@ -29,7 +29,7 @@ use crate::engines::answered;
 use crate::facts::{Relieved, by_sign, is_bound};
 use crate::laws::search_by_head;
 use crate::ordering::{fits_mode, in_order_first, in_order_then};
-use crate::rewriter::{Level, Place, Rewriter, Tried, deeper};
+use crate::rewriter::{Below, Level, Place, Rewriter, Tried, deeper};
 use crate::settling::{in_mode, to_true};
 use crate::sizes::is_small;
 use ap_kernel::{
@@ -51,17 +51,14 @@ pub(crate) struct Reliefs {
 }
 
 /// The instance of a hypothesis, rewritten within one hypothesis more.
-fn rewrite_instance<
-    O: TypeOracle,
-    F: Fn(&mut Steps, Mode, &Place<'_>, &Term) -> Result<Option<Equiv>, NoMemory>,
->(
+fn rewrite_instance<O: TypeOracle, F: Below>(
     l: &Level<'_, '_, O, F>,
     steps: &mut Steps,
     at: &Place<'_>,
     h: &Term,
     s: &Subst,
 ) -> Result<Option<Equiv>, NoMemory>
-    requires level { IsLevel (F.pre l.now.below.now) (F.post l.now.below.now) l.now.r.now l.now.levels }
+    requires level { IsLevel (F.may l.now.below.now) (F.gives l.now.below.now) l.now.r.now l.now.levels }
     requires facts { KnownFacts (defs_in l.now.r.now) at.now.ctx.now.0 }
     requires hyp { IsTrue (known (defs_in l.now.r.now) h.now) }
     requires pairs { KnownPairs (defs_in l.now.r.now) s.now.0 }
@@ -98,17 +95,14 @@ fn where_true(alloc: Global, w: &World, q: Equiv, s: Subst) -> Result<Option<Rel
 
 /// A hypothesis whose variables all have terms: its instance is rewritten, within one hypothesis more, and has to
 /// become a constant other than `nil`.
-fn by_rewriting<
-    O: TypeOracle,
-    F: Fn(&mut Steps, Mode, &Place<'_>, &Term) -> Result<Option<Equiv>, NoMemory>,
->(
+fn by_rewriting<O: TypeOracle, F: Below>(
     l: &Level<'_, '_, O, F>,
     steps: &mut Steps,
     at: &Place<'_>,
     h: &Term,
     s: Subst,
 ) -> Result<Tried<Relieved>, NoMemory>
-    requires level { IsLevel (F.pre l.now.below.now) (F.post l.now.below.now) l.now.r.now l.now.levels }
+    requires level { IsLevel (F.may l.now.below.now) (F.gives l.now.below.now) l.now.r.now l.now.levels }
     requires facts { KnownFacts (defs_in l.now.r.now) at.now.ctx.now.0 }
     requires hyp { IsTrue (known (defs_in l.now.r.now) h.now) }
     requires pairs { KnownPairs (defs_in l.now.r.now) s.0 }
@@ -126,17 +120,14 @@ fn by_rewriting<
 
 /// One hypothesis: an instance that becomes a constant other than `nil`, or, with variables that have no term, a fact,
 /// which gives them theirs.
-fn relieve_one<
-    O: TypeOracle,
-    F: Fn(&mut Steps, Mode, &Place<'_>, &Term) -> Result<Option<Equiv>, NoMemory>,
->(
+fn relieve_one<O: TypeOracle, F: Below>(
     l: &Level<'_, '_, O, F>,
     steps: &mut Steps,
     at: &Place<'_>,
     h: &Term,
     s: Subst,
 ) -> Result<Tried<Relieved>, NoMemory>
-    requires level { IsLevel (F.pre l.now.below.now) (F.post l.now.below.now) l.now.r.now l.now.levels }
+    requires level { IsLevel (F.may l.now.below.now) (F.gives l.now.below.now) l.now.r.now l.now.levels }
     requires facts { KnownFacts (defs_in l.now.r.now) at.now.ctx.now.0 }
     requires hyp { IsTrue (known (defs_in l.now.r.now) h.now) }
     requires pairs { KnownPairs (defs_in l.now.r.now) s.0 }
@@ -152,17 +143,14 @@ fn relieve_one<
 }
 
 /// The hypotheses from left to right, each only where fewer than ten are being relieved around it.
-pub(crate) fn relieve<
-    O: TypeOracle,
-    F: Fn(&mut Steps, Mode, &Place<'_>, &Term) -> Result<Option<Equiv>, NoMemory>,
->(
+pub(crate) fn relieve<O: TypeOracle, F: Below>(
     l: &Level<'_, '_, O, F>,
     steps: &mut Steps,
     at: &Place<'_>,
     hs: &[Term],
     s: Subst,
 ) -> Result<Tried<Reliefs>, NoMemory>
-    requires level { IsLevel (F.pre l.now.below.now) (F.post l.now.below.now) l.now.r.now l.now.levels }
+    requires level { IsLevel (F.may l.now.below.now) (F.gives l.now.below.now) l.now.r.now l.now.levels }
     requires facts { KnownFacts (defs_in l.now.r.now) at.now.ctx.now.0 }
     requires hyps { Each (λ h. IsTrue (known (defs_in l.now.r.now) h)) hs.now }
     requires pairs { KnownPairs (defs_in l.now.r.now) s.0 }
@@ -216,10 +204,7 @@ fn applied<O: TypeOracle>(
 }
 
 /// The instance of a rule's right side, which is rewritten, where it isn't too large.
-fn right<
-    O: TypeOracle,
-    F: Fn(&mut Steps, Mode, &Place<'_>, &Term) -> Result<Option<Equiv>, NoMemory>,
->(
+fn right<O: TypeOracle, F: Below>(
     l: &Level<'_, '_, O, F>,
     steps: &mut Steps,
     mode: Mode,
@@ -227,7 +212,7 @@ fn right<
     g: &RewriteRule,
     found: Reliefs,
 ) -> Result<Tried<Equiv>, NoMemory>
-    requires level { IsLevel (F.pre l.now.below.now) (F.post l.now.below.now) l.now.r.now l.now.levels }
+    requires level { IsLevel (F.may l.now.below.now) (F.gives l.now.below.now) l.now.r.now l.now.levels }
     requires facts { KnownFacts (defs_in l.now.r.now) at.now.ctx.now.0 }
     requires rule { IsRuleOf l.now.r.now.w.now (rule_in g.now) }
     requires fits { IsTrue (fits_mode mode (rule_in g.now)) }
@@ -244,10 +229,7 @@ fn right<
 }
 
 /// A rule whose hypotheses are relieved, where it is in order, if that couldn't be told before.
-fn relieved<
-    O: TypeOracle,
-    F: Fn(&mut Steps, Mode, &Place<'_>, &Term) -> Result<Option<Equiv>, NoMemory>,
->(
+fn relieved<O: TypeOracle, F: Below>(
     l: &Level<'_, '_, O, F>,
     steps: &mut Steps,
     mode: Mode,
@@ -256,7 +238,7 @@ fn relieved<
     g: &RewriteRule,
     found: Reliefs,
 ) -> Result<Tried<Equiv>, NoMemory>
-    requires level { IsLevel (F.pre l.now.below.now) (F.post l.now.below.now) l.now.r.now l.now.levels }
+    requires level { IsLevel (F.may l.now.below.now) (F.gives l.now.below.now) l.now.r.now l.now.levels }
     requires facts { KnownFacts (defs_in l.now.r.now) at.now.ctx.now.0 }
     requires rule { IsRuleOf l.now.r.now.w.now (rule_in g.now) }
     requires fits { IsTrue (fits_mode mode (rule_in g.now)) }
@@ -272,10 +254,7 @@ fn relieved<
 }
 
 /// A rule whose left side matches, where it is in order and its hypotheses are relieved.
-fn apply<
-    O: TypeOracle,
-    F: Fn(&mut Steps, Mode, &Place<'_>, &Term) -> Result<Option<Equiv>, NoMemory>,
->(
+fn apply<O: TypeOracle, F: Below>(
     l: &Level<'_, '_, O, F>,
     steps: &mut Steps,
     mode: Mode,
@@ -284,7 +263,7 @@ fn apply<
     g: &RewriteRule,
     s: Subst,
 ) -> Result<Tried<Equiv>, NoMemory>
-    requires level { IsLevel (F.pre l.now.below.now) (F.post l.now.below.now) l.now.r.now l.now.levels }
+    requires level { IsLevel (F.may l.now.below.now) (F.gives l.now.below.now) l.now.r.now l.now.levels }
     requires facts { KnownFacts (defs_in l.now.r.now) at.now.ctx.now.0 }
     requires term { IsTrue (known (defs_in l.now.r.now) t.now) }
     requires rule { IsRuleOf l.now.r.now.w.now (rule_in g.now) }
@@ -311,10 +290,7 @@ fn may_serve(theory: &Theory, mode: Mode, g: &RewriteRule) -> bool
 }
 
 /// A rule that the theory enables and that serves under the mode.
-fn try_rule<
-    O: TypeOracle,
-    F: Fn(&mut Steps, Mode, &Place<'_>, &Term) -> Result<Option<Equiv>, NoMemory>,
->(
+fn try_rule<O: TypeOracle, F: Below>(
     l: &Level<'_, '_, O, F>,
     steps: &mut Steps,
     mode: Mode,
@@ -322,7 +298,7 @@ fn try_rule<
     t: &Term,
     g: &RewriteRule,
 ) -> Result<Tried<Equiv>, NoMemory>
-    requires level { IsLevel (F.pre l.now.below.now) (F.post l.now.below.now) l.now.r.now l.now.levels }
+    requires level { IsLevel (F.may l.now.below.now) (F.gives l.now.below.now) l.now.r.now l.now.levels }
     requires facts { KnownFacts (defs_in l.now.r.now) at.now.ctx.now.0 }
     requires term { IsTrue (known (defs_in l.now.r.now) t.now) }
     requires rule { IsRuleOf l.now.r.now.w.now (rule_in g.now) }
@@ -340,10 +316,7 @@ fn try_rule<
 }
 
 /// The first of some rules that applies.
-fn each_rule<
-    O: TypeOracle,
-    F: Fn(&mut Steps, Mode, &Place<'_>, &Term) -> Result<Option<Equiv>, NoMemory>,
->(
+fn each_rule<O: TypeOracle, F: Below>(
     l: &Level<'_, '_, O, F>,
     steps: &mut Steps,
     mode: Mode,
@@ -351,7 +324,7 @@ fn each_rule<
     t: &Term,
     gs: &[RewriteRule],
 ) -> Result<Tried<Equiv>, NoMemory>
-    requires level { IsLevel (F.pre l.now.below.now) (F.post l.now.below.now) l.now.r.now l.now.levels }
+    requires level { IsLevel (F.may l.now.below.now) (F.gives l.now.below.now) l.now.r.now l.now.levels }
     requires facts { KnownFacts (defs_in l.now.r.now) at.now.ctx.now.0 }
     requires term { IsTrue (known (defs_in l.now.r.now) t.now) }
     requires rules { Each (IsRuleOf l.now.r.now.w.now) (map rule_in gs.now) }
@@ -369,10 +342,7 @@ fn each_rule<
 }
 
 /// The first rule that applies, from the newest on.
-pub fn by_rules<
-    O: TypeOracle,
-    F: Fn(&mut Steps, Mode, &Place<'_>, &Term) -> Result<Option<Equiv>, NoMemory>,
->(
+pub fn by_rules<O: TypeOracle, F: Below>(
     l: &Level<'_, '_, O, F>,
     steps: &mut Steps,
     mode: Mode,
@@ -381,7 +351,7 @@ pub fn by_rules<
     f: &Symbol,
     us: &[Term],
 ) -> Result<Tried<Equiv>, NoMemory>
-    requires level { IsLevel (F.pre l.now.below.now) (F.post l.now.below.now) l.now.r.now l.now.levels }
+    requires level { IsLevel (F.may l.now.below.now) (F.gives l.now.below.now) l.now.r.now l.now.levels }
     requires facts { KnownFacts (defs_in l.now.r.now) at.now.ctx.now.0 }
     requires term { IsTrue (known (defs_in l.now.r.now) t.now) }
     requires call { t.now ≡ Call f.now us.now }
