@@ -1,5 +1,5 @@
 -- A call that is opened by its test first.
-use Rattle.std.proofs.Common.{◌≡◌, ℕ, ◌*◌, true, false, List, [], ◌∷◌, zip, Option, Some, None, Result, Ok, Err, IfOk, is_some, nat_le, true≢false, sym, ap, ◌∙◌, subst}
+use Rattle.std.proofs.Common.{◌≡◌, ℕ, Bool, ◌*◌, true, false, List, [], ◌∷◌, zip, Option, Some, None, Result, Ok, Err, IfOk, is_some, nat_le, true≢false, sym, ap, ◌∙◌, subst}
 use Rattle.std.specs.declared.alloc.AllocError.{AllocError}
 use denote.Ref.{Bor}
 use Rattle.ap_list.specs.Lists.{Each, is_among}
@@ -90,10 +90,11 @@ module _ (S : Setting) (r : Inner) (o : Mode) (p : Place) where
   abbrev pub From_steps : Result (Option (Option Equiv)) AllocError → ℕ → Place → Term → Term → Term → ℕ → Type 0
   From_steps x k q u a v m = IfOk x (λ y. (n : ℕ) → Some (v, m) ≡ r Iff p a n → got_any y k ≡ walk S r o p q u false n)
 
-  pub past_steps : (q : Place) (u a b c v : Term) (m k : ℕ) (x : Result (Option (Option Equiv)) AllocError) → u ≡ if_of a b c
-      → IfOk x (λ y. got_any y k ≡ walk_on S r o p q false v (truth_of v) (b, walk S r o p q b) (c, walk S r o p q c) m) → From_steps x k q u a v m
-  past_steps q u a b c v m k (Ok y) is h = λ n e. h ∙ walk_past S r o p q u a b c v false n m is e
-  past_steps q u a b c v m k (Err e) is h = tt
+  pub past_steps : (q : Place) (u a b c v : Term) (taken : Bool) (m k : ℕ) (x : Result (Option (Option Equiv)) AllocError) → u ≡ if_of a b c
+      → IfOk x (λ y. got_any y k ≡ walk_on S r o p q taken v (truth_of v) (b, walk S r o p q b) (c, walk S r o p q c) m)
+      → IfOk x (λ y. (n : ℕ) → Some (v, m) ≡ r Iff p a n → got_any y k ≡ walk S r o p q u taken n)
+  past_steps q u a b c v taken m k (Ok y) is h = λ n e. h ∙ walk_past S r o p q u a b c v taken n m is e
+  past_steps q u a b c v taken m k (Err e) is h = tt
 
   same_instance : (x : Option Term) (u w : Term) → Some u ≡ x → x ≡ Some w → u ≡ w
   same_instance x u w e h = let same : ◌≡◌ {A = Option Term} (Some u) (Some w) = e ∙ h in cc

@@ -36,7 +36,7 @@ use Rattle.ap_rewrite.specs.Arithmetic.{is_usable}
 use Rattle.ap_rewrite.specs.Settings.{Setting, Inner, under, closing, Place as Stood}
 use Rattle.ap_rewrite.specs.InWorld.{world_setting}
 use Rattle.ap_rewrite.specs.Linear.{at_atoms, by_arithmetic}
-use Rattle.ap_rewrite.specs.Rewriting.{answered, none, settle, equate, both, walk, by_rules, by_definition, rewrite_to}
+use Rattle.ap_rewrite.specs.Rewriting.{answered, none, truth_of, settle, equate, both, walk, walk_on, by_rules, by_definition, rewrite_to}
 
 -- the world, and its definitions
 abbrev pub world_of : {O : Type 0} → Rewriter O → Shown
@@ -129,6 +129,10 @@ leaf_on r o p u false n = none n
 abbrev pub ends_on : Setting → Inner → Mode → Stood → Bool → Term → Term → Term → By (Option Term)
 ends_on S r o p true a b c n = answered (both S r o p a b c n)
 ends_on S r o p false a b c n = none n
+
+-- on from an `if` whose test has become a term
+abbrev pub past_if : Setting → Inner → Mode → Stood → Stood → Bool → Term → Term → Term → By (Option Term)
+past_if S r o p q taken a b c n = walk_on S r o p q taken a (truth_of a) (b, walk S r o p q b) (c, walk S r o p q c) n
 
 -- the instance of the body of a function that recurs, to which a call leads: where one stands within
 abbrev pub open_within : Setting → Inner → Mode → Stood → Stood → Term → Term → By (Option Term)

@@ -6,7 +6,7 @@ ghost use Rattle.ap_term.specs.Metered.{first_that};
 ghost use Rattle.ap_world.specs.Facts.{KnownFacts};
 ghost use Rattle.ap_world.specs.Sound.{known};
 ghost use Rattle.ap_rewrite.specs.Rewriting.{led, equate, tried};
-ghost use Rattle.ap_rewrite.specs.Answering.{defs_in, setting_of, inner_of, seen_at, got_any, from_settling, from_equating, from_arithmetic, from_rules, From, IsLevel};
+ghost use Rattle.ap_rewrite.specs.Answering.{defs_in, setting_of, inner_of, seen_at, got_any, From, IsLevel};
 
 use crate::arithmetic::by_arithmetic;
 use crate::branching::go_on;
@@ -69,101 +69,6 @@ fn equate<O: TypeOracle, F: Below>(
     }
 }
 
-/// What is tried after arithmetic: rules, and then the definition.
-fn after_arithmetic<O: TypeOracle, F: Below>(
-    l: &Level<'_, '_, O, F>,
-    steps: &mut Steps,
-    mode: Mode,
-    at: &Place<'_>,
-    t: &Term,
-    f: &Symbol,
-    us: &[Term],
-) -> Result<Tried<Equiv>, NoMemory>
-    requires level { IsLevel (F.may l.now.below.now) (F.gives l.now.below.now) l.now.r.now l.now.levels }
-    requires facts { KnownFacts (defs_in l.now.r.now) at.now.ctx.now.0 }
-    requires term { IsTrue (known (defs_in l.now.r.now) t.now) }
-    requires call { t.now ≡ Call f.now us.now }
-    ensures is { IfOk result (λ o. got_any o steps.new.left ≡ first_that (from_rules (setting_of l.now.r.now) (inner_of l.now.r.now l.now.levels) mode (seen_at at.now) f.now us.now) steps.old.left) }
-    ensures from { IfOk result (λ o. IfSome o (λ a. IfSome a (From l.now.r.now.w.now mode at.now.ctx.now t.now))) }
-{
-    match by_rules(l, steps, mode, at, t, f, us)? {
-        None => Ok(None),
-        Some(Some(q)) => Ok(Some(Some(q))),
-        Some(None) => by_definition(l, steps, mode, at, t, f, us),
-    }
-}
-
-/// What is tried after equations: arithmetic, and then rules and the definition.
-fn after_equating<O: TypeOracle + LinearOracle, F: Below>(
-    l: &Level<'_, '_, O, F>,
-    steps: &mut Steps,
-    mode: Mode,
-    at: &Place<'_>,
-    t: &Term,
-    f: &Symbol,
-    us: &[Term],
-) -> Result<Tried<Equiv>, NoMemory>
-    requires level { IsLevel (F.may l.now.below.now) (F.gives l.now.below.now) l.now.r.now l.now.levels }
-    requires facts { KnownFacts (defs_in l.now.r.now) at.now.ctx.now.0 }
-    requires term { IsTrue (known (defs_in l.now.r.now) t.now) }
-    requires call { t.now ≡ Call f.now us.now }
-    ensures is { IfOk result (λ o. got_any o steps.new.left ≡ first_that (from_arithmetic (setting_of l.now.r.now) (inner_of l.now.r.now l.now.levels) mode (seen_at at.now) f.now us.now) steps.old.left) }
-    ensures from { IfOk result (λ o. IfSome o (λ a. IfSome a (From l.now.r.now.w.now mode at.now.ctx.now t.now))) }
-{
-    match by_arithmetic(l, steps, mode, at, t, f, us)? {
-        None => Ok(None),
-        Some(Some(q)) => Ok(Some(Some(q))),
-        Some(None) => after_arithmetic(l, steps, mode, at, t, f, us),
-    }
-}
-
-/// What is tried after settling: equations, and so on.
-fn after_settling<O: TypeOracle + LinearOracle, F: Below>(
-    l: &Level<'_, '_, O, F>,
-    steps: &mut Steps,
-    mode: Mode,
-    at: &Place<'_>,
-    t: &Term,
-    f: &Symbol,
-    us: &[Term],
-) -> Result<Tried<Equiv>, NoMemory>
-    requires level { IsLevel (F.may l.now.below.now) (F.gives l.now.below.now) l.now.r.now l.now.levels }
-    requires facts { KnownFacts (defs_in l.now.r.now) at.now.ctx.now.0 }
-    requires term { IsTrue (known (defs_in l.now.r.now) t.now) }
-    requires call { t.now ≡ Call f.now us.now }
-    ensures is { IfOk result (λ o. got_any o steps.new.left ≡ first_that (from_equating (setting_of l.now.r.now) (inner_of l.now.r.now l.now.levels) mode (seen_at at.now) f.now us.now) steps.old.left) }
-    ensures from { IfOk result (λ o. IfSome o (λ a. IfSome a (From l.now.r.now.w.now mode at.now.ctx.now t.now))) }
-{
-    match equate(l, steps, mode, at, t)? {
-        None => Ok(None),
-        Some(Some(q)) => Ok(Some(Some(q))),
-        Some(None) => after_equating(l, steps, mode, at, t, f, us),
-    }
-}
-
-/// What is tried after running: settling, and so on.
-fn after_running<O: TypeOracle + LinearOracle, F: Below>(
-    l: &Level<'_, '_, O, F>,
-    steps: &mut Steps,
-    mode: Mode,
-    at: &Place<'_>,
-    t: &Term,
-    f: &Symbol,
-    us: &[Term],
-) -> Result<Tried<Equiv>, NoMemory>
-    requires level { IsLevel (F.may l.now.below.now) (F.gives l.now.below.now) l.now.r.now l.now.levels }
-    requires facts { KnownFacts (defs_in l.now.r.now) at.now.ctx.now.0 }
-    requires term { IsTrue (known (defs_in l.now.r.now) t.now) }
-    requires call { t.now ≡ Call f.now us.now }
-    ensures is { IfOk result (λ o. got_any o steps.new.left ≡ first_that (from_settling (setting_of l.now.r.now) (inner_of l.now.r.now l.now.levels) mode (seen_at at.now) f.now us.now) steps.old.left) }
-    ensures from { IfOk result (λ o. IfSome o (λ a. IfSome a (From l.now.r.now.w.now mode at.now.ctx.now t.now))) }
-{
-    match settles(l.r, at.ctx, mode, t)? {
-        Some(q) => Ok(Some(Some(q))),
-        None => after_settling(l, steps, mode, at, t, f, us),
-    }
-}
-
 /// What is tried on a call: running it, settling it by its type, leading an equation on, linear arithmetic, rules, its
 /// definition; the first that applies.
 pub fn tried<O: TypeOracle + LinearOracle, F: Below>(
@@ -182,8 +87,26 @@ pub fn tried<O: TypeOracle + LinearOracle, F: Below>(
     ensures is { IfOk result (λ o. got_any o steps.new.left ≡ first_that (tried (setting_of l.now.r.now) (inner_of l.now.r.now l.now.levels) mode (seen_at at.now) f.now us.now) steps.old.left) }
     ensures from { IfOk result (λ o. IfSome o (λ a. IfSome a (From l.now.r.now.w.now mode at.now.ctx.now t.now))) }
 {
-    match ran(l.r, at.ctx, mode, t, f, us)? {
-        Some(q) => Ok(Some(Some(q))),
-        None => after_running(l, steps, mode, at, t, f, us),
+    if let Some(q) = ran(l.r, at.ctx, mode, t, f, us)? {
+        return Ok(Some(Some(q)));
     }
+    if let Some(q) = settles(l.r, at.ctx, mode, t)? {
+        return Ok(Some(Some(q)));
+    }
+    match equate(l, steps, mode, at, t)? {
+        None => return Ok(None),
+        Some(Some(q)) => return Ok(Some(Some(q))),
+        Some(None) => {}
+    }
+    match by_arithmetic(l, steps, mode, at, t, f, us)? {
+        None => return Ok(None),
+        Some(Some(q)) => return Ok(Some(Some(q))),
+        Some(None) => {}
+    }
+    match by_rules(l, steps, mode, at, t, f, us)? {
+        None => return Ok(None),
+        Some(Some(q)) => return Ok(Some(Some(q))),
+        Some(None) => {}
+    }
+    by_definition(l, steps, mode, at, t, f, us)
 }

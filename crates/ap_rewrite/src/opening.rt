@@ -13,8 +13,8 @@ ghost use Rattle.ap_kernel.specs.Answers.{if_of};
 ghost use Rattle.ap_kernel.specs.declared.objects.Mode.TheVariants.{Iff};
 ghost use Rattle.ap_kernel.specs.Opening.{body_at, opened};
 ghost use Rattle.ap_rewrite.specs.Settings.{closing};
-ghost use Rattle.ap_rewrite.specs.Rewriting.{most_nodes, truth_of, is_recursive, both, walk, walk_on, answered, open_instance, opened as opening, by_definition};
-ghost use Rattle.ap_rewrite.specs.Answering.{defs_in, Ready, setting_of, inner_of, seen_at, got, got_any, leaf_on, ends_on, open_within, open_closed, From, IsLevel};
+ghost use Rattle.ap_rewrite.specs.Rewriting.{most_nodes, truth_of, is_recursive, both, walk, answered, open_instance, opened as opening, by_definition};
+ghost use Rattle.ap_rewrite.specs.Answering.{defs_in, Ready, setting_of, inner_of, seen_at, got, got_any, leaf_on, ends_on, past_if, open_within, open_closed, From, IsLevel};
 
 use crate::branching::{both, choose, go_on};
 use crate::engines::answered;
@@ -28,6 +28,24 @@ use ap_term::{Steps, copy_term, is_among, is_term_among};
 use ap_value::copy_symbol;
 use ap_world::{Function, RuneKind};
 use std::alloc::Global;
+
+/// The way down the body of a function that recurs: under which mode, from where the call stands, to where its body
+/// does, in which the function is closed; and whether a branch was taken.
+#[derive(Clone, Copy)]
+struct Way<'a> {
+    mode: Mode,
+    at: &'a Place<'a>,
+    inner: &'a Place<'a>,
+    taken: bool,
+}
+
+/// A call: the term, its head and its arguments.
+#[derive(Clone, Copy)]
+struct Called<'a> {
+    t: &'a Term,
+    f: &'a Symbol,
+    us: &'a [Term],
+}
 
 /// A list of symbols with one more in front.
 fn closing(alloc: Global, f: &Symbol, closed: &[Symbol]) -> Result<Seq<Symbol>, NoMemory>
@@ -44,8 +62,7 @@ fn closing(alloc: Global, f: &Symbol, closed: &[Symbol]) -> Result<Seq<Symbol>, 
 /// On from an `if` into the branch that the constant chooses which its test has become.
 fn step_down<O: TypeOracle>(
     r: &Rewriter<'_, O>,
-    ctx: &Ctx,
-    mode: Mode,
+    way: &Way<'_>,
     sofar: Equiv,
     test: Equiv,
     sign: bool,
@@ -53,16 +70,16 @@ fn step_down<O: TypeOracle>(
     c: &Term,
 ) -> Result<Equiv, NoMemory>
     requires ready { Ready r.now }
-    requires facts { KnownFacts (defs_in r.now) ctx.now.0 }
-    requires sofar { From r.now.w.now mode ctx.now sofar.says.lhs sofar }
-    requires test { From r.now.w.now Iff ctx.now test.says.lhs test }
+    requires facts { KnownFacts (defs_in r.now) way.now.at.now.ctx.now.0 }
+    requires sofar { From r.now.w.now way.now.mode way.now.at.now.ctx.now sofar.says.lhs sofar }
+    requires test { From r.now.w.now Iff way.now.at.now.ctx.now test.says.lhs test }
     requires sign { truth_of test.says.rhs ≡ Some sign }
     requires choice { sofar.says.rhs ≡ if_of test.says.lhs b.now c.now }
     ensures is { IfOk result (λ q. q.says.rhs ≡ cond sign b.now c.now) }
-    ensures from { IfOk result (From r.now.w.now mode ctx.now sofar.says.lhs) }
+    ensures from { IfOk result (From r.now.w.now way.now.mode way.now.at.now.ctx.now sofar.says.lhs) }
 {
-    let branch = choose(r, ctx, mode, test, sign, b, c)?;
-    let next = follow(r, ctx, mode, sofar, branch)?;
+    let branch = choose(r, way.at.ctx, way.mode, test, sign, b, c)?;
+    let next = follow(r, way.at.ctx, way.mode, sofar, branch)?;
     Ok(next)
 }
 
@@ -72,30 +89,37 @@ fn step_down<O: TypeOracle>(
 fn walk_on<O: TypeOracle, F: Below>(
     l: &Level<'_, '_, O, F>,
     steps: &mut Steps,
-    mode: Mode,
-    at: &Place<'_>,
-    inner: &Place<'_>,
+    way: &Way<'_>,
     sofar: Equiv,
-    taken: bool,
     test: Equiv,
     b: &Term,
     c: &Term,
 ) -> Result<Tried<Equiv>, NoMemory>
     requires level { IsLevel (F.may l.now.below.now) (F.gives l.now.below.now) l.now.r.now l.now.levels }
-    requires facts { KnownFacts (defs_in l.now.r.now) at.now.ctx.now.0 }
-    requires inner { inner.now.ctx.now ≡ at.now.ctx.now }
-    requires sofar { From l.now.r.now.w.now mode at.now.ctx.now sofar.says.lhs sofar }
-    requires test { From l.now.r.now.w.now Iff at.now.ctx.now test.says.lhs test }
+    requires facts { KnownFacts (defs_in l.now.r.now) way.now.at.now.ctx.now.0 }
+    requires inner { way.now.inner.now.ctx.now ≡ way.now.at.now.ctx.now }
+    requires sofar { From l.now.r.now.w.now way.now.mode way.now.at.now.ctx.now sofar.says.lhs sofar }
+    requires test { From l.now.r.now.w.now Iff way.now.at.now.ctx.now test.says.lhs test }
     requires choice { sofar.says.rhs ≡ if_of test.says.lhs b.now c.now }
-    ensures is { IfOk result (λ o. got_any o steps.new.left ≡ walk_on (setting_of l.now.r.now) (inner_of l.now.r.now l.now.levels) mode (seen_at at.now) (seen_at inner.now) taken test.says.rhs (truth_of test.says.rhs) (b.now, walk (setting_of l.now.r.now) (inner_of l.now.r.now l.now.levels) mode (seen_at at.now) (seen_at inner.now) b.now) (c.now, walk (setting_of l.now.r.now) (inner_of l.now.r.now l.now.levels) mode (seen_at at.now) (seen_at inner.now) c.now) steps.old.left) }
-    ensures from { IfOk result (λ o. IfSome o (λ a. IfSome a (From l.now.r.now.w.now mode at.now.ctx.now sofar.says.lhs))) }
+    ensures is { IfOk result (λ o. got_any o steps.new.left
+        ≡ past_if (setting_of l.now.r.now) (inner_of l.now.r.now l.now.levels) way.now.mode
+        (seen_at way.now.at.now) (seen_at way.now.inner.now) way.now.taken test.says.rhs b.now c.now
+        steps.old.left) }
+    ensures from { IfOk result (λ o. IfSome o
+        (λ a. IfSome a (From l.now.r.now.w.now way.now.mode way.now.at.now.ctx.now sofar.says.lhs))) }
 {
     match truth_of(test.rhs()) {
         Some(sign) => {
-            let next = step_down(l.r, at.ctx, mode, sofar, test, sign, b, c)?;
-            walk(l, steps, mode, at, inner, next, true)
+            let next = step_down(l.r, way, sofar, test, sign, b, c)?;
+            let on = Way {
+                mode: way.mode,
+                at: way.at,
+                inner: way.inner,
+                taken: true,
+            };
+            walk(l, steps, &on, next)
         }
-        None => walk_ends(l, steps, mode, inner, sofar, taken, test, b, c),
+        None => walk_ends(l, steps, way, sofar, test, b, c),
     }
 }
 
@@ -103,26 +127,28 @@ fn walk_on<O: TypeOracle, F: Below>(
 fn follow_both<O: TypeOracle, F: Below>(
     l: &Level<'_, '_, O, F>,
     steps: &mut Steps,
-    mode: Mode,
-    at: &Place<'_>,
+    way: &Way<'_>,
     sofar: Equiv,
     test: Equiv,
     b: &Term,
     c: &Term,
 ) -> Result<Tried<Equiv>, NoMemory>
     requires level { IsLevel (F.may l.now.below.now) (F.gives l.now.below.now) l.now.r.now l.now.levels }
-    requires facts { KnownFacts (defs_in l.now.r.now) at.now.ctx.now.0 }
-    requires sofar { From l.now.r.now.w.now mode at.now.ctx.now sofar.says.lhs sofar }
-    requires test { From l.now.r.now.w.now Iff at.now.ctx.now test.says.lhs test }
+    requires facts { KnownFacts (defs_in l.now.r.now) way.now.inner.now.ctx.now.0 }
+    requires sofar { From l.now.r.now.w.now way.now.mode way.now.inner.now.ctx.now sofar.says.lhs sofar }
+    requires test { From l.now.r.now.w.now Iff way.now.inner.now.ctx.now test.says.lhs test }
     requires open { truth_of test.says.rhs ≡ None }
     requires choice { sofar.says.rhs ≡ if_of test.says.lhs b.now c.now }
-    ensures is { IfOk result (λ o. got_any o steps.new.left ≡ answered (both (setting_of l.now.r.now) (inner_of l.now.r.now l.now.levels) mode (seen_at at.now) test.says.rhs b.now c.now steps.old.left)) }
-    ensures from { IfOk result (λ o. IfSome o (λ a. IfSome a (From l.now.r.now.w.now mode at.now.ctx.now sofar.says.lhs))) }
+    ensures is { IfOk result (λ o. got_any o steps.new.left
+        ≡ answered (both (setting_of l.now.r.now) (inner_of l.now.r.now l.now.levels) way.now.mode
+        (seen_at way.now.inner.now) test.says.rhs b.now c.now steps.old.left)) }
+    ensures from { IfOk result (λ o. IfSome o
+        (λ a. IfSome a (From l.now.r.now.w.now way.now.mode way.now.inner.now.ctx.now sofar.says.lhs))) }
 {
-    let Some(more) = both(l, steps, mode, at, sofar.rhs(), test, b, c)? else {
+    let Some(more) = both(l, steps, way.mode, way.inner, sofar.rhs(), test, b, c)? else {
         return Ok(None);
     };
-    let q = follow(l.r, at.ctx, mode, sofar, more)?;
+    let q = follow(l.r, way.inner.ctx, way.mode, sofar, more)?;
     Ok(Some(Some(q)))
 }
 
@@ -130,25 +156,26 @@ fn follow_both<O: TypeOracle, F: Below>(
 fn walk_ends<O: TypeOracle, F: Below>(
     l: &Level<'_, '_, O, F>,
     steps: &mut Steps,
-    mode: Mode,
-    at: &Place<'_>,
+    way: &Way<'_>,
     sofar: Equiv,
-    taken: bool,
     test: Equiv,
     b: &Term,
     c: &Term,
 ) -> Result<Tried<Equiv>, NoMemory>
     requires level { IsLevel (F.may l.now.below.now) (F.gives l.now.below.now) l.now.r.now l.now.levels }
-    requires facts { KnownFacts (defs_in l.now.r.now) at.now.ctx.now.0 }
-    requires sofar { From l.now.r.now.w.now mode at.now.ctx.now sofar.says.lhs sofar }
-    requires test { From l.now.r.now.w.now Iff at.now.ctx.now test.says.lhs test }
+    requires facts { KnownFacts (defs_in l.now.r.now) way.now.inner.now.ctx.now.0 }
+    requires sofar { From l.now.r.now.w.now way.now.mode way.now.inner.now.ctx.now sofar.says.lhs sofar }
+    requires test { From l.now.r.now.w.now Iff way.now.inner.now.ctx.now test.says.lhs test }
     requires open { truth_of test.says.rhs ≡ None }
     requires choice { sofar.says.rhs ≡ if_of test.says.lhs b.now c.now }
-    ensures is { IfOk result (λ o. got_any o steps.new.left ≡ ends_on (setting_of l.now.r.now) (inner_of l.now.r.now l.now.levels) mode (seen_at at.now) taken test.says.rhs b.now c.now steps.old.left) }
-    ensures from { IfOk result (λ o. IfSome o (λ a. IfSome a (From l.now.r.now.w.now mode at.now.ctx.now sofar.says.lhs))) }
+    ensures is { IfOk result (λ o. got_any o steps.new.left
+        ≡ ends_on (setting_of l.now.r.now) (inner_of l.now.r.now l.now.levels) way.now.mode
+        (seen_at way.now.inner.now) way.now.taken test.says.rhs b.now c.now steps.old.left) }
+    ensures from { IfOk result (λ o. IfSome o
+        (λ a. IfSome a (From l.now.r.now.w.now way.now.mode way.now.inner.now.ctx.now sofar.says.lhs))) }
 {
-    if taken {
-        return follow_both(l, steps, mode, at, sofar, test, b, c);
+    if way.taken {
+        return follow_both(l, steps, way, sofar, test, b, c);
     }
     Ok(Some(None))
 }
@@ -158,27 +185,27 @@ fn walk_ends<O: TypeOracle, F: Below>(
 fn walk_body<O: TypeOracle, F: Below>(
     l: &Level<'_, '_, O, F>,
     steps: &mut Steps,
-    mode: Mode,
-    at: &Place<'_>,
-    inner: &Place<'_>,
+    way: &Way<'_>,
     sofar: Equiv,
-    taken: bool,
     body: &Term,
 ) -> Result<Tried<Equiv>, NoMemory>
     requires level { IsLevel (F.may l.now.below.now) (F.gives l.now.below.now) l.now.r.now l.now.levels }
-    requires facts { KnownFacts (defs_in l.now.r.now) at.now.ctx.now.0 }
-    requires inner { inner.now.ctx.now ≡ at.now.ctx.now }
-    requires sofar { From l.now.r.now.w.now mode at.now.ctx.now sofar.says.lhs sofar }
+    requires facts { KnownFacts (defs_in l.now.r.now) way.now.at.now.ctx.now.0 }
+    requires inner { way.now.inner.now.ctx.now ≡ way.now.at.now.ctx.now }
+    requires sofar { From l.now.r.now.w.now way.now.mode way.now.at.now.ctx.now sofar.says.lhs sofar }
     requires body { body.now ≡ sofar.says.rhs }
-    ensures is { IfOk result (λ o. got_any o steps.new.left ≡ walk (setting_of l.now.r.now) (inner_of l.now.r.now l.now.levels) mode (seen_at at.now) (seen_at inner.now) sofar.says.rhs taken steps.old.left) }
-    ensures from { IfOk result (λ o. IfSome o (λ a. IfSome a (From l.now.r.now.w.now mode at.now.ctx.now sofar.says.lhs))) }
+    ensures is { IfOk result (λ o. got_any o steps.new.left
+        ≡ walk (setting_of l.now.r.now) (inner_of l.now.r.now l.now.levels) way.now.mode (seen_at way.now.at.now)
+        (seen_at way.now.inner.now) sofar.says.rhs way.now.taken steps.old.left) }
+    ensures from { IfOk result (λ o. IfSome o
+        (λ a. IfSome a (From l.now.r.now.w.now way.now.mode way.now.at.now.ctx.now sofar.says.lhs))) }
 {
     match shape_of(body) {
-        ShapeRef::If(a, b, c) => match deeper(l, steps, Mode::Iff, at, a)? {
+        ShapeRef::If(a, b, c) => match deeper(l, steps, Mode::Iff, way.at, a)? {
             None => Ok(None),
-            Some(test) => walk_on(l, steps, mode, at, inner, sofar, taken, test, b, c),
+            Some(test) => walk_on(l, steps, way, sofar, test, b, c),
         },
-        _ => walk_stops(l, steps, mode, at, sofar, taken),
+        _ => walk_stops(l, steps, way, sofar),
     }
 }
 
@@ -188,42 +215,43 @@ fn walk_body<O: TypeOracle, F: Below>(
 fn walk<O: TypeOracle, F: Below>(
     l: &Level<'_, '_, O, F>,
     steps: &mut Steps,
-    mode: Mode,
-    at: &Place<'_>,
-    inner: &Place<'_>,
+    way: &Way<'_>,
     sofar: Equiv,
-    taken: bool,
 ) -> Result<Tried<Equiv>, NoMemory>
     requires level { IsLevel (F.may l.now.below.now) (F.gives l.now.below.now) l.now.r.now l.now.levels }
-    requires facts { KnownFacts (defs_in l.now.r.now) at.now.ctx.now.0 }
-    requires inner { inner.now.ctx.now ≡ at.now.ctx.now }
-    requires sofar { From l.now.r.now.w.now mode at.now.ctx.now sofar.says.lhs sofar }
-    ensures is { IfOk result (λ o. got_any o steps.new.left ≡ walk (setting_of l.now.r.now) (inner_of l.now.r.now l.now.levels) mode (seen_at at.now) (seen_at inner.now) sofar.says.rhs taken steps.old.left) }
-    ensures from { IfOk result (λ o. IfSome o (λ a. IfSome a (From l.now.r.now.w.now mode at.now.ctx.now sofar.says.lhs))) }
+    requires facts { KnownFacts (defs_in l.now.r.now) way.now.at.now.ctx.now.0 }
+    requires inner { way.now.inner.now.ctx.now ≡ way.now.at.now.ctx.now }
+    requires sofar { From l.now.r.now.w.now way.now.mode way.now.at.now.ctx.now sofar.says.lhs sofar }
+    ensures is { IfOk result (λ o. got_any o steps.new.left
+        ≡ walk (setting_of l.now.r.now) (inner_of l.now.r.now l.now.levels) way.now.mode (seen_at way.now.at.now)
+        (seen_at way.now.inner.now) sofar.says.rhs way.now.taken steps.old.left) }
+    ensures from { IfOk result (λ o. IfSome o
+        (λ a. IfSome a (From l.now.r.now.w.now way.now.mode way.now.at.now.ctx.now sofar.says.lhs))) }
 {
     let body = copy_term(l.r.alloc, sofar.rhs())?;
-    walk_body(l, steps, mode, at, inner, sofar, taken, &body)
+    walk_body(l, steps, way, sofar, &body)
 }
 
 /// The walk ends at what is no `if`: it is rewritten, where a branch was taken.
 fn walk_stops<O: TypeOracle, F: Below>(
     l: &Level<'_, '_, O, F>,
     steps: &mut Steps,
-    mode: Mode,
-    at: &Place<'_>,
+    way: &Way<'_>,
     sofar: Equiv,
-    taken: bool,
 ) -> Result<Tried<Equiv>, NoMemory>
     requires level { IsLevel (F.may l.now.below.now) (F.gives l.now.below.now) l.now.r.now l.now.levels }
-    requires facts { KnownFacts (defs_in l.now.r.now) at.now.ctx.now.0 }
-    requires sofar { From l.now.r.now.w.now mode at.now.ctx.now sofar.says.lhs sofar }
-    ensures is { IfOk result (λ o. got_any o steps.new.left ≡ leaf_on (inner_of l.now.r.now l.now.levels) mode (seen_at at.now) sofar.says.rhs taken steps.old.left) }
-    ensures from { IfOk result (λ o. IfSome o (λ a. IfSome a (From l.now.r.now.w.now mode at.now.ctx.now sofar.says.lhs))) }
+    requires facts { KnownFacts (defs_in l.now.r.now) way.now.at.now.ctx.now.0 }
+    requires sofar { From l.now.r.now.w.now way.now.mode way.now.at.now.ctx.now sofar.says.lhs sofar }
+    ensures is { IfOk result (λ o. got_any o steps.new.left
+        ≡ leaf_on (inner_of l.now.r.now l.now.levels) way.now.mode (seen_at way.now.at.now) sofar.says.rhs
+        way.now.taken steps.old.left) }
+    ensures from { IfOk result (λ o. IfSome o
+        (λ a. IfSome a (From l.now.r.now.w.now way.now.mode way.now.at.now.ctx.now sofar.says.lhs))) }
 {
-    if !taken {
+    if !way.taken {
         return Ok(Some(None));
     }
-    let found = go_on(l, steps, mode, at, sofar)?;
+    let found = go_on(l, steps, way.mode, way.at, sofar)?;
     Ok(answered(found))
 }
 
@@ -241,14 +269,23 @@ fn open_within<O: TypeOracle, F: Below>(
     requires facts { KnownFacts (defs_in l.now.r.now) at.now.ctx.now.0 }
     requires inner { inner.now.ctx.now ≡ at.now.ctx.now }
     requires first { From l.now.r.now.w.now mode at.now.ctx.now first.says.lhs first }
-    ensures is { IfOk result (λ o. got_any o steps.new.left ≡ open_within (setting_of l.now.r.now) (inner_of l.now.r.now l.now.levels) mode (seen_at at.now) (seen_at inner.now) first.says.lhs first.says.rhs steps.old.left) }
-    ensures from { IfOk result (λ o. IfSome o (λ a. IfSome a (From l.now.r.now.w.now mode at.now.ctx.now first.says.lhs))) }
+    ensures is { IfOk result (λ o. got_any o steps.new.left
+        ≡ open_within (setting_of l.now.r.now) (inner_of l.now.r.now l.now.levels) mode (seen_at at.now)
+        (seen_at inner.now) first.says.lhs first.says.rhs steps.old.left) }
+    ensures from { IfOk result (λ o. IfSome o
+        (λ a. IfSome a (From l.now.r.now.w.now mode at.now.ctx.now first.says.lhs))) }
 {
     if is_term_among(first.lhs(), l.r.expand.as_slice()) {
         let found = go_on(l, steps, mode, inner, first)?;
         return Ok(answered(found));
     }
-    walk(l, steps, mode, at, inner, first, false)
+    let way = Way {
+        mode,
+        at,
+        inner,
+        taken: false,
+    };
+    walk(l, steps, &way, first)
 }
 
 /// The instance of the body of a function that recurs, where the function isn't opened again: of a call that is to be
@@ -264,8 +301,11 @@ fn open_recursive<O: TypeOracle, F: Below>(
     requires level { IsLevel (F.may l.now.below.now) (F.gives l.now.below.now) l.now.r.now l.now.levels }
     requires facts { KnownFacts (defs_in l.now.r.now) at.now.ctx.now.0 }
     requires first { From l.now.r.now.w.now mode at.now.ctx.now first.says.lhs first }
-    ensures is { IfOk result (λ o. got_any o steps.new.left ≡ open_closed (setting_of l.now.r.now) (inner_of l.now.r.now l.now.levels) mode (seen_at at.now) f.now first.says.lhs first.says.rhs steps.old.left) }
-    ensures from { IfOk result (λ o. IfSome o (λ a. IfSome a (From l.now.r.now.w.now mode at.now.ctx.now first.says.lhs))) }
+    ensures is { IfOk result (λ o. got_any o steps.new.left
+        ≡ open_closed (setting_of l.now.r.now) (inner_of l.now.r.now l.now.levels) mode (seen_at at.now) f.now
+        first.says.lhs first.says.rhs steps.old.left) }
+    ensures from { IfOk result (λ o. IfSome o
+        (λ a. IfSome a (From l.now.r.now.w.now mode at.now.ctx.now first.says.lhs))) }
 {
     let closed = closing(l.r.alloc, f, at.closed)?;
     let inner = Place {
@@ -289,8 +329,11 @@ fn open_instance<O: TypeOracle, F: Below>(
     requires level { IsLevel (F.may l.now.below.now) (F.gives l.now.below.now) l.now.r.now l.now.levels }
     requires facts { KnownFacts (defs_in l.now.r.now) at.now.ctx.now.0 }
     requires first { From l.now.r.now.w.now mode at.now.ctx.now first.says.lhs first }
-    ensures is { IfOk result (λ o. got_any o steps.new.left ≡ open_instance (setting_of l.now.r.now) (inner_of l.now.r.now l.now.levels) mode (seen_at at.now) first.says.lhs f.now g.now first.says.rhs steps.old.left) }
-    ensures from { IfOk result (λ o. IfSome o (λ a. IfSome a (From l.now.r.now.w.now mode at.now.ctx.now first.says.lhs))) }
+    ensures is { IfOk result (λ o. got_any o steps.new.left
+        ≡ open_instance (setting_of l.now.r.now) (inner_of l.now.r.now l.now.levels) mode (seen_at at.now)
+        first.says.lhs f.now g.now first.says.rhs steps.old.left) }
+    ensures from { IfOk result (λ o. IfSome o
+        (λ a. IfSome a (From l.now.r.now.w.now mode at.now.ctx.now first.says.lhs))) }
 {
     if g.measure.is_some() {
         return open_recursive(l, steps, mode, at, f, first);
@@ -305,26 +348,27 @@ fn open_at_once<O: TypeOracle, F: Below>(
     steps: &mut Steps,
     mode: Mode,
     at: &Place<'_>,
-    t: &Term,
-    f: &Symbol,
-    us: &[Term],
+    call: &Called<'_>,
     g: &Function,
 ) -> Result<Tried<Equiv>, NoMemory>
     requires level { IsLevel (F.may l.now.below.now) (F.gives l.now.below.now) l.now.r.now l.now.levels }
     requires facts { KnownFacts (defs_in l.now.r.now) at.now.ctx.now.0 }
-    requires term { IsTrue (known (defs_in l.now.r.now) t.now) }
-    requires call { t.now ≡ Call f.now us.now }
-    requires function { defs_in l.now.r.now f.now ≡ Some g.now }
-    requires enabled { IsTrue (is_enabled l.now.r.now.theory.now (rune.Definition f.now)) }
-    requires free { is_among symbol_eq f.now at.now.closed.now ≡ false }
-    ensures is { IfOk result (λ o. got_any o steps.new.left ≡ opening (setting_of l.now.r.now) (inner_of l.now.r.now l.now.levels) mode (seen_at at.now) t.now f.now us.now (Some g.now) steps.old.left) }
-    ensures from { IfOk result (λ o. IfSome o (λ a. IfSome a (From l.now.r.now.w.now mode at.now.ctx.now t.now))) }
+    requires term { IsTrue (known (defs_in l.now.r.now) call.now.t.now) }
+    requires call { call.now.t.now ≡ Call call.now.f.now call.now.us.now }
+    requires function { defs_in l.now.r.now call.now.f.now ≡ Some g.now }
+    requires enabled { IsTrue (is_enabled l.now.r.now.theory.now (rune.Definition call.now.f.now)) }
+    requires free { is_among symbol_eq call.now.f.now at.now.closed.now ≡ false }
+    ensures is { IfOk result (λ o. got_any o steps.new.left
+        ≡ opening (setting_of l.now.r.now) (inner_of l.now.r.now l.now.levels) mode (seen_at at.now)
+        call.now.t.now call.now.f.now call.now.us.now (Some g.now) steps.old.left) }
+    ensures from { IfOk result (λ o. IfSome o
+        (λ a. IfSome a (From l.now.r.now.w.now mode at.now.ctx.now call.now.t.now))) }
 {
-    let first = opened(l.r, at.ctx, mode, t)?;
+    let first = opened(l.r, at.ctx, mode, call.t)?;
     if !is_small(first.rhs()) {
         return Ok(Some(None));
     }
-    open_instance(l, steps, mode, at, f, g, first)
+    open_instance(l, steps, mode, at, call.f, g, first)
 }
 
 /// The instance of a part of a function's body at these arguments.
@@ -349,8 +393,11 @@ fn rewrite_test<O: TypeOracle, F: Below>(
     requires facts { KnownFacts (defs_in l.now.r.now) at.now.ctx.now.0 }
     requires arguments { Each (λ u. IsTrue (known (defs_in l.now.r.now) u)) us.now }
     requires test { IsTrue (known (defs_in l.now.r.now) a.now) }
-    ensures is { IfOk result (λ o. got o steps.new.left ≡ inner_of l.now.r.now l.now.levels Iff (seen_at at.now) (subst_of (zip g.now.formals us.now) a.now) steps.old.left) }
-    ensures from { IfOk result (λ o. IfSome o (From l.now.r.now.w.now Iff at.now.ctx.now (subst_of (zip g.now.formals us.now) a.now))) }
+    ensures is { IfOk result (λ o. got o steps.new.left
+        ≡ inner_of l.now.r.now l.now.levels Iff (seen_at at.now) (subst_of (zip g.now.formals us.now) a.now)
+        steps.old.left) }
+    ensures from { IfOk result (λ o. IfSome o
+        (From l.now.r.now.w.now Iff at.now.ctx.now (subst_of (zip g.now.formals us.now) a.now))) }
 {
     let instance = part_at(l.r.alloc, g, us, a)?;
     let found = deeper(l, steps, Mode::Iff, at, &instance)?;
@@ -361,24 +408,28 @@ fn rewrite_test<O: TypeOracle, F: Below>(
 fn walk_past<O: TypeOracle, F: Below>(
     l: &Level<'_, '_, O, F>,
     steps: &mut Steps,
-    mode: Mode,
-    at: &Place<'_>,
-    inner: &Place<'_>,
+    way: &Way<'_>,
     first: Equiv,
     test: Equiv,
 ) -> Result<Tried<Equiv>, NoMemory>
     requires level { IsLevel (F.may l.now.below.now) (F.gives l.now.below.now) l.now.r.now l.now.levels }
-    requires facts { KnownFacts (defs_in l.now.r.now) at.now.ctx.now.0 }
-    requires inner { inner.now.ctx.now ≡ at.now.ctx.now }
-    requires first { From l.now.r.now.w.now mode at.now.ctx.now first.says.lhs first }
-    requires test { From l.now.r.now.w.now Iff at.now.ctx.now test.says.lhs test }
+    requires facts { KnownFacts (defs_in l.now.r.now) way.now.at.now.ctx.now.0 }
+    requires inner { way.now.inner.now.ctx.now ≡ way.now.at.now.ctx.now }
+    requires first { From l.now.r.now.w.now way.now.mode way.now.at.now.ctx.now first.says.lhs first }
+    requires test { From l.now.r.now.w.now Iff way.now.at.now.ctx.now test.says.lhs test }
     requires choice { (b : Term) × (c : Term) × (first.says.rhs ≡ if_of test.says.lhs b c) }
-    ensures is { IfOk result (λ o. (n : ℕ) → Some (test.says.rhs, steps.old.left) ≡ inner_of l.now.r.now l.now.levels Iff (seen_at at.now) test.says.lhs n → got_any o steps.new.left ≡ walk (setting_of l.now.r.now) (inner_of l.now.r.now l.now.levels) mode (seen_at at.now) (seen_at inner.now) first.says.rhs false n) }
-    ensures from { IfOk result (λ o. IfSome o (λ a. IfSome a (From l.now.r.now.w.now mode at.now.ctx.now first.says.lhs))) }
+    ensures is { IfOk result (λ o. (n : ℕ)
+        → Some (test.says.rhs, steps.old.left)
+        ≡ inner_of l.now.r.now l.now.levels Iff (seen_at way.now.at.now) test.says.lhs n
+        → got_any o steps.new.left
+        ≡ walk (setting_of l.now.r.now) (inner_of l.now.r.now l.now.levels) way.now.mode
+        (seen_at way.now.at.now) (seen_at way.now.inner.now) first.says.rhs way.now.taken n) }
+    ensures from { IfOk result (λ o. IfSome o
+        (λ a. IfSome a (From l.now.r.now.w.now way.now.mode way.now.at.now.ctx.now first.says.lhs))) }
 {
     let body = copy_term(l.r.alloc, first.rhs())?;
     match shape_of(&body) {
-        ShapeRef::If(_, b, c) => walk_on(l, steps, mode, at, inner, first, false, test, b, c),
+        ShapeRef::If(_, b, c) => walk_on(l, steps, way, first, test, b, c),
         _ => unreachable!(),
     }
 }
@@ -399,7 +450,13 @@ fn open_tested<O: TypeOracle, F: Below>(
     requires term { IsTrue (known (defs_in l.now.r.now) t.now) }
     requires test { From l.now.r.now.w.now Iff at.now.ctx.now test.says.lhs test }
     requires choice { (b : Term) × (c : Term) × (opened (defs_in l.now.r.now) t.now ≡ Some (if_of test.says.lhs b c)) }
-    ensures is { IfOk result (λ o. (v : Term) (n : ℕ) → opened (defs_in l.now.r.now) t.now ≡ Some v → Some (test.says.rhs, steps.old.left) ≡ inner_of l.now.r.now l.now.levels Iff (seen_at at.now) test.says.lhs n → got_any o steps.new.left ≡ walk (setting_of l.now.r.now) (inner_of l.now.r.now l.now.levels) mode (seen_at at.now) (closing f.now (seen_at at.now)) v false n) }
+    ensures is { IfOk result (λ o. (v : Term) (n : ℕ)
+        → opened (defs_in l.now.r.now) t.now ≡ Some v
+        → Some (test.says.rhs, steps.old.left)
+        ≡ inner_of l.now.r.now l.now.levels Iff (seen_at at.now) test.says.lhs n
+        → got_any o steps.new.left
+        ≡ walk (setting_of l.now.r.now) (inner_of l.now.r.now l.now.levels) mode (seen_at at.now)
+        (closing f.now (seen_at at.now)) v false n) }
     ensures from { IfOk result (λ o. IfSome o (λ a. IfSome a (From l.now.r.now.w.now mode at.now.ctx.now t.now))) }
 {
     let first = opened(l.r, at.ctx, mode, t)?;
@@ -409,7 +466,13 @@ fn open_tested<O: TypeOracle, F: Below>(
         closed: closed.as_slice(),
         chain: at.chain,
     };
-    walk_past(l, steps, mode, at, &inner, first, test)
+    let way = Way {
+        mode,
+        at,
+        inner: &inner,
+        taken: false,
+    };
+    walk_past(l, steps, &way, first, test)
 }
 
 /// A call of a function whose body is an `if`: the instance of its test alone is made and rewritten, and the body's
@@ -419,28 +482,29 @@ fn open_by_test<O: TypeOracle, F: Below>(
     steps: &mut Steps,
     mode: Mode,
     at: &Place<'_>,
-    t: &Term,
-    f: &Symbol,
-    us: &[Term],
+    call: &Called<'_>,
     g: &Function,
     a: &Term,
 ) -> Result<Tried<Equiv>, NoMemory>
     requires level { IsLevel (F.may l.now.below.now) (F.gives l.now.below.now) l.now.r.now l.now.levels }
     requires facts { KnownFacts (defs_in l.now.r.now) at.now.ctx.now.0 }
-    requires term { IsTrue (known (defs_in l.now.r.now) t.now) }
-    requires call { t.now ≡ Call f.now us.now }
-    requires function { defs_in l.now.r.now f.now ≡ Some g.now }
+    requires term { IsTrue (known (defs_in l.now.r.now) call.now.t.now) }
+    requires call { call.now.t.now ≡ Call call.now.f.now call.now.us.now }
+    requires function { defs_in l.now.r.now call.now.f.now ≡ Some g.now }
     requires choice { (b : Term) × (c : Term) × (g.now.body ≡ if_of a.now b c) }
-    ensures is { IfOk result (λ o. got_any o steps.new.left ≡ walk (setting_of l.now.r.now) (inner_of l.now.r.now l.now.levels) mode (seen_at at.now) (closing f.now (seen_at at.now)) (body_at g.now us.now) false steps.old.left) }
-    ensures from { IfOk result (λ o. IfSome o (λ a. IfSome a (From l.now.r.now.w.now mode at.now.ctx.now t.now))) }
+    ensures is { IfOk result (λ o. got_any o steps.new.left
+        ≡ walk (setting_of l.now.r.now) (inner_of l.now.r.now l.now.levels) mode (seen_at at.now)
+        (closing call.now.f.now (seen_at at.now)) (body_at g.now call.now.us.now) false steps.old.left) }
+    ensures from { IfOk result (λ o. IfSome o
+        (λ a. IfSome a (From l.now.r.now.w.now mode at.now.ctx.now call.now.t.now))) }
 {
     l.r.w.recall_sound();
-    let Some(test) = rewrite_test(l, steps, at, us, g, a)? else {
+    let Some(test) = rewrite_test(l, steps, at, call.us, g, a)? else {
         return Ok(None);
     };
     match truth_of(test.rhs()) {
         None => Ok(Some(None)),
-        Some(_) => open_tested(l, steps, mode, at, t, f, test),
+        Some(_) => open_tested(l, steps, mode, at, call.t, call.f, test),
     }
 }
 
@@ -482,25 +546,26 @@ fn open_call<O: TypeOracle, F: Below>(
     steps: &mut Steps,
     mode: Mode,
     at: &Place<'_>,
-    t: &Term,
-    f: &Symbol,
-    us: &[Term],
+    call: &Called<'_>,
     g: &Function,
 ) -> Result<Tried<Equiv>, NoMemory>
     requires level { IsLevel (F.may l.now.below.now) (F.gives l.now.below.now) l.now.r.now l.now.levels }
     requires facts { KnownFacts (defs_in l.now.r.now) at.now.ctx.now.0 }
-    requires term { IsTrue (known (defs_in l.now.r.now) t.now) }
-    requires call { t.now ≡ Call f.now us.now }
-    requires function { defs_in l.now.r.now f.now ≡ Some g.now }
-    ensures is { IfOk result (λ o. got_any o steps.new.left ≡ opening (setting_of l.now.r.now) (inner_of l.now.r.now l.now.levels) mode (seen_at at.now) t.now f.now us.now (Some g.now) steps.old.left) }
-    ensures from { IfOk result (λ o. IfSome o (λ a. IfSome a (From l.now.r.now.w.now mode at.now.ctx.now t.now))) }
+    requires term { IsTrue (known (defs_in l.now.r.now) call.now.t.now) }
+    requires call { call.now.t.now ≡ Call call.now.f.now call.now.us.now }
+    requires function { defs_in l.now.r.now call.now.f.now ≡ Some g.now }
+    ensures is { IfOk result (λ o. got_any o steps.new.left
+        ≡ opening (setting_of l.now.r.now) (inner_of l.now.r.now l.now.levels) mode (seen_at at.now)
+        call.now.t.now call.now.f.now call.now.us.now (Some g.now) steps.old.left) }
+    ensures from { IfOk result (λ o. IfSome o
+        (λ a. IfSome a (From l.now.r.now.w.now mode at.now.ctx.now call.now.t.now))) }
 {
-    if !l.r.theory.is_enabled(RuneKind::Definition, f) || is_among(f, at.closed) {
+    if !l.r.theory.is_enabled(RuneKind::Definition, call.f) || is_among(call.f, at.closed) {
         return Ok(Some(None));
     }
-    match first_test(l.r.expand.as_slice(), t, g) {
-        Some(a) => open_by_test(l, steps, mode, at, t, f, us, g, a),
-        None => open_at_once(l, steps, mode, at, t, f, us, g),
+    match first_test(l.r.expand.as_slice(), call.t, g) {
+        Some(a) => open_by_test(l, steps, mode, at, call, g, a),
+        None => open_at_once(l, steps, mode, at, call, g),
     }
 }
 
@@ -518,11 +583,16 @@ pub fn by_definition<O: TypeOracle, F: Below>(
     requires facts { KnownFacts (defs_in l.now.r.now) at.now.ctx.now.0 }
     requires term { IsTrue (known (defs_in l.now.r.now) t.now) }
     requires call { t.now ≡ Call f.now us.now }
-    ensures is { IfOk result (λ o. got_any o steps.new.left ≡ by_definition (setting_of l.now.r.now) (inner_of l.now.r.now l.now.levels) mode (seen_at at.now) f.now us.now steps.old.left) }
+    ensures is { IfOk result (λ o. got_any o steps.new.left
+        ≡ by_definition (setting_of l.now.r.now) (inner_of l.now.r.now l.now.levels) mode (seen_at at.now) f.now
+        us.now steps.old.left) }
     ensures from { IfOk result (λ o. IfSome o (λ a. IfSome a (From l.now.r.now.w.now mode at.now.ctx.now t.now))) }
 {
     match l.r.w.lookup_fun(f) {
         None => Ok(Some(None)),
-        Some(g) => open_call(l, steps, mode, at, t, f, us, g),
+        Some(g) => {
+            let call = Called { t, f, us };
+            open_call(l, steps, mode, at, &call, g)
+        }
     }
 }

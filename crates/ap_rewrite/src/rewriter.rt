@@ -62,13 +62,14 @@ pub trait Below {
 
 /// A closure, where it may be called.
 impl<F: Fn(&mut Steps, Mode, &Place<'_>, &Term) -> Result<Option<Equiv>, NoMemory>> Below for F {
-    ghost use denote.Ref.{MutBor};
+    ghost use denote.Ref.{Bor, MutBor};
     ghost use Rattle.std.specs.Prelude.{◌≡◌};
     ghost use Rattle.ap_term.specs.declared.steps.Steps.{Steps};
+    ghost use Rattle.ap_rewrite.specs.declared.rewriter.Place.{Place};
 
-    ghost may = { λ f s o p t. (y : MutBor Steps) → y.now ≡ s.now → F.pre f y o p t };
+    ghost may = { λ f s o p t. (y : MutBor Steps) (q : Bor Place) → y.now ≡ s.now → q.now ≡ p.now → F.pre f y o q t };
 
-    ghost gives = { λ f s o p t a u. (y : MutBor Steps) × (y.now ≡ s.now) × ((v : MutBor Steps) × (v.now ≡ u.now) × F.post f y o p t a v) };
+    ghost gives = { λ f s o p t a u. (y : MutBor Steps) × (q : Bor Place) × (y.now ≡ s.now) × (q.now ≡ p.now) × ((v : MutBor Steps) × (v.now ≡ u.now) × F.post f y o q t a v) };
 
     fn rewrite(
         &self,

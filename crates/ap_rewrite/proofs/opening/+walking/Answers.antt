@@ -24,7 +24,7 @@ walk_on-walk-requires g t c =
 pub walk_on-returns-in_ok-next-in-Some-clause-is : goal.walk_on-returns-in_ok-next-in-Some-clause-is
 walk_on-returns-in_ok-next-in-Some-clause-is g t c =
     same_answer _ _ _ _
-    (past_chosen (setting_of c.args.l.now.r.now) (inner_of c.args.l.now.r.now c.args.l.now.levels) c.args.mode (seen_at c.args.at.now) (seen_at c.args.inner.now) c.args.taken c.args.test.says.rhs c.args.b.now c.args.c.now c.args.steps.now.left _ _
+    (past_chosen (setting_of c.args.l.now.r.now) (inner_of c.args.l.now.r.now c.args.l.now.levels) c.args.way.now.mode (seen_at c.args.way.now.at.now) (seen_at c.args.way.now.inner.now) c.args.way.now.taken c.args.test.says.rhs c.args.b.now c.args.c.now c.args.steps.now.left _ _
     (ap truth_of (sym c.rhs.ensures) ∙ sym c.in-Some.ensures) c.in_ok-next-in-Some.ensures.is)
     c.walk.ensures.is
 
@@ -47,7 +47,7 @@ walk_on-walk_ends-requires-clause-open g t c = ap truth_of (sym c.rhs.ensures) �
 pub walk_on-returns-in-None-clause-is : goal.walk_on-returns-in-None-clause-is
 walk_on-returns-in-None-clause-is g t c =
     same_answer _ _ _ _
-    (past_open (setting_of c.args.l.now.r.now) (inner_of c.args.l.now.r.now c.args.l.now.levels) c.args.mode (seen_at c.args.at.now) (seen_at c.args.inner.now) c.args.taken c.args.test.says.rhs c.args.b.now c.args.c.now c.args.steps.now.left
+    (past_open (setting_of c.args.l.now.r.now) (inner_of c.args.l.now.r.now c.args.l.now.levels) c.args.way.now.mode (seen_at c.args.way.now.at.now) (seen_at c.args.way.now.inner.now) c.args.way.now.taken c.args.test.says.rhs c.args.b.now c.args.c.now c.args.steps.now.left
     (ap truth_of (sym c.rhs.ensures) ∙ sym c.in-None.ensures))
     c.walk_ends.ensures.is
 
@@ -60,7 +60,7 @@ walk_body-deeper-requires-clause-term g t c = (seen_parts _ _ _ _ _ _ _ _ _ c.re
 
 pub walk_body-returns-in-None-clause-is : goal.walk_body-returns-in-None-clause-is
 walk_body-returns-in-None-clause-is g t c =
-    walk_out (setting_of c.args.l.now.r.now) (inner_of c.args.l.now.r.now c.args.l.now.levels) c.args.mode (seen_at c.args.at.now) (seen_at c.args.inner.now) _ _ _ _ c.args.taken c.args.steps.now.left
+    walk_out (setting_of c.args.l.now.r.now) (inner_of c.args.l.now.r.now c.args.l.now.levels) c.args.way.now.mode (seen_at c.args.way.now.at.now) (seen_at c.args.way.now.inner.now) _ _ _ _ c.args.way.now.taken c.args.steps.now.left
     (seen_parts _ _ _ _ _ _ _ _ _ c.requires.sofar c.requires.body c.in-If.ensures).0
     (rw c.in-None.is at c.in_ok-deeper-in-If.ensures.is)
 
@@ -95,7 +95,7 @@ walk_body-walk_on-requires g t c =
 pub walk_body-returns-in-Some-clause-is : goal.walk_body-returns-in-Some-clause-is
 walk_body-returns-in-Some-clause-is g t c =
     same_answer _ _ _ _
-    (walk_past (setting_of c.args.l.now.r.now) (inner_of c.args.l.now.r.now c.args.l.now.levels) c.args.mode (seen_at c.args.at.now) (seen_at c.args.inner.now) _ _ _ _ _ c.args.taken c.args.steps.now.left _
+    (walk_past (setting_of c.args.l.now.r.now) (inner_of c.args.l.now.r.now c.args.l.now.levels) c.args.way.now.mode (seen_at c.args.way.now.at.now) (seen_at c.args.way.now.inner.now) _ _ _ _ _ c.args.way.now.taken c.args.steps.now.left _
     (seen_parts _ _ _ _ _ _ _ _ _ c.requires.sofar c.requires.body c.in-If.ensures).0
     (rw c.in-Some.is at c.in_ok-deeper-in-If.ensures.is))
     c.walk_on.ensures.is
@@ -103,7 +103,7 @@ walk_body-returns-in-Some-clause-is g t c =
 pub walk_body-returns-in_default-clause-is : goal.walk_body-returns-in_default-clause-is
 walk_body-returns-in_default-clause-is g t c =
     same_answer _ _ _ _
-    (sym (leaf_at (setting_of c.args.l.now.r.now) (inner_of c.args.l.now.r.now c.args.l.now.levels) c.args.mode (seen_at c.args.at.now) (seen_at c.args.inner.now) c.args.body.now c.args.sofar.says.rhs c.shape_of.result c.args.taken c.args.steps.now.left
+    (sym (leaf_at (setting_of c.args.l.now.r.now) (inner_of c.args.l.now.r.now c.args.l.now.levels) c.args.way.now.mode (seen_at c.args.way.now.at.now) (seen_at c.args.way.now.inner.now) c.args.body.now c.args.sofar.says.rhs c.shape_of.result c.args.way.now.taken c.args.steps.now.left
     c.requires.body c.shape_of.ensures c.in_default.not-If))
     c.walk_stops.ensures.is
 

@@ -16,7 +16,7 @@ open_instance-requires-clause-first g c = from_own _ _ _ _ _ c.in_ok-first.ensur
 
 pub returns-then-not-is_small-clause-is : goal.returns-then-not-is_small-clause-is
 returns-then-not-is_small-clause-is g c =
-    too_grown (setting_of c.args.l.now.r.now) (inner_of c.args.l.now.r.now c.args.l.now.levels) c.args.mode (seen_at c.args.at.now) c.args.t.now c.args.f.now c.args.us.now c.args.g.now c.args.steps.now.left _
+    too_grown (setting_of c.args.l.now.r.now) (inner_of c.args.l.now.r.now c.args.l.now.levels) c.args.mode (seen_at c.args.at.now) c.args.call.now.t.now c.args.call.now.f.now c.args.call.now.us.now c.args.g.now c.args.steps.now.left _
     (instance_is (defs_in c.args.l.now.r.now) _ _ _ _ _ c.requires.call c.requires.function c.in_ok-first.ensures.is)
     (ap (λ (x : Term). nat_le (term_size x) most_nodes) (sym c.rhs.ensures) ∙ sym c.is_small.ensures ∙ c.if-not-is_small.true)
 
@@ -26,7 +26,7 @@ returns-clause-from g c = same_from _ _ _ _ _ _ c.in_ok-first.ensures.from.lhs c
 pub returns-clause-is : goal.returns-clause-is
 returns-clause-is g c =
     same_answer _ _ _ _
-    (let_in (setting_of c.args.l.now.r.now) (inner_of c.args.l.now.r.now c.args.l.now.levels) c.args.mode (seen_at c.args.at.now) c.args.t.now c.args.f.now c.args.us.now c.args.g.now c.args.steps.now.left c.in_ok-first.first.says.lhs _
+    (let_in (setting_of c.args.l.now.r.now) (inner_of c.args.l.now.r.now c.args.l.now.levels) c.args.mode (seen_at c.args.at.now) c.args.call.now.t.now c.args.call.now.f.now c.args.call.now.us.now c.args.g.now c.args.steps.now.left c.in_ok-first.first.says.lhs _
     c.requires.enabled c.requires.free
     (instance_is (defs_in c.args.l.now.r.now) _ _ _ _ _ c.requires.call c.requires.function c.in_ok-first.ensures.is)
     (ap (λ (x : Term). nat_le (term_size x) most_nodes) (sym c.rhs.ensures) ∙ sym c.is_small.ensures ∙ c.if-not-is_small.false)

@@ -13,12 +13,12 @@ rewrite_test-requires-clause-test g c = test_known c.args.l.now.r.now.w.now.entr
 
 pub returns-in_default-clause-is : goal.returns-in_default-clause-is
 returns-in_default-clause-is g c =
-    test_out (setting_of c.args.l.now.r.now) (inner_of c.args.l.now.r.now c.args.l.now.levels) c.args.mode (seen_at c.args.at.now) c.args.f.now c.args.us.now c.args.g.now c.args.a.now _ _ c.args.steps.now.left c.requires.choice.2
+    test_out (setting_of c.args.l.now.r.now) (inner_of c.args.l.now.r.now c.args.l.now.levels) c.args.mode (seen_at c.args.at.now) c.args.call.now.f.now c.args.call.now.us.now c.args.g.now c.args.a.now _ _ c.args.steps.now.left c.requires.choice.2
     (rw c.in_default.is at c.in_ok-test.ensures.is)
 
 pub returns-in-None-clause-is : goal.returns-in-None-clause-is
 returns-in-None-clause-is g c =
-    test_open (setting_of c.args.l.now.r.now) (inner_of c.args.l.now.r.now c.args.l.now.levels) c.args.mode (seen_at c.args.at.now) c.args.f.now c.args.us.now c.args.g.now c.args.a.now _ _ c.args.steps.now.left c.requires.choice.2
+    test_open (setting_of c.args.l.now.r.now) (inner_of c.args.l.now.r.now c.args.l.now.levels) c.args.mode (seen_at c.args.at.now) c.args.call.now.f.now c.args.call.now.us.now c.args.g.now c.args.a.now _ _ c.args.steps.now.left c.requires.choice.2
     c.in-Some.test.says.rhs _ (rw c.in-Some.is at c.in_ok-test.ensures.is) (ap truth_of (sym c.rhs.ensures) ∙ sym c.in-None.ensures)
 
 pub open_tested-requires-clause-choice : goal.open_tested-requires-clause-choice
@@ -29,6 +29,6 @@ open_tested-requires-clause-choice g c =
 pub returns-in-Some-truth_of-clause-is : goal.returns-in-Some-truth_of-clause-is
 returns-in-Some-truth_of-clause-is g c =
     let test = rw c.in-Some.is at c.in_ok-test.ensures.from in
-    from_steps (setting_of c.args.l.now.r.now) (inner_of c.args.l.now.r.now c.args.l.now.levels) c.args.mode (seen_at c.args.at.now) c.args.f.now (defs_in c.args.l.now.r.now) c.args.t.now _ _ _ c.in-Some.test.says.rhs _ _ c.args.steps.now.left _
+    from_steps (setting_of c.args.l.now.r.now) (inner_of c.args.l.now.r.now c.args.l.now.levels) c.args.mode (seen_at c.args.at.now) c.args.call.now.f.now (defs_in c.args.l.now.r.now) c.args.call.now.t.now _ _ _ c.in-Some.test.says.rhs _ _ c.args.steps.now.left _
     (opened_at (defs_in c.args.l.now.r.now) _ _ _ _ c.requires.call c.requires.function) test.lhs (rw c.in-Some.is at c.in_ok-test.ensures.is)
     c.open_tested.ensures.is

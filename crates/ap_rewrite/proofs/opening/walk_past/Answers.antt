@@ -8,7 +8,7 @@ walk_on-requires-clause-choice g c = same_test _ _ _ _ _ _ _ _ (c.in_ok-body.ens
 
 pub returns-clause-is : goal.returns-clause-is
 returns-clause-is g c =
-    past_steps (setting_of c.args.l.now.r.now) (inner_of c.args.l.now.r.now c.args.l.now.levels) c.args.mode (seen_at c.args.at.now) (seen_at c.args.inner.now) c.args.first.says.rhs c.args.test.says.lhs c.in-If.b.now c.in-If.c.now c.args.test.says.rhs c.args.steps.now.left _ _
+    past_steps (setting_of c.args.l.now.r.now) (inner_of c.args.l.now.r.now c.args.l.now.levels) c.args.way.now.mode (seen_at c.args.way.now.at.now) (seen_at c.args.way.now.inner.now) c.args.first.says.rhs c.args.test.says.lhs c.in-If.b.now c.in-If.c.now c.args.test.says.rhs c.args.way.now.taken c.args.steps.now.left _ _
     (same_test _ _ _ _ _ _ _ _ (c.in_ok-body.ensures ∙ c.rhs.ensures) c.requires.choice.2 c.in-If.ensures)
     c.walk_on.ensures.is
 
