@@ -1,8 +1,10 @@
 -- The books of a session, one after another.
-use Rattle.std.proofs.Common.{◌≡◌, ◌∙◌, ◌⊎◌, ◌≤◌, ◌<◌, ℕ, zero, suc, Bool, true, false, ◌&&◌, List, [], ◌∷◌, ◌++◌, length, get_or, take, map, Option, Some, None, refl, ap, sym, subst, inl, inr, arith}
+use Rattle.std.proofs.Common.{◌≡◌, ◌≢◌, ◌∙◌, ◌⊎◌, ◌≤◌, ◌<◌, ℕ, zero, suc, Bool, true, false, ◌&&◌, List, [], ◌∷◌, ◌++◌, length, get_or, take, map, Option, Some, None, refl, ap, sym, subst, inl, inr, arith}
 use Rattle.std.proofs.Math.Seq.{take-append_seam}
 use Rattle.std.proofs.lemmas.List.{append-nil}
 use Rattle.std.specs.Prelude.{IfSome}
+use Rattle.ap_outside.specs.declared.fault.WriteFault.{WriteFault as SinkFault}
+use Rattle.ap_outside.specs.declared.fault.WriteFault.TheVariants as sink_faults
 use Rattle.ap_outside.specs.declared.library.BookRead.{BookRead}
 use Rattle.ap_outside.specs.Files.{Files, told_at}
 use Rattle.ap_outside.specs.Books.{answer_of}
@@ -29,7 +31,7 @@ use Rattle.ap_session.specs.Working.{Working, start}
 use Rattle.ap_session.specs.Admitting.{AdmittingSeen, notes_in, left_in, IsTold, Led}
 use Rattle.ap_session.proofs.Acting.{put_more, stored_by_more, stored_end, book_puts, Later, tied_first, tied_next, tied_all, tied_by, tied_put}
 use Rattle.ap_session.specs.Texts.{usage_text}
-use Rattle.ap_session.specs.Session.{Session, ActsAgree, acts_of, begun, read_body, book_text, book_acts, demo_session, kept_more, last_of, with_body, then_book, books_of, reads_in, worked_books, Worked, Kept, PassedThrough, IsNext, Listed, file_name, session, traced, output, fault_status, is_done}
+use Rattle.ap_session.specs.Session.{Session, ActsAgree, acts_of, begun, read_body, book_text, book_acts, demo_session, kept_more, last_of, with_body, then_book, books_of, reads_in, worked_books, Worked, Kept, PassedThrough, IsNext, Listed, file_name, session, traced, output, written_fault, fault_status, is_done}
 use Rattle.ap_plain.proofs.Telling.{notes_more, notes_none, told_left, told_right}
 
 none_read : (limits : Limits) (s : Session) (names : List (List ℕ)) → books_of limits s names [] ≡ s
@@ -346,6 +348,15 @@ pub only_write : (fault : Fault) → fault_status fault ≡ WriteFault → fault
 only_write faults.Read e = absurd cc
 only_write faults.Write e = refl
 only_write faults.NoMemory e = absurd cc
+
+-- and one of a put or a store
+pub only_failed : (f : SinkFault) → written_fault f ≡ faults.Write → f ≡ sink_faults.Failed
+only_failed sink_faults.Failed e = refl
+only_failed sink_faults.NoMemory e = absurd cc
+
+pub never_read : (f : SinkFault) → written_fault f ≢ faults.Read
+never_read sink_faults.Failed e = absurd cc
+never_read sink_faults.NoMemory e = absurd cc
 
 -- by a fault no session ends by itself
 pub not_done : (fault : Fault) → is_done (fault_status fault) ≡ false

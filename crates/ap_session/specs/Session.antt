@@ -1,6 +1,8 @@
 -- The session: what is printed, which status and which world the words and the books give.
 use Rattle.std.specs.Prelude.{◌≡◌, ◌≤◌, ◌⊎◌, ℕ, Bool, true, false, cond, ◌&&◌, List, [], ◌∷◌, ◌++◌, map, Option, Some, None, codes, IfSome}
 use Rattle.ap_world.specs.World.{Shown}
+use Rattle.ap_outside.specs.declared.fault.WriteFault.{WriteFault as SinkFault}
+use Rattle.ap_outside.specs.declared.fault.WriteFault.TheVariants as sink_faults
 use Rattle.ap_outside.specs.declared.library.BookRead.{BookRead}
 use Rattle.ap_outside.specs.Gains.{Gained}
 use Rattle.ap_outside.specs.Files.{Files, told_at}
@@ -202,6 +204,11 @@ pub record IsNext (files : Option Files) (name : List ℕ) (old new : List BookS
   pub listed : new ≡ old ++ book ∷ []
   pub named : book.name.0 ≡ name
   pub told : IfSome (told_at files (file_name name)) (λ found. book.read ≡ answer_of found)
+
+-- a fault of a put or a store, as the session's
+abbrev pub written_fault : SinkFault → Fault
+written_fault sink_faults.Failed = faults.Write
+written_fault sink_faults.NoMemory = faults.NoMemory
 
 -- the status that a fault gives
 abbrev pub fault_status : Fault → Status

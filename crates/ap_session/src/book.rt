@@ -13,7 +13,7 @@ ghost use Rattle.ap_session.specs.Session.{read_body, kept_by, kept_more, last_o
 
 use crate::admitting::Admitting;
 use crate::certs::{cert_text, held_of};
-use crate::fault::{Fault, at_write};
+use crate::fault::Fault;
 use crate::putting::{put_unread, put_whole};
 use ap_attempt::Gate;
 use ap_books::{BookSeen, Events, closing, events_in, opening};
@@ -239,39 +239,9 @@ fn end_book<L: Library, S: Sink>(
 }
 
 /// Puts a book's text, from its first line to its last, and stores its certificate before the last line where it is
-/// certified. Answers whether it is.
+/// certified. Answers whether it is. A fault is the session's.
 #[tactic(auto, using(ap_outside::proofs::Gains::gains, crate::proofs::Storing::part_none, crate::proofs::Storing::part_all), unfolding(crate::specs::Session::book_text))]
 fn show_book<R: Threads + Wait + Sync, L: Library, G: Gate + Sync, S: Sink>(
-    rt: &R,
-    alloc: Global,
-    name: &String,
-    before: &[BookSeen],
-    book: &BookSeen,
-    admitting: &mut Admitting<'_, G>,
-    library: &mut L,
-    sink: &mut S,
-) -> Result<bool, WriteFault>
-    requires named { string_bytes name.now ≡ book.now.name.0 }
-    ensures text { OnOk result (Gained (S.content sink.old) (S.content sink.new) (book_text book.now.name.0 (body_of admits ends book.now.read admitting.old.working))) }
-    ensures certified { IfOk result (λ b. (body_of admits ends book.now.read admitting.old.working).certified ≡ b) }
-    ensures state { OnOk result ((body_of admits ends book.now.read admitting.old.working).state ≡ admitting.new.working) }
-    ensures files { OnOk result (Stored (L.files library.old) (L.files library.new) (files_by (seen_in before.now) book.now.name.0 book.now.read (body_of admits ends book.now.read admitting.old.working).certified)) }
-    ensures part { OnErr result (GainedPart (S.content sink.old) (S.content sink.new) (book_text book.now.name.0 (body_of admits ends book.now.read admitting.old.working))) }
-    ensures stored { OnErr result (StoredPart (L.files library.old) (L.files library.new) (files_by (seen_in before.now) book.now.name.0 book.now.read (body_of admits ends book.now.read admitting.old.working).certified)) }
-    ensures tied { IfErr result (λ e. Tied (outside (S.content sink.old) (S.faults sink.old) (L.files library.old) (L.store_faults library.old)) (outside (S.content sink.new) (S.faults sink.new) (L.files library.new) (L.store_faults library.new)) (e ≡ WriteFault.Failed) (book_acts (seen_in before.now) book.now.name.0 book.now.read (body_of admits ends book.now.read admitting.old.working))) }
-    ensures behind { Behind admitting.old admitting.new (body_of admits ends book.now.read admitting.old.working).log }
-    ensures reads { L.read_faults library.new ≡ L.read_faults library.old }
-    ensures stores { L.store_faults library.old ≤ L.store_faults library.new }
-    ensures later { S.faults sink.old ≤ S.faults sink.new }
-    ensures failed { result ≡ Err WriteFault.Failed → Rose (L.store_faults library.old) (L.store_faults library.new) ⊎ Rose (S.faults sink.old) (S.faults sink.new) }
-{
-    let held = show_opened(rt, alloc, book, admitting, sink)?;
-    end_book(alloc, name, before, book, held.as_ref(), library, sink)?;
-    Ok(held.is_some())
-}
-
-/// The same, with the fault as the session's.
-fn show_whole<R: Threads + Wait + Sync, L: Library, G: Gate + Sync, S: Sink>(
     rt: &R,
     alloc: Global,
     name: &String,
@@ -296,27 +266,9 @@ fn show_whole<R: Threads + Wait + Sync, L: Library, G: Gate + Sync, S: Sink>(
     ensures failed { result ≡ Err Fault.Write → Rose (L.store_faults library.old) (L.store_faults library.new) ⊎ Rose (S.faults sink.old) (S.faults sink.new) }
     ensures unread { result ≢ Err Fault.Read }
 {
-    match show_book(rt, alloc, name, before, book, admitting, library, sink) {
-        Ok(certified) => Ok(certified),
-        Err(fault) => Err(at_write(fault)),
-    }
-}
-
-/// Keeps a certified book's world for the books behind it.
-fn keep<G>(alloc: Global, book: &BookSeen, admitting: &mut Admitting<'_, G>) -> Result<(), Fault>
-    requires { has_failed admitting.old.working.second ≡ false }
-    ensures earlier { OnOk result (admitting.new.working.earlier ≡ admitting.old.working.earlier ++ (book.now.name.0, kept_by admitting.old.working.second admitting.old.working.world) ∷ []) }
-    ensures left { OnOk result (left_in admitting.new ≡ kept_by admitting.old.working.second admitting.old.working.world) }
-    ensures err { OnErr result (left_in admitting.new ≡ left_in admitting.old) }
-    ensures limits { admitting.new.working.limits ≡ admitting.old.working.limits }
-    ensures notes { notes_in admitting.new ≡ notes_in admitting.old }
-    ensures workers { admitting.new.workers ≡ admitting.old.workers }
-    ensures memory { IfErr result (λ fault. fault ≡ Fault.NoMemory) }
-{
-    match admitting.keep(alloc, book.name.0.as_slice()) {
-        Ok(()) => Ok(()),
-        Err(_) => Err(Fault::NoMemory),
-    }
+    let held = show_opened(rt, alloc, book, admitting, sink)?;
+    end_book(alloc, name, before, book, held.as_ref(), library, sink)?;
+    Ok(held.is_some())
 }
 
 /// Works a book that was begun, puts its text, and keeps its world where it is certified, which is answered.
@@ -349,11 +301,11 @@ fn work_begun<R: Threads + Wait + Sync, L: Library, G: Gate + Sync, S: Sink>(
     ensures failed { result ≡ Err Fault.Write → Rose (L.store_faults library.old) (L.store_faults library.new) ⊎ Rose (S.faults sink.old) (S.faults sink.new) }
     ensures unread { result ≢ Err Fault.Read }
 {
-    let certified = show_whole(rt, alloc, name, before, book, admitting, library, sink)?;
+    let certified = show_book(rt, alloc, name, before, book, admitting, library, sink)?;
     if !certified {
         return Ok(false);
     }
-    keep(alloc, book, admitting)?;
+    admitting.keep(alloc, book.name.0.as_slice())?;
     Ok(true)
 }
 

@@ -1,7 +1,8 @@
 ghost use Rattle.std.specs.Prelude.{◌≡◌, ◌≢◌};
-ghost use Rattle.ap_session.specs.Session.{fault_status};
+ghost use Rattle.ap_session.specs.Session.{written_fault, fault_status};
 
 use crate::report::Status;
+use ap_list::NoMemory;
 use ap_outside::{ReadFault, WriteFault};
 
 /// Why a session ended before its end.
@@ -25,6 +26,28 @@ pub(crate) fn fault_status(fault: Fault) -> Status
     }
 }
 
+impl From<NoMemory> for Fault {
+    ghost use Rattle.std.specs.Prelude.{◌≡◌};
+    ghost use Rattle.ap_session.specs.declared.fault.Fault.TheVariants.{NoMemory};
+
+    ghost from_gives = { λ _ e. e ≡ NoMemory };
+
+    fn from(_fault: NoMemory) -> Fault {
+        Fault::NoMemory
+    }
+}
+
+impl From<WriteFault> for Fault {
+    ghost use Rattle.std.specs.Prelude.{◌≡◌};
+    ghost use Rattle.ap_session.specs.Session.{written_fault};
+
+    ghost from_gives = { λ f e. e ≡ written_fault f };
+
+    fn from(fault: WriteFault) -> Fault {
+        at_write(fault)
+    }
+}
+
 /// A fault of reading.
 pub(crate) fn at_read(fault: ReadFault) -> Fault
     ensures failed { result ≡ Fault.Read → fault ≡ ReadFault.Failed }
@@ -39,6 +62,7 @@ pub(crate) fn at_read(fault: ReadFault) -> Fault
 
 /// A fault of writing.
 pub(crate) fn at_write(fault: WriteFault) -> Fault
+    ensures made { result ≡ written_fault fault }
     ensures failed { result ≡ Fault.Write → fault ≡ WriteFault.Failed }
     ensures told { fault ≡ WriteFault.Failed → result ≡ Fault.Write }
     ensures unread { result ≢ Fault.Read }

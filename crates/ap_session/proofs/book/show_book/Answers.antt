@@ -1,6 +1,6 @@
-use Rattle.std.proofs.Common.{refl, ap, sym, subst, ◌≡◌, ◌∙◌, arith, [], ◌∷◌}
+use Rattle.std.proofs.Common.{refl, ap, sym, subst, inr, Err, ◌≡◌, ◌∙◌, arith, [], ◌∷◌}
 use Rattle.std.proofs.lemmas.Result.{err_from_is_err_and}
-use Rattle.ap_outside.specs.declared.fault.WriteFault.TheVariants as faults
+use Rattle.ap_session.specs.declared.fault.Fault.TheVariants as faults
 use Rattle.ap_outside.proofs.Gains.{part_first, part_next, part_to}
 use Rattle.ap_books.specs.Bodies.{body_of, opened}
 use Rattle.ap_books.specs.Texts.{closing}
@@ -9,7 +9,8 @@ use Rattle.ap_session.specs.Certs.{seen_in, files_by}
 use Rattle.ap_session.specs.Session.{book_text, end_acts}
 use Rattle.ap_session.specs.Storing.{StoredPart}
 use Rattle.ap_session.specs.Working.{admits, ends}
-use Rattle.ap_session.proofs.Acting.{tied_put, tied_next, tied_same, acted_opened}
+use Rattle.ap_session.proofs.Acting.{tied_put, tied_next, tied_by, acted_opened}
+use Rattle.ap_session.proofs.Sessions.{only_failed, never_read}
 use Rattle.ap_session.proofs.Storing.{part_none as files_none}
 use Rattle.ap_session.proofs.book.show_book.Goals as goal
 
@@ -38,7 +39,8 @@ returns-in_err-held-clause-tied g c =
     let a = outside (g.S.Sink.content c.args.sink.now) (g.S.Sink.faults c.args.sink.now) files stores in
     let b = outside (g.S.Sink.content c.show_opened.new.sink) (g.S.Sink.faults c.show_opened.new.sink) files stores in
     let p = err_from_is_err_and c.from_residual.result c.from_residual.ensures.1 in
-    rw p.1 (tied_put a b (p.0 ≡ faults.Failed) (opened name body) (end_acts (seen_in c.args.before.now) name read body.certified) (λ failed. c.in_err-held.ensures.failed (cc (p.2, failed))) (λ failed. c.in_err-held.ensures.unput (cc (p.2, failed))) c.in_err-held.ensures.part refl)
+    let cause = λ (failed : p.0 ≡ faults.Write). ap (λ x. Err x) (only_failed _ (sym p.2 ∙ failed)) in
+    rw p.1 (tied_put a b (p.0 ≡ faults.Write) (opened name body) (end_acts (seen_in c.args.before.now) name read body.certified) (λ failed. c.in_err-held.ensures.failed (cause failed)) (λ failed. c.in_err-held.ensures.unput (cause failed)) c.in_err-held.ensures.part refl)
 
 pub returns-in_err-end_book-clause-part : goal.returns-in_err-end_book-clause-part
 unfolding book_text
@@ -78,8 +80,27 @@ returns-in_err-end_book-clause-tied g c =
     let d = outside (content c.end_book.new.sink) (puts c.end_book.new.sink) (files c.end_book.new.library) (stores c.end_book.new.library) in
     let p = err_from_is_err_and c.from_residual-in_err-end_book.result c.from_residual-in_err-end_book.ensures.1 in
     let good = c.as_ref.ensures.variant ∙ sym c.in_ok-held.ensures.certified in
-    rw p.1 (tied_next a b d (p.0 ≡ faults.Failed) (put (opened name body) ∷ []) (end_acts seen name read body.certified)
+    rw p.1 (tied_next a b d (p.0 ≡ faults.Write) (put (opened name body) ∷ []) (end_acts seen name read body.certified)
     (record { puts = c.in_ok-held.ensures.later; stores = omega arith })
     (record { puts = c.end_book.ensures.later; stores = c.end_book.ensures.stores })
     (acted_opened a b (opened name body) c.in_ok-held.ensures.text refl)
-    (subst (λ k. Tied b d (p.0 ≡ faults.Failed) (end_acts seen name read k)) good (tied_same b d faults.Failed _ p.0 _ p.2 c.in_err-end_book.ensures.tied)))
+    (subst (λ k. Tied b d (p.0 ≡ faults.Write) (end_acts seen name read k)) good (tied_by b d _ (p.0 ≡ faults.Write) _ (λ failed. only_failed _ (sym p.2 ∙ failed)) c.in_err-end_book.ensures.tied)))
+
+-- a fault of writing, as the session's, has the cause that it had
+pub returns-in_err-held-clause-failed : goal.returns-in_err-held-clause-failed
+returns-in_err-held-clause-failed g c = λ failed.
+    let p = err_from_is_err_and c.from_residual.result c.from_residual.ensures.1 in
+    let write : p.0 ≡ faults.Write = cc (p.1, failed) in
+    inr (c.in_err-held.ensures.failed (ap (λ x. Err x) (only_failed _ (sym p.2 ∙ write))))
+
+pub returns-in_err-held-clause-unread : goal.returns-in_err-held-clause-unread
+returns-in_err-held-clause-unread g c = λ failed.
+    let p = err_from_is_err_and c.from_residual.result c.from_residual.ensures.1 in
+    let read : p.0 ≡ faults.Read = cc (p.1, failed) in
+    never_read _ (sym p.2 ∙ read)
+
+pub returns-in_err-end_book-clause-unread : goal.returns-in_err-end_book-clause-unread
+returns-in_err-end_book-clause-unread g c = λ failed.
+    let p = err_from_is_err_and c.from_residual-in_err-end_book.result c.from_residual-in_err-end_book.ensures.1 in
+    let read : p.0 ≡ faults.Read = cc (p.1, failed) in
+    never_read _ (sym p.2 ∙ read)

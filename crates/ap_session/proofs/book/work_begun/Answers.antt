@@ -12,17 +12,17 @@ use Rattle.ap_session.proofs.book.work_begun.Goals as goal
 
 pub returns-in_err-certified-clause-led : goal.returns-in_err-certified-clause-led
 returns-in_err-certified-clause-led g c =
-    led_none c.args.admitting.now c.show_whole.new.admitting (body_of admits ends c.args.book.now.read c.args.admitting.now.working).log c.requires.begun c.requires.unkept c.in_err-certified.ensures.behind
+    led_none c.args.admitting.now c.show_book.new.admitting (body_of admits ends c.args.book.now.read c.args.admitting.now.working).log c.requires.begun c.requires.unkept c.in_err-certified.ensures.behind
 
 pub keep-requires : goal.keep-requires
 keep-requires g c =
-    kept_passed c.args.book.now.read c.args.admitting.now.working c.show_whole.new.admitting.working (c.in_ok-certified.ensures.certified ∙ c.if-not-certified.false) c.in_ok-certified.ensures.state
+    kept_passed c.args.book.now.read c.args.admitting.now.working c.show_book.new.admitting.working (c.in_ok-certified.ensures.certified ∙ c.if-not-certified.false) c.in_ok-certified.ensures.state
 
 pub returns-clause-led : goal.returns-clause-led
 returns-clause-led g c =
     let a = c.args.admitting.now in
-    let b = c.show_whole.new.admitting in
-    led_kept a b c.keep.new.admitting (body_of admits ends c.args.book.now.read a.working).log (kept_by b.working.second b.working.world) c.in_ok-certified.ensures.behind c.in_ok-keep.ensures.left
+    let b = c.show_book.new.admitting in
+    led_kept a b c.keep.new.self (body_of admits ends c.args.book.now.read a.working).log (kept_by b.working.second b.working.world) c.in_ok-certified.ensures.behind c.in_ok-keep.ensures.left
     (kept_told c.args.book.now.read a.working b.working (c.in_ok-certified.ensures.certified ∙ c.if-not-certified.false) c.in_ok-certified.ensures.state) c.in_ok-keep.ensures.limits c.in_ok-keep.ensures.notes c.in_ok-keep.ensures.workers
 
 pub returns-in_err-certified-clause-tied : goal.returns-in_err-certified-clause-tied
@@ -41,7 +41,7 @@ returns-in_err-keep-clause-tied g c =
     let seen = seen_in c.args.before.now in
     let body = body_of admits ends read c.args.admitting.now.working in
     let a = outside (content c.args.sink.now) (puts c.args.sink.now) (files c.args.library.now) (stores c.args.library.now) in
-    let b = outside (content c.show_whole.new.sink) (puts c.show_whole.new.sink) (files c.show_whole.new.library) (stores c.show_whole.new.library) in
+    let b = outside (content c.show_book.new.sink) (puts c.show_book.new.sink) (files c.show_book.new.library) (stores c.show_book.new.library) in
     let p = err_from_is_err_and c.from_residual-in_err-keep.result c.from_residual-in_err-keep.ensures.1 in
-    rw p.1 (tied_all a b (p.0 ≡ faults.Write) (book_acts seen name read body) (λ failed. absurd (cc (p.2, failed, c.in_err-keep.ensures.memory)))
+    rw p.1 (tied_all a b (p.0 ≡ faults.Write) (book_acts seen name read body) (λ failed. absurd (cc (p.2, failed)))
     (acted_book a b seen name read body c.in_ok-certified.ensures.text c.in_ok-certified.ensures.files))
