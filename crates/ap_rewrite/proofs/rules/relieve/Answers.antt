@@ -44,10 +44,10 @@ returns-in-Some-None-clause-is g c =
 
 pub returns-clause-is : goal.returns-clause-is
 returns-clause-is g c =
-    (all_relieved _ _ (inner_of c.args.l.now.r.now c.args.l.now.levels) (seen_at c.args.at.now) _ _ _ _ (record { pairs = c.loop-h.pairs; shown = c.loop-h.shown }) c.loop-h.run.left
+    (all_relieved _ _ (inner_of c.args.l.now.r.now c.args.l.now.levels) (seen_at c.args.at.now) _ _ _ _ (record { pairs = c.loop-h.pairs; shown = c.loop-h.shown }) c.loop-h.steps.left
     (drop_all c.loop-h.h-index c.args.hs.now (omega arith)) c.loop-h.invariant).0
 
 pub returns-clause-shown : goal.returns-clause-shown
 returns-clause-shown g c =
-    (all_relieved _ _ (inner_of c.args.l.now.r.now c.args.l.now.levels) (seen_at c.args.at.now) _ _ _ _ (record { pairs = c.loop-h.pairs; shown = c.loop-h.shown }) c.loop-h.run.left
+    (all_relieved _ _ (inner_of c.args.l.now.r.now c.args.l.now.levels) (seen_at c.args.at.now) _ _ _ _ (record { pairs = c.loop-h.pairs; shown = c.loop-h.shown }) c.loop-h.steps.left
     (drop_all c.loop-h.h-index c.args.hs.now (omega arith)) c.loop-h.invariant).1
