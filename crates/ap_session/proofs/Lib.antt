@@ -10,6 +10,7 @@ pub mod Passing
 pub mod Seconds
 pub mod Sessions
 pub mod Settings
+pub mod Showing
 pub mod Soundness
 pub mod Starting
 pub mod Storing

@@ -78,6 +78,14 @@ indexed files name books new next now i book e k is =
 pub fronted : (files : Option Files) (name : List ℕ) (books new : List BookSeen) (next : IsNext files name books new) (now : List BookSeen) (i : ℕ) → now ≡ new → i ≡ length books → take i now ≡ books
 fronted files name books new next now i e k = ap (take i) (e ∙ next.listed) ∙ ap (λ j. take j (books ++ next.book ∷ [])) k ∙ take-append_seam books (next.book ∷ [])
 
+-- the book that is worked next of those that are named, and those before it
+pub record NextBook (lib : Option Files) (names : List (List ℕ)) (name : List ℕ) (books new front : List BookSeen) (book : BookSeen) : Type 0 where
+  pub few : length books < length names
+  pub at : name ≡ get_or names (length books) name
+  pub next : IsNext lib name books new
+  pub same : book ≡ next.book
+  pub before : front ≡ books
+
 -- a name of the words at its place
 pub named_at : {A : Type 0} (f : A → List ℕ) (xs : List A) (i : ℕ) (x : A) → i < length xs → x ≡ get_or xs i x → f x ≡ get_or (map f xs) i (f x)
 named_at f [] i x h is = absurd (omega arith)

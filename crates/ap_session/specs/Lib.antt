@@ -6,6 +6,7 @@ pub mod CommandLines
 pub mod Demo
 pub mod Laws
 pub mod Session
+pub mod Showing
 pub mod Storing
 pub mod Texts
 pub mod Working

@@ -1,15 +1,16 @@
-ghost use Rattle.std.specs.Prelude.{◌≡◌, ◌≢◌, ◌≤◌, ◌⊎◌, ◌++◌, ◌∷◌, [], true, false, is_some, string_bytes, IfOk, IfErr, IfSome, OnOk, OnErr};
+ghost use Rattle.std.specs.Prelude.{◌≡◌, ◌≤◌, ◌⊎◌, ◌∷◌, [], true, false, is_some, string_bytes, IfOk, IfErr, IfSome, OnOk, OnErr};
 ghost use Rattle.ap_outside.specs.Faults.{Rose};
 ghost use Rattle.ap_outside.specs.Gains.{Gained, GainedPart};
 ghost use Rattle.ap_books.specs.Bodies.{worked, body_by, body_of, forms_by, forms_of, opened};
 ghost use Rattle.ap_books.specs.Texts.{closing};
 ghost use Rattle.ap_events.specs.Held.{held_in};
-ghost use Rattle.ap_session.specs.Acts.{outside, GainedLess, Tied};
+ghost use Rattle.ap_session.specs.Acts.{outside, Tied};
 ghost use Rattle.ap_session.specs.Certs.{seen_in, cert_name, files_by};
+ghost use Rattle.ap_session.specs.Showing.{Puts, BookWorked};
 ghost use Rattle.ap_session.specs.Storing.{Stored, StoredPart};
-ghost use Rattle.ap_session.specs.Working.{start, admits, ends, has_failed};
-ghost use Rattle.ap_session.specs.Admitting.{notes_in, left_in, Behind, Led};
-ghost use Rattle.ap_session.specs.Session.{read_body, kept_by, kept_more, last_of, book_text, end_acts, book_acts};
+ghost use Rattle.ap_session.specs.Working.{start, admits, ends};
+ghost use Rattle.ap_session.specs.Admitting.{left_in, Behind, Led};
+ghost use Rattle.ap_session.specs.Session.{read_body, kept_more, last_of, end_acts};
 
 use crate::admitting::Admitting;
 use crate::certs::{cert_text, held_of};
@@ -33,14 +34,10 @@ fn show_event<R: Threads + Wait + Sync, G: Gate + Sync, S: Sink>(
     admitting: &mut Admitting<'_, G>,
     sink: &mut S,
 ) -> Result<bool, WriteFault>
-    ensures text { OnOk result (Gained (S.content sink.old) (S.content sink.new) (admits admitting.old.working form.now).text) }
+    ensures puts { Puts (S.content sink.old) (S.content sink.new) (S.faults sink.old) (S.faults sink.new) result (admits admitting.old.working form.now).text }
     ensures refused { IfOk result (λ b. (admits admitting.old.working form.now).refused ≡ b) }
     ensures next { OnOk result ((admits admitting.old.working form.now).next ≡ admitting.new.working) }
-    ensures part { OnErr result (GainedPart (S.content sink.old) (S.content sink.new) (admits admitting.old.working form.now).text) }
-    ensures unput { result ≡ Err WriteFault.Failed → GainedLess (S.content sink.old) (S.content sink.new) (admits admitting.old.working form.now).text }
     ensures behind { Behind admitting.old admitting.new (admits admitting.old.working form.now).log }
-    ensures later { S.faults sink.old ≤ S.faults sink.new }
-    ensures failed { result ≡ Err WriteFault.Failed → Rose (S.faults sink.old) (S.faults sink.new) }
 {
     let done = admitting.admit(rt, alloc, form)?;
     put_whole(sink, done.text.as_slice())?;
@@ -53,12 +50,8 @@ fn show_end<G, S: Sink>(
     admitting: &Admitting<'_, G>,
     sink: &mut S,
 ) -> Result<bool, WriteFault>
-    ensures text { OnOk result (Gained (S.content sink.old) (S.content sink.new) (ends admitting.now.working).text) }
+    ensures puts { Puts (S.content sink.old) (S.content sink.new) (S.faults sink.old) (S.faults sink.new) result (ends admitting.now.working).text }
     ensures refused { IfOk result (λ b. (ends admitting.now.working).refused ≡ b) }
-    ensures part { OnErr result (GainedPart (S.content sink.old) (S.content sink.new) (ends admitting.now.working).text) }
-    ensures unput { result ≡ Err WriteFault.Failed → GainedLess (S.content sink.old) (S.content sink.new) (ends admitting.now.working).text }
-    ensures later { S.faults sink.old ≤ S.faults sink.new }
-    ensures failed { result ≡ Err WriteFault.Failed → Rose (S.faults sink.old) (S.faults sink.new) }
 {
     let ended = admitting.end(alloc)?;
     put_whole(sink, ended.text.as_slice())?;
@@ -74,14 +67,10 @@ fn show_events<R: Threads + Wait + Sync, G: Gate + Sync, S: Sink>(
     admitting: &mut Admitting<'_, G>,
     sink: &mut S,
 ) -> Result<bool, WriteFault>
-    ensures text { OnOk result (Gained (S.content sink.old) (S.content sink.new) (worked admits ends forms.now admitting.old.working).text) }
+    ensures puts { Puts (S.content sink.old) (S.content sink.new) (S.faults sink.old) (S.faults sink.new) result (worked admits ends forms.now admitting.old.working).text }
     ensures certified { IfOk result (λ b. (worked admits ends forms.now admitting.old.working).certified ≡ b) }
     ensures behind { Behind admitting.old admitting.new (worked admits ends forms.now admitting.old.working).log }
     ensures state { OnOk result ((worked admits ends forms.now admitting.old.working).state ≡ admitting.new.working) }
-    ensures part { OnErr result (GainedPart (S.content sink.old) (S.content sink.new) (worked admits ends forms.now admitting.old.working).text) }
-    ensures unput { result ≡ Err WriteFault.Failed → GainedLess (S.content sink.old) (S.content sink.new) (worked admits ends forms.now admitting.old.working).text }
-    ensures later { S.faults sink.old ≤ S.faults sink.new }
-    ensures failed { result ≡ Err WriteFault.Failed → Rose (S.faults sink.old) (S.faults sink.new) }
 {
     for form in forms {
         if show_event(rt, alloc, form, admitting, sink)? {
@@ -99,14 +88,10 @@ fn show_body<R: Threads + Wait + Sync, G: Gate + Sync, S: Sink>(
     admitting: &mut Admitting<'_, G>,
     sink: &mut S,
 ) -> Result<bool, WriteFault>
-    ensures text { OnOk result (Gained (S.content sink.old) (S.content sink.new) (body_by admits ends events.now admitting.old.working).text) }
+    ensures puts { Puts (S.content sink.old) (S.content sink.new) (S.faults sink.old) (S.faults sink.new) result (body_by admits ends events.now admitting.old.working).text }
     ensures certified { IfOk result (λ b. (body_by admits ends events.now admitting.old.working).certified ≡ b) }
     ensures behind { Behind admitting.old admitting.new (body_by admits ends events.now admitting.old.working).log }
     ensures state { OnOk result ((body_by admits ends events.now admitting.old.working).state ≡ admitting.new.working) }
-    ensures part { OnErr result (GainedPart (S.content sink.old) (S.content sink.new) (body_by admits ends events.now admitting.old.working).text) }
-    ensures unput { result ≡ Err WriteFault.Failed → GainedLess (S.content sink.old) (S.content sink.new) (body_by admits ends events.now admitting.old.working).text }
-    ensures later { S.faults sink.old ≤ S.faults sink.new }
-    ensures failed { result ≡ Err WriteFault.Failed → Rose (S.faults sink.old) (S.faults sink.new) }
 {
     match events {
         Ok(events) => show_events(rt, alloc, events.as_slice(), admitting, sink),
@@ -123,15 +108,11 @@ fn show_held<R: Threads + Wait + Sync, G: Gate + Sync, S: Sink>(
     admitting: &mut Admitting<'_, G>,
     sink: &mut S,
 ) -> Result<Option<Held>, WriteFault>
-    ensures text { OnOk result (Gained (S.content sink.old) (S.content sink.new) (body_by admits ends events.now admitting.old.working).text) }
+    ensures puts { Puts (S.content sink.old) (S.content sink.new) (S.faults sink.old) (S.faults sink.new) result (body_by admits ends events.now admitting.old.working).text }
     ensures certified { IfOk result (λ o. (body_by admits ends events.now admitting.old.working).certified ≡ is_some o) }
     ensures held { IfOk result (λ o. IfSome o (λ h. h ≡ held_in (forms_by events.now))) }
     ensures behind { Behind admitting.old admitting.new (body_by admits ends events.now admitting.old.working).log }
     ensures state { OnOk result ((body_by admits ends events.now admitting.old.working).state ≡ admitting.new.working) }
-    ensures part { OnErr result (GainedPart (S.content sink.old) (S.content sink.new) (body_by admits ends events.now admitting.old.working).text) }
-    ensures unput { result ≡ Err WriteFault.Failed → GainedLess (S.content sink.old) (S.content sink.new) (body_by admits ends events.now admitting.old.working).text }
-    ensures later { S.faults sink.old ≤ S.faults sink.new }
-    ensures failed { result ≡ Err WriteFault.Failed → Rose (S.faults sink.old) (S.faults sink.new) }
 {
     if !show_body(rt, alloc, events, admitting, sink)? {
         return Ok(None);
@@ -149,15 +130,11 @@ fn show_opened<R: Threads + Wait + Sync, G: Gate + Sync, S: Sink>(
     admitting: &mut Admitting<'_, G>,
     sink: &mut S,
 ) -> Result<Option<Held>, WriteFault>
-    ensures text { OnOk result (Gained (S.content sink.old) (S.content sink.new) (opened book.now.name.0 (body_of admits ends book.now.read admitting.old.working))) }
+    ensures puts { Puts (S.content sink.old) (S.content sink.new) (S.faults sink.old) (S.faults sink.new) result (opened book.now.name.0 (body_of admits ends book.now.read admitting.old.working)) }
     ensures certified { IfOk result (λ o. (body_of admits ends book.now.read admitting.old.working).certified ≡ is_some o) }
     ensures held { IfOk result (λ o. IfSome o (λ h. h ≡ held_in (forms_of book.now.read))) }
     ensures state { OnOk result ((body_of admits ends book.now.read admitting.old.working).state ≡ admitting.new.working) }
-    ensures part { OnErr result (GainedPart (S.content sink.old) (S.content sink.new) (opened book.now.name.0 (body_of admits ends book.now.read admitting.old.working))) }
-    ensures unput { result ≡ Err WriteFault.Failed → GainedLess (S.content sink.old) (S.content sink.new) (opened book.now.name.0 (body_of admits ends book.now.read admitting.old.working)) }
     ensures behind { Behind admitting.old admitting.new (body_of admits ends book.now.read admitting.old.working).log }
-    ensures later { S.faults sink.old ≤ S.faults sink.new }
-    ensures failed { result ≡ Err WriteFault.Failed → Rose (S.faults sink.old) (S.faults sink.new) }
 {
     let first = opening(alloc, book.name.0.as_slice())?;
     put_whole(sink, first.as_slice())?;
@@ -252,19 +229,11 @@ fn show_book<R: Threads + Wait + Sync, L: Library, G: Gate + Sync, S: Sink>(
     sink: &mut S,
 ) -> Result<bool, Fault>
     requires named { string_bytes name.now ≡ book.now.name.0 }
-    ensures text { OnOk result (Gained (S.content sink.old) (S.content sink.new) (book_text book.now.name.0 (body_of admits ends book.now.read admitting.old.working))) }
+    ensures book { BookWorked (outside (S.content sink.old) (S.faults sink.old) (L.files library.old) (L.store_faults library.old)) (outside (S.content sink.new) (S.faults sink.new) (L.files library.new) (L.store_faults library.new)) result before.now book.now (body_of admits ends book.now.read admitting.old.working) }
     ensures certified { IfOk result (λ b. (body_of admits ends book.now.read admitting.old.working).certified ≡ b) }
     ensures state { OnOk result ((body_of admits ends book.now.read admitting.old.working).state ≡ admitting.new.working) }
-    ensures files { OnOk result (Stored (L.files library.old) (L.files library.new) (files_by (seen_in before.now) book.now.name.0 book.now.read (body_of admits ends book.now.read admitting.old.working).certified)) }
-    ensures part { OnErr result (GainedPart (S.content sink.old) (S.content sink.new) (book_text book.now.name.0 (body_of admits ends book.now.read admitting.old.working))) }
     ensures behind { Behind admitting.old admitting.new (body_of admits ends book.now.read admitting.old.working).log }
-    ensures stored { OnErr result (StoredPart (L.files library.old) (L.files library.new) (files_by (seen_in before.now) book.now.name.0 book.now.read (body_of admits ends book.now.read admitting.old.working).certified)) }
-    ensures tied { IfErr result (λ e. Tied (outside (S.content sink.old) (S.faults sink.old) (L.files library.old) (L.store_faults library.old)) (outside (S.content sink.new) (S.faults sink.new) (L.files library.new) (L.store_faults library.new)) (e ≡ Fault.Write) (book_acts (seen_in before.now) book.now.name.0 book.now.read (body_of admits ends book.now.read admitting.old.working))) }
     ensures reads { L.read_faults library.new ≡ L.read_faults library.old }
-    ensures stores { L.store_faults library.old ≤ L.store_faults library.new }
-    ensures later { S.faults sink.old ≤ S.faults sink.new }
-    ensures failed { result ≡ Err Fault.Write → Rose (L.store_faults library.old) (L.store_faults library.new) ⊎ Rose (S.faults sink.old) (S.faults sink.new) }
-    ensures unread { result ≢ Err Fault.Read }
 {
     let held = show_opened(rt, alloc, book, admitting, sink)?;
     end_book(alloc, name, before, book, held.as_ref(), library, sink)?;
@@ -286,20 +255,12 @@ fn work_begun<R: Threads + Wait + Sync, L: Library, G: Gate + Sync, S: Sink>(
     requires begun { admitting.old.working.world ≡ start }
     requires unkept { admitting.old.kept ≡ false }
     requires named { string_bytes name.now ≡ book.now.name.0 }
-    ensures text { OnOk result (Gained (S.content sink.old) (S.content sink.new) (book_text book.now.name.0 (body_of admits ends book.now.read admitting.old.working))) }
+    ensures book { BookWorked (outside (S.content sink.old) (S.faults sink.old) (L.files library.old) (L.store_faults library.old)) (outside (S.content sink.new) (S.faults sink.new) (L.files library.new) (L.store_faults library.new)) result before.now book.now (body_of admits ends book.now.read admitting.old.working) }
     ensures certified { IfOk result (λ b. (body_of admits ends book.now.read admitting.old.working).certified ≡ b) }
     ensures earlier { OnOk result (kept_more admitting.old.working.earlier book.now.name.0 (body_of admits ends book.now.read admitting.old.working) ≡ admitting.new.working.earlier) }
     ensures last { OnOk result (last_of (body_of admits ends book.now.read admitting.old.working) ≡ left_in admitting.new) }
-    ensures files { OnOk result (Stored (L.files library.old) (L.files library.new) (files_by (seen_in before.now) book.now.name.0 book.now.read (body_of admits ends book.now.read admitting.old.working).certified)) }
-    ensures part { OnErr result (GainedPart (S.content sink.old) (S.content sink.new) (book_text book.now.name.0 (body_of admits ends book.now.read admitting.old.working))) }
     ensures led { Led admitting.old admitting.new (body_of admits ends book.now.read admitting.old.working).log }
-    ensures stored { OnErr result (StoredPart (L.files library.old) (L.files library.new) (files_by (seen_in before.now) book.now.name.0 book.now.read (body_of admits ends book.now.read admitting.old.working).certified)) }
-    ensures tied { IfErr result (λ e. Tied (outside (S.content sink.old) (S.faults sink.old) (L.files library.old) (L.store_faults library.old)) (outside (S.content sink.new) (S.faults sink.new) (L.files library.new) (L.store_faults library.new)) (e ≡ Fault.Write) (book_acts (seen_in before.now) book.now.name.0 book.now.read (body_of admits ends book.now.read admitting.old.working))) }
     ensures reads { L.read_faults library.new ≡ L.read_faults library.old }
-    ensures stores { L.store_faults library.old ≤ L.store_faults library.new }
-    ensures later { S.faults sink.old ≤ S.faults sink.new }
-    ensures failed { result ≡ Err Fault.Write → Rose (L.store_faults library.old) (L.store_faults library.new) ⊎ Rose (S.faults sink.old) (S.faults sink.new) }
-    ensures unread { result ≢ Err Fault.Read }
 {
     let certified = show_book(rt, alloc, name, before, book, admitting, library, sink)?;
     if !certified {
@@ -323,20 +284,12 @@ pub(crate) fn work_book<R: Threads + Wait + Sync, L: Library, G: Gate + Sync, S:
     sink: &mut S,
 ) -> Result<bool, Fault>
     requires named { string_bytes name.now ≡ book.now.name.0 }
-    ensures text { OnOk result (Gained (S.content sink.old) (S.content sink.new) (book_text book.now.name.0 (read_body admitting.old.working.limits admitting.old.working.earlier book.now.read))) }
+    ensures book { BookWorked (outside (S.content sink.old) (S.faults sink.old) (L.files library.old) (L.store_faults library.old)) (outside (S.content sink.new) (S.faults sink.new) (L.files library.new) (L.store_faults library.new)) result before.now book.now (read_body admitting.old.working.limits admitting.old.working.earlier book.now.read) }
     ensures certified { IfOk result (λ b. (read_body admitting.old.working.limits admitting.old.working.earlier book.now.read).certified ≡ b) }
     ensures earlier { OnOk result (kept_more admitting.old.working.earlier book.now.name.0 (read_body admitting.old.working.limits admitting.old.working.earlier book.now.read) ≡ admitting.new.working.earlier) }
     ensures last { OnOk result (last_of (read_body admitting.old.working.limits admitting.old.working.earlier book.now.read) ≡ left_in admitting.new) }
-    ensures files { OnOk result (Stored (L.files library.old) (L.files library.new) (files_by (seen_in before.now) book.now.name.0 book.now.read (read_body admitting.old.working.limits admitting.old.working.earlier book.now.read).certified)) }
-    ensures part { OnErr result (GainedPart (S.content sink.old) (S.content sink.new) (book_text book.now.name.0 (read_body admitting.old.working.limits admitting.old.working.earlier book.now.read))) }
     ensures led { Led admitting.old admitting.new (read_body admitting.old.working.limits admitting.old.working.earlier book.now.read).log }
-    ensures stored { OnErr result (StoredPart (L.files library.old) (L.files library.new) (files_by (seen_in before.now) book.now.name.0 book.now.read (read_body admitting.old.working.limits admitting.old.working.earlier book.now.read).certified)) }
-    ensures tied { IfErr result (λ e. Tied (outside (S.content sink.old) (S.faults sink.old) (L.files library.old) (L.store_faults library.old)) (outside (S.content sink.new) (S.faults sink.new) (L.files library.new) (L.store_faults library.new)) (e ≡ Fault.Write) (book_acts (seen_in before.now) book.now.name.0 book.now.read (read_body admitting.old.working.limits admitting.old.working.earlier book.now.read))) }
     ensures reads { L.read_faults library.new ≡ L.read_faults library.old }
-    ensures stores { L.store_faults library.old ≤ L.store_faults library.new }
-    ensures later { S.faults sink.old ≤ S.faults sink.new }
-    ensures failed { result ≡ Err Fault.Write → Rose (L.store_faults library.old) (L.store_faults library.new) ⊎ Rose (S.faults sink.old) (S.faults sink.new) }
-    ensures unread { result ≢ Err Fault.Read }
 {
     match admitting.begin(alloc) {
         Ok(()) => work_begun(rt, alloc, name, before, book, admitting, library, sink),
