@@ -19,7 +19,8 @@ use Rattle.ap_world.proofs.Again.{theorem_again, obligations_again}
 use Rattle.ap_world.proofs.Extending.{entry_of-passed, not_taken}
 use Rattle.ap_world.proofs.Knowing.{true_each}
 use Rattle.ap_kernel.specs.Reductions.{KnownClause}
-use Rattle.ap_admit.specs.Condition.{owed, clause_of}
+use Rattle.ap_terminate.specs.Distinct.{clause_of}
+use Rattle.ap_admit.specs.Condition.{owed}
 use Rattle.ap_strategy.specs.Laws.{kernel_ground}
 use Rattle.ap_stated.specs.declared.owed.Owed.{Owed}
 use Rattle.ap_plain.specs.declared.proposing.Proposal.{Proposal}
