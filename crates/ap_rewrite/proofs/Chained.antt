@@ -11,11 +11,13 @@ use Rattle.ap_kernel.specs.declared.objects.Ctx.{Ctx}
 use Rattle.ap_kernel.specs.declared.objects.Mode.{Mode}
 use Rattle.ap_kernel.specs.declared.objects.Equiv.{Equiv}
 use Rattle.ap_kernel.specs.Opening.{is_quoted}
+use Rattle.ap_rewrite.specs.declared.rewriter.Tried.{Tried}
+use Rattle.ap_rewrite.specs.declared.rewriter.Tried.TheVariants.{Applied}
 use Rattle.ap_rewrite.specs.Settings.{Setting, Place, Inner}
 use Rattle.ap_rewrite.specs.InWorld.{world_setting}
 use Rattle.ap_rewrite.specs.Linear.{by_arithmetic}
 use Rattle.ap_rewrite.specs.Rewriting.{answered, led, run, settle, equate, tried, by_rules, by_definition}
-use Rattle.ap_rewrite.specs.Answering.{From, got, got_any, from_settling, from_equating, from_arithmetic, from_rules}
+use Rattle.ap_rewrite.specs.Answering.{where_applied, From, got, got_any, from_settling, from_equating, from_arithmetic, from_rules}
 use Rattle.ap_rewrite.proofs.Froms.{got_answered}
 
 -- the first one applies, or the others are tried
@@ -48,20 +50,20 @@ pub passed : (k : By (Option Term)) (ks : List (By (Option Term))) (n m : ℕ) �
 passed k ks n m e = then_none k ks n m (first_that ks m) e refl
 
 -- what is answered where the definition's answer is the same
-pub same_answer : (x : Result (Option (Option Equiv)) AllocError) (m : ℕ) (g h : Got (Option Term)) → g ≡ h → IfOk x (λ o. got_any o m ≡ g) → IfOk x (λ o. got_any o m ≡ h)
+pub same_answer : (x : Result (Option (Tried Equiv)) AllocError) (m : ℕ) (g h : Got (Option Term)) → g ≡ h → IfOk x (λ o. got_any o m ≡ g) → IfOk x (λ o. got_any o m ≡ h)
 same_answer x m g h e k = subst (λ (y : Got (Option Term)). IfOk x (λ o. got_any o m ≡ y)) e k
 
-pub same_from : (w : Shown) (o : Mode) (c : Ctx) (u v : Term) (x : Result (Option (Option Equiv)) AllocError) → u ≡ v
-    → IfOk x (λ y. IfSome y (λ a. IfSome a (From w o c u))) → IfOk x (λ y. IfSome y (λ a. IfSome a (From w o c v)))
-same_from w o c u v x e h = subst (λ (t : Term). IfOk x (λ y. IfSome y (λ a. IfSome a (From w o c t)))) e h
+pub same_from : (w : Shown) (o : Mode) (c : Ctx) (u v : Term) (x : Result (Option (Tried Equiv)) AllocError) → u ≡ v
+    → IfOk x (λ y. IfSome y (λ a. IfSome (where_applied a) (From w o c u))) → IfOk x (λ y. IfSome y (λ a. IfSome (where_applied a) (From w o c v)))
+same_from w o c u v x e h = subst (λ (t : Term). IfOk x (λ y. IfSome y (λ a. IfSome (where_applied a) (From w o c t)))) e h
 
 -- an answer that is there is one from the term
-pub answered_from : (w : Shown) (o : Mode) (c : Ctx) (u : Term) (y : Option Equiv) (x : Option (Option Equiv)) → x ≡ option_map Some y → IfSome y (From w o c u) → IfSome x (λ a. IfSome a (From w o c u))
-answered_from w o c u None x e h = subst (λ (z : Option (Option Equiv)). IfSome z (λ a. IfSome a (From w o c u))) (sym e) tt
-answered_from w o c u (Some q) x e h = subst (λ (z : Option (Option Equiv)). IfSome z (λ a. IfSome a (From w o c u))) (sym e) h
+pub answered_from : (w : Shown) (o : Mode) (c : Ctx) (u : Term) (y : Option Equiv) (x : Option (Tried Equiv)) → x ≡ option_map Applied y → IfSome y (From w o c u) → IfSome x (λ a. IfSome (where_applied a) (From w o c u))
+answered_from w o c u None x e h = subst (λ (z : Option (Tried Equiv)). IfSome z (λ a. IfSome (where_applied a) (From w o c u))) (sym e) tt
+answered_from w o c u (Some q) x e h = subst (λ (z : Option (Tried Equiv)). IfSome z (λ a. IfSome (where_applied a) (From w o c u))) (sym e) h
 
-pub answered_is : (y : Option Equiv) (x : Option (Option Equiv)) (m : ℕ) (g : Got Term) → x ≡ option_map Some y → got y m ≡ g → got_any x m ≡ answered g
-answered_is y x m g e h = ap (λ (z : Option (Option Equiv)). got_any z m) e ∙ got_answered y m ∙ ap answered h
+pub answered_is : (y : Option Equiv) (x : Option (Tried Equiv)) (m : ℕ) (g : Got Term) → x ≡ option_map Applied y → got y m ≡ g → got_any x m ≡ answered g
+answered_is y x m g e h = ap (λ (z : Option (Tried Equiv)). got_any z m) e ∙ got_answered y m ∙ ap answered h
 
 -- where an equation leads: nowhere, to a constant, and on
 module _ (S : Setting) (r : Inner) (o : Mode) (p : Place) where

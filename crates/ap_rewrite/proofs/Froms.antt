@@ -22,6 +22,7 @@ use Rattle.ap_kernel.specs.declared.objects.Sequent.{Sequent}
 use Rattle.ap_kernel.specs.declared.objects.Equiv.{Equiv}
 use Rattle.ap_kernel.specs.Standing.{Stands}
 use Rattle.ap_kernel.specs.Answers.{if_of, ModeFits, trans_made, branch_made, chosen_made}
+use Rattle.ap_rewrite.specs.declared.rewriter.Tried.TheVariants.{Applied}
 use Rattle.ap_rewrite.specs.Leading.{leads_made, said_of, Serves}
 use Rattle.ap_rewrite.specs.Answering.{From, right_of, got, got_any}
 use Rattle.ap_rewrite.specs.Rewriting.{answered}
@@ -157,7 +158,7 @@ each_found w None c m u x s e = tt
 each_found w (Some q) c m u x s e = from_found w q c m u x s e
 
 -- an answer that is there
-pub got_answered : (o : Option Equiv) (n : ℕ) → got_any (option_map Some o) n ≡ answered (got o n)
+pub got_answered : (o : Option Equiv) (n : ℕ) → got_any (option_map Applied o) n ≡ answered (got o n)
 got_answered None n = refl
 got_answered (Some q) n = refl
 

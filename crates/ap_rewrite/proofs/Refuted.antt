@@ -38,7 +38,7 @@ use Rattle.ap_rewrite.specs.InWorld.{world_setting}
 use Rattle.ap_rewrite.specs.Linear.{most_polys, bounds, given, with_rules, refuted, by_truth, by_less, by_orders, by_equal}
 use Rattle.ap_rewrite.specs.Refuting.{Refutes, Squeezes, IntegersWithin}
 use Rattle.ap_rewrite.specs.Leading.{said_of}
-use Rattle.ap_rewrite.specs.Answering.{From, got_if, used_each}
+use Rattle.ap_rewrite.specs.Answering.{From, used_each}
 use Rattle.ap_rewrite.proofs.Ruled.{after_out, after_some}
 use Rattle.ap_rewrite.proofs.Triggers.{all_triggered}
 use Rattle.ap_rewrite.proofs.LinearUsed.{Triggered, found_all}
@@ -63,7 +63,7 @@ module _ (w : Shown) (h : Theory) (us : List Term) (r : Inner) (p : Place) (u : 
   refuted_out e = after_out _ _ e
 
   pub refuted_found : (qs : List Polynomial) (m : ℕ) (o : Option Equiv) (c : Ctx) → Some (qs, m) ≡ Listed → said_of o ≡ option_map (λ by. refuted_made c u s) (lin (take most_polys qs))
-      → got_if (Some o) m ≡ refuted Here r p u s n
+      → Some (is_some o, m) ≡ refuted Here r p u s n
   refuted_found qs m o c e is = ap (λ b. Some (b, m)) (go o (lin (take most_polys qs)) is) ∙ after_some _ _ qs m _ e refl
     where
       go : (o : Option Equiv) (x : Option (List ℕ)) → said_of o ≡ option_map (λ by. refuted_made c u s) x → is_some o ≡ is_some x

@@ -2,6 +2,8 @@
 use Rattle.std.proofs.Common.{◌≡◌, ℕ, Bool, true, false, cond, List, [], ◌∷◌, map, Option, Some, None, IfSome, sym, ap, ◌∙◌}
 use Rattle.std.specs.Option.{option_map}
 use Rattle.ap_term.specs.Metered.{Got, By, after, or_else, first_that}
+use Rattle.ap_rewrite.specs.declared.rewriter.Tried.TheVariants.{Applied}
+use Rattle.ap_rewrite.specs.Answering.{where_applied}
 
 -- what a test chooses
 pub taken : {A : Type 0} (b : Bool) (g x y : A) → b ≡ true → g ≡ x → g ≡ cond b x y
@@ -20,7 +22,7 @@ pub after_some : {A B : Type 0} (g : Got A) (k : A → By B) (a : A) (m : ℕ) (
 after_some g k a m x e h = h ∙ ap (λ y. after y k) e
 
 -- an answer that is there
-pub each_answered : {A : Type 0} (P : A → Type 0) (o : Option A) → IfSome o P → IfSome (option_map Some o) (λ a. IfSome a P)
+pub each_answered : {A : Type 0} (P : A → Type 0) (o : Option A) → IfSome o P → IfSome (option_map Applied o) (λ a. IfSome (where_applied a) P)
 each_answered P None h = tt
 each_answered P (Some a) h = h
 

@@ -31,6 +31,7 @@ use Rattle.ap_world.specs.declared.shapes.ShapeRef.TheVariants as lent
 use Rattle.ap_kernel.specs.Answers.{if_of}
 use Rattle.ap_kernel.specs.Opening.{body_at, opened}
 use Rattle.ap_world.specs.Lent.{seen}
+use Rattle.ap_rewrite.specs.declared.rewriter.Tried.{Tried}
 use Rattle.ap_rewrite.specs.Settings.{Setting, Place, Inner, closing}
 use Rattle.ap_rewrite.specs.Rewriting.{most_nodes, truth_of, none, walk, walk_on, open_instance, opened as opening}
 use Rattle.ap_rewrite.specs.Answering.{got_any}
@@ -87,10 +88,10 @@ made_choice o u w x y e h = let same : ◌≡◌ {A = Option Term} (Some u) (Som
 
 module _ (S : Setting) (r : Inner) (o : Mode) (p : Place) where
   -- the walk from the steps from which its test led to this
-  abbrev pub From_steps : Result (Option (Option Equiv)) AllocError → ℕ → Place → Term → Term → Term → ℕ → Type 0
+  abbrev pub From_steps : Result (Option (Tried Equiv)) AllocError → ℕ → Place → Term → Term → Term → ℕ → Type 0
   From_steps x k q u a v m = IfOk x (λ y. (n : ℕ) → Some (v, m) ≡ r Iff p a n → got_any y k ≡ walk S r o p q u false n)
 
-  pub past_steps : (q : Place) (u a b c v : Term) (taken : Bool) (m k : ℕ) (x : Result (Option (Option Equiv)) AllocError) → u ≡ if_of a b c
+  pub past_steps : (q : Place) (u a b c v : Term) (taken : Bool) (m k : ℕ) (x : Result (Option (Tried Equiv)) AllocError) → u ≡ if_of a b c
       → IfOk x (λ y. got_any y k ≡ walk_on S r o p q taken v (truth_of v) (b, walk S r o p q b) (c, walk S r o p q c) m)
       → IfOk x (λ y. (n : ℕ) → Some (v, m) ≡ r Iff p a n → got_any y k ≡ walk S r o p q u taken n)
   past_steps q u a b c v taken m k (Ok y) is h = λ n e. h ∙ walk_past S r o p q u a b c v taken n m is e
@@ -100,7 +101,7 @@ module _ (S : Setting) (r : Inner) (o : Mode) (p : Place) where
   same_instance x u w e h = let same : ◌≡◌ {A = Option Term} (Some u) (Some w) = e ∙ h in cc
 
   -- where the function is closed
-  pub closed_steps : (f : Symbol) (fs : List Symbol) (D : Defs) (t u a v : Term) (m k : ℕ) (x : Result (Option (Option Equiv)) AllocError) → fs ≡ f ∷ p.closed → Some u ≡ opened D t
+  pub closed_steps : (f : Symbol) (fs : List Symbol) (D : Defs) (t u a v : Term) (m k : ℕ) (x : Result (Option (Tried Equiv)) AllocError) → fs ≡ f ∷ p.closed → Some u ≡ opened D t
       → From_steps x k (record { facts = p.facts; closed = fs; chain = p.chain }) u a v m
       → IfOk x (λ y. (w : Term) (n : ℕ) → opened D t ≡ Some w → Some (v, m) ≡ r Iff p a n → got_any y k ≡ walk S r o p (closing f p) w false n)
   closed_steps f fs D t u a v m k (Ok y) is made h = λ w n e s.
@@ -110,7 +111,7 @@ module _ (S : Setting) (r : Inner) (o : Mode) (p : Place) where
   closed_steps f fs D t u a v m k (Err e) is made h = tt
 
   -- from these steps
-  pub from_steps : (f : Symbol) (D : Defs) (t w a d v : Term) (m k n : ℕ) (x : Result (Option (Option Equiv)) AllocError) → opened D t ≡ Some w → d ≡ a → Some (v, m) ≡ r Iff p a n
+  pub from_steps : (f : Symbol) (D : Defs) (t w a d v : Term) (m k n : ℕ) (x : Result (Option (Tried Equiv)) AllocError) → opened D t ≡ Some w → d ≡ a → Some (v, m) ≡ r Iff p a n
       → IfOk x (λ y. (w : Term) (n : ℕ) → opened D t ≡ Some w → Some (v, m) ≡ r Iff p d n → got_any y k ≡ walk S r o p (closing f p) w false n)
       → IfOk x (λ y. got_any y k ≡ walk S r o p (closing f p) w false n)
   from_steps f D t w a d v m k n (Ok y) made same e h = h w n made (e ∙ ap (λ (z : Term). r Iff p z n) (sym same))

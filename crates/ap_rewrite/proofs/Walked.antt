@@ -23,9 +23,10 @@ use Rattle.ap_world.specs.declared.shapes.ShapeRef.TheVariants as lent
 use Rattle.ap_world.specs.Lent.{seen}
 use Rattle.ap_kernel.specs.Answers.{if_of}
 use denote.Ref.{Bor}
+use Rattle.ap_rewrite.specs.declared.rewriter.Tried.{Tried}
 use Rattle.ap_rewrite.specs.Settings.{Setting, Place, Inner}
 use Rattle.ap_rewrite.specs.Rewriting.{truth_of, answered, none, both, Walk, walk_on, walk_shape, walk}
-use Rattle.ap_rewrite.specs.Answering.{From, leaf_on, ends_on}
+use Rattle.ap_rewrite.specs.Answering.{where_applied, From, leaf_on, ends_on}
 use Rattle.ap_rewrite.proofs.Froms.{if_parts, choice_parts, right_known}
 
 abbrev pub branches_there : {A : Type 0} → Shape A → Bool
@@ -189,9 +190,9 @@ seen_parts w o k u v q a b c f same e =
     (sym same ∙ parts.0, parts.1)
 
 -- under facts that are the same
-pub same_place : (w : Shown) (o : Mode) (k l : Ctx) (u : Term) (x : Result (Option (Option Equiv)) AllocError) → k ≡ l
-    → IfOk x (λ y. IfSome y (λ a. IfSome a (From w o k u))) → IfOk x (λ y. IfSome y (λ a. IfSome a (From w o l u)))
-same_place w o k l u x e h = subst (λ (z : Ctx). IfOk x (λ y. IfSome y (λ a. IfSome a (From w o z u)))) e h
+pub same_place : (w : Shown) (o : Mode) (k l : Ctx) (u : Term) (x : Result (Option (Tried Equiv)) AllocError) → k ≡ l
+    → IfOk x (λ y. IfSome y (λ a. IfSome (where_applied a) (From w o k u))) → IfOk x (λ y. IfSome y (λ a. IfSome (where_applied a) (From w o l u)))
+same_place w o k l u x e h = subst (λ (z : Ctx). IfOk x (λ y. IfSome y (λ a. IfSome (where_applied a) (From w o z u)))) e h
 
 pub same_found : (w : Shown) (o : Mode) (k l : Ctx) (u : Term) (x : Option Equiv) → k ≡ l → IfSome x (From w o k u) → IfSome x (From w o l u)
 same_found w o k l u x e h = subst (λ (z : Ctx). IfSome x (From w o z u)) e h

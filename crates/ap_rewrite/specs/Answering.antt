@@ -29,6 +29,8 @@ use Rattle.ap_kernel.specs.Applying.{AllLead}
 use Rattle.ap_kernel.specs.Standing.{DefinesNot, Stands}
 use Rattle.ap_rewrite.specs.declared.rewriter.Rewriter.{Rewriter}
 use Rattle.ap_rewrite.specs.declared.rewriter.Place.{Place}
+use Rattle.ap_rewrite.specs.declared.rewriter.Tried.{Tried}
+use Rattle.ap_rewrite.specs.declared.rewriter.Tried.TheVariants.{Applied, PassedBy}
 use Rattle.ap_rewrite.specs.declared.branching.BothBranches.{BothBranches}
 use Rattle.ap_rewrite.specs.declared.facts.Relieved.{Relieved}
 use Rattle.ap_rewrite.specs.declared.rules.Reliefs.{Reliefs}
@@ -76,14 +78,19 @@ steps_after (Some p) = p.1
 abbrev pub right_of : Option Equiv → Option Term
 right_of o = option_map (λ (q : Equiv). q.says.rhs) o
 
-abbrev pub got_any : Option (Option Equiv) → ℕ → Got (Option Term)
+-- what something gave, where it applied
+abbrev pub where_applied : {A : Type 0} → Tried A → Option A
+where_applied (Applied x) = Some x
+where_applied PassedBy = None
+
+abbrev pub got_any : Option (Tried Equiv) → ℕ → Got (Option Term)
 got_any None n = None
-got_any (Some o) n = Some (right_of o, n)
+got_any (Some o) n = Some (right_of (where_applied o), n)
 
 -- whether there is one
-abbrev pub got_if : Option (Option Equiv) → ℕ → Got Bool
+abbrev pub got_if : Option (Tried Equiv) → ℕ → Got Bool
 got_if None n = None
-got_if (Some o) n = Some (is_some o, n)
+got_if (Some o) n = Some (is_some (where_applied o), n)
 
 -- polynomials
 abbrev pub got_polys : Option (List Polynomial) → ℕ → Got (List Polynomial)
@@ -160,16 +167,16 @@ module _ (S : Setting) (r : Inner) (p : Stood) where
 abbrev pub pairs_of : Option Relieved → Option Pairs
 pairs_of o = option_map (λ (q : Relieved). q.pairs.0) o
 
-abbrev pub got_pairs : Option (Option Relieved) → ℕ → Got (Option Pairs)
+abbrev pub got_pairs : Option (Tried Relieved) → ℕ → Got (Option Pairs)
 got_pairs None n = None
-got_pairs (Some o) n = Some (pairs_of o, n)
+got_pairs (Some o) n = Some (pairs_of (where_applied o), n)
 
 abbrev pub all_pairs : Option Reliefs → Option Pairs
 all_pairs o = option_map (λ (q : Reliefs). q.pairs.0) o
 
-abbrev pub got_reliefs : Option (Option Reliefs) → ℕ → Got (Option Pairs)
+abbrev pub got_reliefs : Option (Tried Reliefs) → ℕ → Got (Option Pairs)
 got_reliefs None n = None
-got_reliefs (Some o) n = Some (all_pairs o, n)
+got_reliefs (Some o) n = Some (all_pairs (where_applied o), n)
 
 -- a rule of the world, by the part of a theorem that it is
 pub record IsRuleOf (w : Shown) (g : Rule) : Type 0 where

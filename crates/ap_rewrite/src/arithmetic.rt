@@ -7,14 +7,14 @@ ghost use Rattle.ap_kernel.specs.Linear.{is_comparison, less_of};
 ghost use Rattle.ap_kernel.specs.Equations.{equal_of};
 ghost use Rattle.ap_rewrite.specs.Linear.{refuted, by_truth, by_less, by_orders, by_equal, by_equation, by_arithmetic};
 ghost use Rattle.ap_rewrite.specs.Refuting.{Refutes, Squeezes, IntegersWithin};
-ghost use Rattle.ap_rewrite.specs.Answering.{defs_in, setting_of, inner_of, seen_at, got_if, got_any, From, IsLevel};
+ghost use Rattle.ap_rewrite.specs.Answering.{defs_in, where_applied, setting_of, inner_of, seen_at, got_if, got_any, From, IsLevel};
 ghost use Rattle.ap_kernel.specs.declared.objects.Mode.TheVariants.{Equal};
 
 use crate::bounding::{Begun, begin, integers};
 use crate::laws::arithmetic_is_sound;
 use crate::linear_rules::used_each;
 use crate::refuting::refute;
-use crate::rewriter::{Below, Level, Place, Tried};
+use crate::rewriter::{Below, Level, Place, Tried, from_found};
 use crate::settling::in_mode;
 use ap_kernel::{
     Equiv, LinearOracle, Mask, Mode, NoMemory, Seq, Symbol, Term, TypeOracle, both_not_less,
@@ -33,13 +33,13 @@ fn refuted<O: TypeOracle + LinearOracle, F: Below>(
     at: &Place<'_>,
     t: &Term,
     sign: bool,
-) -> Result<Tried<Equiv>, NoMemory>
+) -> Result<Option<Tried<Equiv>>, NoMemory>
     requires level { IsLevel (F.may l.now.below.now) (F.gives l.now.below.now) l.now.r.now l.now.levels }
     requires facts { KnownFacts (defs_in l.now.r.now) at.now.ctx.now.0 }
     requires term { IsTrue (known (defs_in l.now.r.now) t.now) }
     requires comparison { IsTrue (is_comparison t.now) }
     ensures is { IfOk result (λ o. got_if o steps.new.left ≡ refuted (setting_of l.now.r.now) (inner_of l.now.r.now l.now.levels) (seen_at at.now) t.now sign steps.old.left) }
-    ensures refutes { IfOk result (λ o. IfSome o (λ a. IfSome a (Refutes l.now.r.now.w.now at.now.ctx.now t.now sign))) }
+    ensures refutes { IfOk result (λ o. IfSome o (λ a. IfSome (where_applied a) (Refutes l.now.r.now.w.now at.now.ctx.now t.now sign))) }
 {
     arithmetic_is_sound();
     l.r.w.recall_sound();
@@ -50,7 +50,7 @@ fn refuted<O: TypeOracle + LinearOracle, F: Below>(
         return Ok(None);
     };
     let found = refute(l.r.alloc, l.r.w, l.r.oracle, at.ctx, t, sign, all)?;
-    Ok(Some(found))
+    Ok(Some(from_found(found)))
 }
 
 /// `(< a b)`.
@@ -70,13 +70,13 @@ fn by_truth<O: TypeOracle + LinearOracle, F: Below>(
     steps: &mut Steps,
     at: &Place<'_>,
     t: &Term,
-) -> Result<Tried<Equiv>, NoMemory>
+) -> Result<Option<Tried<Equiv>>, NoMemory>
     requires level { IsLevel (F.may l.now.below.now) (F.gives l.now.below.now) l.now.r.now l.now.levels }
     requires facts { KnownFacts (defs_in l.now.r.now) at.now.ctx.now.0 }
     requires term { IsTrue (known (defs_in l.now.r.now) t.now) }
     requires comparison { IsTrue (is_comparison t.now) }
     ensures is { IfOk result (λ o. got_any o steps.new.left ≡ by_truth (setting_of l.now.r.now) (inner_of l.now.r.now l.now.levels) (seen_at at.now) t.now steps.old.left) }
-    ensures from { IfOk result (λ o. IfSome o (λ a. IfSome a (From l.now.r.now.w.now Equal at.now.ctx.now t.now))) }
+    ensures from { IfOk result (λ o. IfSome o (λ a. IfSome (where_applied a) (From l.now.r.now.w.now Equal at.now.ctx.now t.now))) }
 {
     refuted(l, steps, at, t, true)
 }
@@ -87,18 +87,18 @@ fn by_less<O: TypeOracle + LinearOracle, F: Below>(
     steps: &mut Steps,
     at: &Place<'_>,
     t: &Term,
-) -> Result<Tried<Equiv>, NoMemory>
+) -> Result<Option<Tried<Equiv>>, NoMemory>
     requires level { IsLevel (F.may l.now.below.now) (F.gives l.now.below.now) l.now.r.now l.now.levels }
     requires facts { KnownFacts (defs_in l.now.r.now) at.now.ctx.now.0 }
     requires term { IsTrue (known (defs_in l.now.r.now) t.now) }
     requires comparison { IsTrue (is_comparison t.now) }
     ensures is { IfOk result (λ o. got_any o steps.new.left ≡ by_less (setting_of l.now.r.now) (inner_of l.now.r.now l.now.levels) (seen_at at.now) t.now steps.old.left) }
-    ensures from { IfOk result (λ o. IfSome o (λ a. IfSome a (From l.now.r.now.w.now Equal at.now.ctx.now t.now))) }
+    ensures from { IfOk result (λ o. IfSome o (λ a. IfSome (where_applied a) (From l.now.r.now.w.now Equal at.now.ctx.now t.now))) }
 {
     match refuted(l, steps, at, t, false)? {
         None => Ok(None),
-        Some(Some(q)) => Ok(Some(Some(q))),
-        Some(None) => by_truth(l, steps, at, t),
+        Some(Tried::Applied(q)) => Ok(Some(Tried::Applied(q))),
+        Some(Tried::PassedBy) => by_truth(l, steps, at, t),
     }
 }
 
@@ -109,13 +109,13 @@ fn less_refuted<O: TypeOracle + LinearOracle, F: Below>(
     at: &Place<'_>,
     a: &Term,
     b: &Term,
-) -> Result<Tried<Equiv>, NoMemory>
+) -> Result<Option<Tried<Equiv>>, NoMemory>
     requires level { IsLevel (F.may l.now.below.now) (F.gives l.now.below.now) l.now.r.now l.now.levels }
     requires facts { KnownFacts (defs_in l.now.r.now) at.now.ctx.now.0 }
     requires left { IsTrue (known (defs_in l.now.r.now) a.now) }
     requires right { IsTrue (known (defs_in l.now.r.now) b.now) }
     ensures is { IfOk result (λ o. got_if o steps.new.left ≡ refuted (setting_of l.now.r.now) (inner_of l.now.r.now l.now.levels) (seen_at at.now) (less_of a.now b.now) true steps.old.left) }
-    ensures refutes { IfOk result (λ o. IfSome o (λ q. IfSome q (Refutes l.now.r.now.w.now at.now.ctx.now (less_of a.now b.now) true))) }
+    ensures refutes { IfOk result (λ o. IfSome o (λ q. IfSome (where_applied q) (Refutes l.now.r.now.w.now at.now.ctx.now (less_of a.now b.now) true))) }
 {
     let less = less_term(l.r.alloc, a, b)?;
     let found = refuted(l, steps, at, &less, true)?;
@@ -131,7 +131,7 @@ fn other_order<O: TypeOracle + LinearOracle, F: Below>(
     b: &Term,
     masks: (Mask, Mask),
     first: Equiv,
-) -> Result<Tried<Equiv>, NoMemory>
+) -> Result<Option<Tried<Equiv>>, NoMemory>
     requires level { IsLevel (F.may l.now.below.now) (F.gives l.now.below.now) l.now.r.now l.now.levels }
     requires facts { KnownFacts (defs_in l.now.r.now) at.now.ctx.now.0 }
     requires left { IsTrue (known (defs_in l.now.r.now) a.now) }
@@ -139,15 +139,15 @@ fn other_order<O: TypeOracle + LinearOracle, F: Below>(
     requires within { IntegersWithin (defs_in l.now.r.now) at.now.ctx.now.0 a.now b.now masks.0 masks.1 }
     requires first { Refutes l.now.r.now.w.now at.now.ctx.now (less_of a.now b.now) true first }
     ensures is { IfOk result (λ o. got_if o steps.new.left ≡ refuted (setting_of l.now.r.now) (inner_of l.now.r.now l.now.levels) (seen_at at.now) (less_of b.now a.now) true steps.old.left) }
-    ensures squeezes { IfOk result (λ o. IfSome o (λ q. IfSome q (Squeezes l.now.r.now.w.now at.now.ctx.now a.now b.now))) }
+    ensures squeezes { IfOk result (λ o. IfSome o (λ q. IfSome (where_applied q) (Squeezes l.now.r.now.w.now at.now.ctx.now a.now b.now))) }
 {
     match less_refuted(l, steps, at, b, a)? {
         None => Ok(None),
-        Some(None) => Ok(Some(None)),
-        Some(Some(second)) => {
+        Some(Tried::PassedBy) => Ok(Some(Tried::PassedBy)),
+        Some(Tried::Applied(second)) => {
             let (left, right) = masks;
             let q = both_not_less(l.r.alloc, l.r.w, at.ctx, first, second, left, right)?;
-            Ok(Some(Some(q)))
+            Ok(Some(Tried::Applied(q)))
         }
     }
 }
@@ -160,19 +160,19 @@ fn by_orders<O: TypeOracle + LinearOracle, F: Below>(
     a: &Term,
     b: &Term,
     masks: (Mask, Mask),
-) -> Result<Tried<Equiv>, NoMemory>
+) -> Result<Option<Tried<Equiv>>, NoMemory>
     requires level { IsLevel (F.may l.now.below.now) (F.gives l.now.below.now) l.now.r.now l.now.levels }
     requires facts { KnownFacts (defs_in l.now.r.now) at.now.ctx.now.0 }
     requires left { IsTrue (known (defs_in l.now.r.now) a.now) }
     requires right { IsTrue (known (defs_in l.now.r.now) b.now) }
     requires within { IntegersWithin (defs_in l.now.r.now) at.now.ctx.now.0 a.now b.now masks.0 masks.1 }
     ensures is { IfOk result (λ o. got_if o steps.new.left ≡ by_orders (setting_of l.now.r.now) (inner_of l.now.r.now l.now.levels) (seen_at at.now) a.now b.now steps.old.left) }
-    ensures squeezes { IfOk result (λ o. IfSome o (λ q. IfSome q (Squeezes l.now.r.now.w.now at.now.ctx.now a.now b.now))) }
+    ensures squeezes { IfOk result (λ o. IfSome o (λ q. IfSome (where_applied q) (Squeezes l.now.r.now.w.now at.now.ctx.now a.now b.now))) }
 {
     match less_refuted(l, steps, at, a, b)? {
         None => Ok(None),
-        Some(None) => Ok(Some(None)),
-        Some(Some(first)) => other_order(l, steps, at, a, b, masks, first),
+        Some(Tried::PassedBy) => Ok(Some(Tried::PassedBy)),
+        Some(Tried::Applied(first)) => other_order(l, steps, at, a, b, masks, first),
     }
 }
 
@@ -185,7 +185,7 @@ fn by_equal<O: TypeOracle + LinearOracle, F: Below>(
     a: &Term,
     b: &Term,
     masks: (Mask, Mask),
-) -> Result<Tried<Equiv>, NoMemory>
+) -> Result<Option<Tried<Equiv>>, NoMemory>
     requires level { IsLevel (F.may l.now.below.now) (F.gives l.now.below.now) l.now.r.now l.now.levels }
     requires facts { KnownFacts (defs_in l.now.r.now) at.now.ctx.now.0 }
     requires term { IsTrue (known (defs_in l.now.r.now) t.now) }
@@ -194,12 +194,12 @@ fn by_equal<O: TypeOracle + LinearOracle, F: Below>(
     requires right { IsTrue (known (defs_in l.now.r.now) b.now) }
     requires within { IntegersWithin (defs_in l.now.r.now) at.now.ctx.now.0 a.now b.now masks.0 masks.1 }
     ensures is { IfOk result (λ o. got_any o steps.new.left ≡ by_equal (setting_of l.now.r.now) (inner_of l.now.r.now l.now.levels) (seen_at at.now) t.now a.now b.now steps.old.left) }
-    ensures from { IfOk result (λ o. IfSome o (λ a'. IfSome a' (From l.now.r.now.w.now Equal at.now.ctx.now t.now))) }
+    ensures from { IfOk result (λ o. IfSome o (λ a'. IfSome (where_applied a') (From l.now.r.now.w.now Equal at.now.ctx.now t.now))) }
 {
     match by_orders(l, steps, at, a, b, masks)? {
         None => Ok(None),
-        Some(Some(q)) => Ok(Some(Some(q))),
-        Some(None) => by_truth(l, steps, at, t),
+        Some(Tried::Applied(q)) => Ok(Some(Tried::Applied(q))),
+        Some(Tried::PassedBy) => by_truth(l, steps, at, t),
     }
 }
 
@@ -211,17 +211,17 @@ fn by_equation<O: TypeOracle + LinearOracle, F: Below>(
     t: &Term,
     a: &Term,
     b: &Term,
-) -> Result<Tried<Equiv>, NoMemory>
+) -> Result<Option<Tried<Equiv>>, NoMemory>
     requires level { IsLevel (F.may l.now.below.now) (F.gives l.now.below.now) l.now.r.now l.now.levels }
     requires facts { KnownFacts (defs_in l.now.r.now) at.now.ctx.now.0 }
     requires term { IsTrue (known (defs_in l.now.r.now) t.now) }
     requires equation { t.now ≡ equal_of a.now b.now }
     ensures is { IfOk result (λ o. got_any o steps.new.left ≡ by_equation (setting_of l.now.r.now) (inner_of l.now.r.now l.now.levels) (seen_at at.now) t.now a.now b.now steps.old.left) }
-    ensures from { IfOk result (λ o. IfSome o (λ a'. IfSome a' (From l.now.r.now.w.now Equal at.now.ctx.now t.now))) }
+    ensures from { IfOk result (λ o. IfSome o (λ a'. IfSome (where_applied a') (From l.now.r.now.w.now Equal at.now.ctx.now t.now))) }
 {
     match integers(l.r, at.ctx, a, b)? {
         Some(masks) => by_equal(l, steps, at, t, a, b, masks),
-        None => Ok(Some(None)),
+        None => Ok(Some(Tried::PassedBy)),
     }
 }
 
@@ -233,21 +233,21 @@ fn compared<O: TypeOracle + LinearOracle, F: Below>(
     t: &Term,
     f: &Symbol,
     us: &[Term],
-) -> Result<Tried<Equiv>, NoMemory>
+) -> Result<Option<Tried<Equiv>>, NoMemory>
     requires level { IsLevel (F.may l.now.below.now) (F.gives l.now.below.now) l.now.r.now l.now.levels }
     requires facts { KnownFacts (defs_in l.now.r.now) at.now.ctx.now.0 }
     requires term { IsTrue (known (defs_in l.now.r.now) t.now) }
     requires call { t.now ≡ Call f.now us.now }
     ensures is { IfOk result (λ o. got_any o steps.new.left ≡ by_arithmetic (setting_of l.now.r.now) (inner_of l.now.r.now l.now.levels) (seen_at at.now) f.now us.now steps.old.left) }
-    ensures from { IfOk result (λ o. IfSome o (λ a. IfSome a (From l.now.r.now.w.now Equal at.now.ctx.now t.now))) }
+    ensures from { IfOk result (λ o. IfSome o (λ a. IfSome (where_applied a) (From l.now.r.now.w.now Equal at.now.ctx.now t.now))) }
 {
     let [a, b] = us else {
-        return Ok(Some(None));
+        return Ok(Some(Tried::PassedBy));
     };
     match primitive_of(f) {
         Some(Primitive::Less) => by_less(l, steps, at, t),
         Some(Primitive::Equal) => by_equation(l, steps, at, t, a, b),
-        _ => Ok(Some(None)),
+        _ => Ok(Some(Tried::PassedBy)),
     }
 }
 
@@ -261,20 +261,20 @@ pub(crate) fn by_arithmetic<O: TypeOracle + LinearOracle, F: Below>(
     t: &Term,
     f: &Symbol,
     us: &[Term],
-) -> Result<Tried<Equiv>, NoMemory>
+) -> Result<Option<Tried<Equiv>>, NoMemory>
     requires level { IsLevel (F.may l.now.below.now) (F.gives l.now.below.now) l.now.r.now l.now.levels }
     requires facts { KnownFacts (defs_in l.now.r.now) at.now.ctx.now.0 }
     requires term { IsTrue (known (defs_in l.now.r.now) t.now) }
     requires call { t.now ≡ Call f.now us.now }
     ensures is { IfOk result (λ o. got_any o steps.new.left ≡ by_arithmetic (setting_of l.now.r.now) (inner_of l.now.r.now l.now.levels) (seen_at at.now) f.now us.now steps.old.left) }
-    ensures from { IfOk result (λ o. IfSome o (λ a. IfSome a (From l.now.r.now.w.now mode at.now.ctx.now t.now))) }
+    ensures from { IfOk result (λ o. IfSome o (λ a. IfSome (where_applied a) (From l.now.r.now.w.now mode at.now.ctx.now t.now))) }
 {
     match compared(l, steps, at, t, f, us)? {
         None => Ok(None),
-        Some(None) => Ok(Some(None)),
-        Some(Some(q)) => {
+        Some(Tried::PassedBy) => Ok(Some(Tried::PassedBy)),
+        Some(Tried::Applied(q)) => {
             let there = in_mode(l.r.alloc, l.r.w, q, mode)?;
-            Ok(Some(Some(there)))
+            Ok(Some(Tried::Applied(there)))
         }
     }
 }

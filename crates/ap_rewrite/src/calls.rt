@@ -9,10 +9,10 @@ ghost use Rattle.ap_world.specs.Sound.{known, is_head};
 ghost use Rattle.ap_kernel.specs.Answers.{said, lefts, rights};
 ghost use Rattle.ap_kernel.specs.declared.objects.Mode.TheVariants.{Equal};
 ghost use Rattle.ap_rewrite.specs.Rewriting.{rewrite_args, rewrite_call};
-ghost use Rattle.ap_rewrite.specs.Answering.{defs_in, Ready, setting_of, inner_of, seen_at, got, got_all, right_of, Leads, From, IsLevel};
+ghost use Rattle.ap_rewrite.specs.Answering.{defs_in, where_applied, Ready, setting_of, inner_of, seen_at, got, got_all, right_of, Leads, From, IsLevel};
 
 use crate::engines::tried;
-use crate::rewriter::{Below, Level, Place, Rewriter, deeper};
+use crate::rewriter::{Below, Level, Place, Rewriter, Tried, deeper};
 use crate::rows::{follow, stay};
 use crate::settling::in_mode;
 use ap_kernel::{Ctx, Equiv, LinearOracle, Mode, NoMemory, Seq, Symbol, Term, TypeOracle, cong};
@@ -94,16 +94,16 @@ fn followed<O: TypeOracle>(
     ctx: &Ctx,
     mode: Mode,
     first: Equiv,
-    second: Option<Equiv>,
+    second: Tried<Equiv>,
 ) -> Result<Equiv, NoMemory>
     requires first { From r.now.w.now mode ctx.now first.says.lhs first }
-    requires second { ForSome second (From r.now.w.now mode ctx.now first.says.rhs) }
-    ensures is { IfOk result (λ q. q.says.rhs ≡ unwrap_or (right_of second) first.says.rhs) }
+    requires second { ForSome (where_applied second) (From r.now.w.now mode ctx.now first.says.rhs) }
+    ensures is { IfOk result (λ q. q.says.rhs ≡ unwrap_or (right_of (where_applied second)) first.says.rhs) }
     ensures from { IfOk result (From r.now.w.now mode ctx.now first.says.lhs) }
 {
     match second {
-        None => Ok(first),
-        Some(more) => {
+        Tried::PassedBy => Ok(first),
+        Tried::Applied(more) => {
             let q = follow(r, ctx, mode, first, more)?;
             Ok(q)
         }

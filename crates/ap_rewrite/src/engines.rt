@@ -5,8 +5,9 @@ ghost use Rattle.ap_term.specs.declared.term.Term.{Call};
 ghost use Rattle.ap_term.specs.Metered.{first_that};
 ghost use Rattle.ap_world.specs.Facts.{KnownFacts};
 ghost use Rattle.ap_world.specs.Sound.{known};
+ghost use Rattle.ap_rewrite.specs.declared.rewriter.Tried.TheVariants.{Applied};
 ghost use Rattle.ap_rewrite.specs.Rewriting.{led, equate, tried};
-ghost use Rattle.ap_rewrite.specs.Answering.{defs_in, setting_of, inner_of, seen_at, got_any, From, IsLevel};
+ghost use Rattle.ap_rewrite.specs.Answering.{defs_in, where_applied, setting_of, inner_of, seen_at, got_any, From, IsLevel};
 
 use crate::arithmetic::by_arithmetic;
 use crate::branching::go_on;
@@ -25,26 +26,26 @@ fn lead<O: TypeOracle, F: Below>(
     mode: Mode,
     at: &Place<'_>,
     first: Equiv,
-) -> Result<Tried<Equiv>, NoMemory>
+) -> Result<Option<Tried<Equiv>>, NoMemory>
     requires level { IsLevel (F.may l.now.below.now) (F.gives l.now.below.now) l.now.r.now l.now.levels }
     requires facts { KnownFacts (defs_in l.now.r.now) at.now.ctx.now.0 }
     requires first { From l.now.r.now.w.now mode at.now.ctx.now first.says.lhs first }
     ensures is { IfOk result (λ o. got_any o steps.new.left ≡ led (setting_of l.now.r.now) (inner_of l.now.r.now l.now.levels) mode (seen_at at.now) (Some first.says.rhs) steps.old.left) }
-    ensures from { IfOk result (λ o. IfSome o (λ a. IfSome a (From l.now.r.now.w.now mode at.now.ctx.now first.says.lhs))) }
+    ensures from { IfOk result (λ o. IfSome o (λ a. IfSome (where_applied a) (From l.now.r.now.w.now mode at.now.ctx.now first.says.lhs))) }
 {
     if is_quoted(first.rhs()) {
-        return Ok(Some(Some(first)));
+        return Ok(Some(Tried::Applied(first)));
     }
     let found = go_on(l, steps, mode, at, first)?;
     Ok(answered(found))
 }
 
 /// An answer that is there, where the steps haven't run out. Takes no memory.
-pub fn answered(found: Option<Equiv>) -> Tried<Equiv>
-    ensures { result ≡ option_map Some found }
+pub fn answered(found: Option<Equiv>) -> Option<Tried<Equiv>>
+    ensures { result ≡ option_map Applied found }
 {
     match found {
-        Some(q) => Some(Some(q)),
+        Some(q) => Some(Tried::Applied(q)),
         None => None,
     }
 }
@@ -56,15 +57,15 @@ fn equate<O: TypeOracle, F: Below>(
     mode: Mode,
     at: &Place<'_>,
     t: &Term,
-) -> Result<Tried<Equiv>, NoMemory>
+) -> Result<Option<Tried<Equiv>>, NoMemory>
     requires level { IsLevel (F.may l.now.below.now) (F.gives l.now.below.now) l.now.r.now l.now.levels }
     requires facts { KnownFacts (defs_in l.now.r.now) at.now.ctx.now.0 }
     requires term { IsTrue (known (defs_in l.now.r.now) t.now) }
     ensures is { IfOk result (λ o. got_any o steps.new.left ≡ equate (setting_of l.now.r.now) (inner_of l.now.r.now l.now.levels) mode (seen_at at.now) t.now steps.old.left) }
-    ensures from { IfOk result (λ o. IfSome o (λ a. IfSome a (From l.now.r.now.w.now mode at.now.ctx.now t.now))) }
+    ensures from { IfOk result (λ o. IfSome o (λ a. IfSome (where_applied a) (From l.now.r.now.w.now mode at.now.ctx.now t.now))) }
 {
     match equates(l.r, at.ctx, mode, t)? {
-        None => Ok(Some(None)),
+        None => Ok(Some(Tried::PassedBy)),
         Some(first) => lead(l, steps, mode, at, first),
     }
 }
@@ -79,34 +80,34 @@ pub fn tried<O: TypeOracle + LinearOracle, F: Below>(
     t: &Term,
     f: &Symbol,
     us: &[Term],
-) -> Result<Tried<Equiv>, NoMemory>
+) -> Result<Option<Tried<Equiv>>, NoMemory>
     requires level { IsLevel (F.may l.now.below.now) (F.gives l.now.below.now) l.now.r.now l.now.levels }
     requires facts { KnownFacts (defs_in l.now.r.now) at.now.ctx.now.0 }
     requires term { IsTrue (known (defs_in l.now.r.now) t.now) }
     requires call { t.now ≡ Call f.now us.now }
     ensures is { IfOk result (λ o. got_any o steps.new.left ≡ first_that (tried (setting_of l.now.r.now) (inner_of l.now.r.now l.now.levels) mode (seen_at at.now) f.now us.now) steps.old.left) }
-    ensures from { IfOk result (λ o. IfSome o (λ a. IfSome a (From l.now.r.now.w.now mode at.now.ctx.now t.now))) }
+    ensures from { IfOk result (λ o. IfSome o (λ a. IfSome (where_applied a) (From l.now.r.now.w.now mode at.now.ctx.now t.now))) }
 {
     if let Some(q) = ran(l.r, at.ctx, mode, t, f, us)? {
-        return Ok(Some(Some(q)));
+        return Ok(Some(Tried::Applied(q)));
     }
     if let Some(q) = settles(l.r, at.ctx, mode, t)? {
-        return Ok(Some(Some(q)));
+        return Ok(Some(Tried::Applied(q)));
     }
     match equate(l, steps, mode, at, t)? {
         None => return Ok(None),
-        Some(Some(q)) => return Ok(Some(Some(q))),
-        Some(None) => {}
+        Some(Tried::Applied(q)) => return Ok(Some(Tried::Applied(q))),
+        Some(Tried::PassedBy) => {}
     }
     match by_arithmetic(l, steps, mode, at, t, f, us)? {
         None => return Ok(None),
-        Some(Some(q)) => return Ok(Some(Some(q))),
-        Some(None) => {}
+        Some(Tried::Applied(q)) => return Ok(Some(Tried::Applied(q))),
+        Some(Tried::PassedBy) => {}
     }
     match by_rules(l, steps, mode, at, t, f, us)? {
         None => return Ok(None),
-        Some(Some(q)) => return Ok(Some(Some(q))),
-        Some(None) => {}
+        Some(Tried::Applied(q)) => return Ok(Some(Tried::Applied(q))),
+        Some(Tried::PassedBy) => {}
     }
     by_definition(l, steps, mode, at, t, f, us)
 }

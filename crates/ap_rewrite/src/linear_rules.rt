@@ -10,7 +10,7 @@ ghost use Rattle.ap_rewrite.specs.Linear.{most_polys, at_match, at_atoms};
 ghost use Rattle.ap_rewrite.specs.Answering.{defs_in, setting_of, inner_of, seen_at, got_polys, used, used_each, IsLevel};
 
 use crate::refuting::with_instance;
-use crate::rewriter::{Below, Level, Place};
+use crate::rewriter::{Below, Level, Place, Tried};
 use crate::rules::relieve;
 use ap_kernel::{Equiv, Mode, NoMemory, Seq, Subst, Term, TypeOracle};
 use ap_poly::Poly;
@@ -42,8 +42,8 @@ fn at_match<O: TypeOracle, F: Below>(
 {
     match relieve(l, steps, at, g.hyps.as_slice(), s)? {
         None => Ok(None),
-        Some(None) => Ok(Some(polys)),
-        Some(Some(found)) => {
+        Some(Tried::PassedBy) => Ok(Some(polys)),
+        Some(Tried::Applied(found)) => {
             let more = with_instance(l.r.alloc, polys, &g.concl, g.sign, &found.pairs)?;
             Ok(Some(more))
         }

@@ -14,7 +14,7 @@ ghost use Rattle.ap_kernel.specs.declared.objects.Mode.TheVariants.{Iff};
 ghost use Rattle.ap_kernel.specs.Opening.{body_at, opened};
 ghost use Rattle.ap_rewrite.specs.Settings.{closing};
 ghost use Rattle.ap_rewrite.specs.Rewriting.{most_nodes, truth_of, is_recursive, both, walk, answered, open_instance, opened as opening, by_definition};
-ghost use Rattle.ap_rewrite.specs.Answering.{defs_in, Ready, setting_of, inner_of, seen_at, got, got_any, leaf_on, ends_on, past_if, open_within, open_closed, From, IsLevel};
+ghost use Rattle.ap_rewrite.specs.Answering.{defs_in, where_applied, Ready, setting_of, inner_of, seen_at, got, got_any, leaf_on, ends_on, past_if, open_within, open_closed, From, IsLevel};
 
 use crate::branching::{both, choose, go_on};
 use crate::engines::answered;
@@ -94,7 +94,7 @@ fn walk_on<O: TypeOracle, F: Below>(
     test: Equiv,
     b: &Term,
     c: &Term,
-) -> Result<Tried<Equiv>, NoMemory>
+) -> Result<Option<Tried<Equiv>>, NoMemory>
     requires level { IsLevel (F.may l.now.below.now) (F.gives l.now.below.now) l.now.r.now l.now.levels }
     requires facts { KnownFacts (defs_in l.now.r.now) way.now.at.now.ctx.now.0 }
     requires inner { way.now.inner.now.ctx.now ≡ way.now.at.now.ctx.now }
@@ -106,7 +106,7 @@ fn walk_on<O: TypeOracle, F: Below>(
         (seen_at way.now.at.now) (seen_at way.now.inner.now) way.now.taken test.says.rhs b.now c.now
         steps.old.left) }
     ensures from { IfOk result (λ o. IfSome o
-        (λ a. IfSome a (From l.now.r.now.w.now way.now.mode way.now.at.now.ctx.now sofar.says.lhs))) }
+        (λ a. IfSome (where_applied a) (From l.now.r.now.w.now way.now.mode way.now.at.now.ctx.now sofar.says.lhs))) }
 {
     match truth_of(test.rhs()) {
         Some(sign) => {
@@ -132,7 +132,7 @@ fn follow_both<O: TypeOracle, F: Below>(
     test: Equiv,
     b: &Term,
     c: &Term,
-) -> Result<Tried<Equiv>, NoMemory>
+) -> Result<Option<Tried<Equiv>>, NoMemory>
     requires level { IsLevel (F.may l.now.below.now) (F.gives l.now.below.now) l.now.r.now l.now.levels }
     requires facts { KnownFacts (defs_in l.now.r.now) way.now.inner.now.ctx.now.0 }
     requires sofar { From l.now.r.now.w.now way.now.mode way.now.inner.now.ctx.now sofar.says.lhs sofar }
@@ -143,13 +143,13 @@ fn follow_both<O: TypeOracle, F: Below>(
         ≡ answered (both (setting_of l.now.r.now) (inner_of l.now.r.now l.now.levels) way.now.mode
         (seen_at way.now.inner.now) test.says.rhs b.now c.now steps.old.left)) }
     ensures from { IfOk result (λ o. IfSome o
-        (λ a. IfSome a (From l.now.r.now.w.now way.now.mode way.now.inner.now.ctx.now sofar.says.lhs))) }
+        (λ a. IfSome (where_applied a) (From l.now.r.now.w.now way.now.mode way.now.inner.now.ctx.now sofar.says.lhs))) }
 {
     let Some(more) = both(l, steps, way.mode, way.inner, sofar.rhs(), test, b, c)? else {
         return Ok(None);
     };
     let q = follow(l.r, way.inner.ctx, way.mode, sofar, more)?;
-    Ok(Some(Some(q)))
+    Ok(Some(Tried::Applied(q)))
 }
 
 /// The walk ends at an `if` whose test has become no constant: at both branches, where a branch was taken.
@@ -161,7 +161,7 @@ fn walk_ends<O: TypeOracle, F: Below>(
     test: Equiv,
     b: &Term,
     c: &Term,
-) -> Result<Tried<Equiv>, NoMemory>
+) -> Result<Option<Tried<Equiv>>, NoMemory>
     requires level { IsLevel (F.may l.now.below.now) (F.gives l.now.below.now) l.now.r.now l.now.levels }
     requires facts { KnownFacts (defs_in l.now.r.now) way.now.inner.now.ctx.now.0 }
     requires sofar { From l.now.r.now.w.now way.now.mode way.now.inner.now.ctx.now sofar.says.lhs sofar }
@@ -172,12 +172,12 @@ fn walk_ends<O: TypeOracle, F: Below>(
         ≡ ends_on (setting_of l.now.r.now) (inner_of l.now.r.now l.now.levels) way.now.mode
         (seen_at way.now.inner.now) way.now.taken test.says.rhs b.now c.now steps.old.left) }
     ensures from { IfOk result (λ o. IfSome o
-        (λ a. IfSome a (From l.now.r.now.w.now way.now.mode way.now.inner.now.ctx.now sofar.says.lhs))) }
+        (λ a. IfSome (where_applied a) (From l.now.r.now.w.now way.now.mode way.now.inner.now.ctx.now sofar.says.lhs))) }
 {
     if way.taken {
         return follow_both(l, steps, way, sofar, test, b, c);
     }
-    Ok(Some(None))
+    Ok(Some(Tried::PassedBy))
 }
 
 /// Down the body, which is lent: at an `if` its test under `iff`, and on by what that has become.
@@ -188,7 +188,7 @@ fn walk_body<O: TypeOracle, F: Below>(
     way: &Way<'_>,
     sofar: Equiv,
     body: &Term,
-) -> Result<Tried<Equiv>, NoMemory>
+) -> Result<Option<Tried<Equiv>>, NoMemory>
     requires level { IsLevel (F.may l.now.below.now) (F.gives l.now.below.now) l.now.r.now l.now.levels }
     requires facts { KnownFacts (defs_in l.now.r.now) way.now.at.now.ctx.now.0 }
     requires inner { way.now.inner.now.ctx.now ≡ way.now.at.now.ctx.now }
@@ -198,7 +198,7 @@ fn walk_body<O: TypeOracle, F: Below>(
         ≡ walk (setting_of l.now.r.now) (inner_of l.now.r.now l.now.levels) way.now.mode (seen_at way.now.at.now)
         (seen_at way.now.inner.now) sofar.says.rhs way.now.taken steps.old.left) }
     ensures from { IfOk result (λ o. IfSome o
-        (λ a. IfSome a (From l.now.r.now.w.now way.now.mode way.now.at.now.ctx.now sofar.says.lhs))) }
+        (λ a. IfSome (where_applied a) (From l.now.r.now.w.now way.now.mode way.now.at.now.ctx.now sofar.says.lhs))) }
 {
     match shape_of(body) {
         ShapeRef::If(a, b, c) => match deeper(l, steps, Mode::Iff, way.at, a)? {
@@ -217,7 +217,7 @@ fn walk<O: TypeOracle, F: Below>(
     steps: &mut Steps,
     way: &Way<'_>,
     sofar: Equiv,
-) -> Result<Tried<Equiv>, NoMemory>
+) -> Result<Option<Tried<Equiv>>, NoMemory>
     requires level { IsLevel (F.may l.now.below.now) (F.gives l.now.below.now) l.now.r.now l.now.levels }
     requires facts { KnownFacts (defs_in l.now.r.now) way.now.at.now.ctx.now.0 }
     requires inner { way.now.inner.now.ctx.now ≡ way.now.at.now.ctx.now }
@@ -226,7 +226,7 @@ fn walk<O: TypeOracle, F: Below>(
         ≡ walk (setting_of l.now.r.now) (inner_of l.now.r.now l.now.levels) way.now.mode (seen_at way.now.at.now)
         (seen_at way.now.inner.now) sofar.says.rhs way.now.taken steps.old.left) }
     ensures from { IfOk result (λ o. IfSome o
-        (λ a. IfSome a (From l.now.r.now.w.now way.now.mode way.now.at.now.ctx.now sofar.says.lhs))) }
+        (λ a. IfSome (where_applied a) (From l.now.r.now.w.now way.now.mode way.now.at.now.ctx.now sofar.says.lhs))) }
 {
     let body = copy_term(l.r.alloc, sofar.rhs())?;
     walk_body(l, steps, way, sofar, &body)
@@ -238,7 +238,7 @@ fn walk_stops<O: TypeOracle, F: Below>(
     steps: &mut Steps,
     way: &Way<'_>,
     sofar: Equiv,
-) -> Result<Tried<Equiv>, NoMemory>
+) -> Result<Option<Tried<Equiv>>, NoMemory>
     requires level { IsLevel (F.may l.now.below.now) (F.gives l.now.below.now) l.now.r.now l.now.levels }
     requires facts { KnownFacts (defs_in l.now.r.now) way.now.at.now.ctx.now.0 }
     requires sofar { From l.now.r.now.w.now way.now.mode way.now.at.now.ctx.now sofar.says.lhs sofar }
@@ -246,10 +246,10 @@ fn walk_stops<O: TypeOracle, F: Below>(
         ≡ leaf_on (inner_of l.now.r.now l.now.levels) way.now.mode (seen_at way.now.at.now) sofar.says.rhs
         way.now.taken steps.old.left) }
     ensures from { IfOk result (λ o. IfSome o
-        (λ a. IfSome a (From l.now.r.now.w.now way.now.mode way.now.at.now.ctx.now sofar.says.lhs))) }
+        (λ a. IfSome (where_applied a) (From l.now.r.now.w.now way.now.mode way.now.at.now.ctx.now sofar.says.lhs))) }
 {
     if !way.taken {
-        return Ok(Some(None));
+        return Ok(Some(Tried::PassedBy));
     }
     let found = go_on(l, steps, way.mode, way.at, sofar)?;
     Ok(answered(found))
@@ -264,7 +264,7 @@ fn open_within<O: TypeOracle, F: Below>(
     at: &Place<'_>,
     inner: &Place<'_>,
     first: Equiv,
-) -> Result<Tried<Equiv>, NoMemory>
+) -> Result<Option<Tried<Equiv>>, NoMemory>
     requires level { IsLevel (F.may l.now.below.now) (F.gives l.now.below.now) l.now.r.now l.now.levels }
     requires facts { KnownFacts (defs_in l.now.r.now) at.now.ctx.now.0 }
     requires inner { inner.now.ctx.now ≡ at.now.ctx.now }
@@ -273,7 +273,7 @@ fn open_within<O: TypeOracle, F: Below>(
         ≡ open_within (setting_of l.now.r.now) (inner_of l.now.r.now l.now.levels) mode (seen_at at.now)
         (seen_at inner.now) first.says.lhs first.says.rhs steps.old.left) }
     ensures from { IfOk result (λ o. IfSome o
-        (λ a. IfSome a (From l.now.r.now.w.now mode at.now.ctx.now first.says.lhs))) }
+        (λ a. IfSome (where_applied a) (From l.now.r.now.w.now mode at.now.ctx.now first.says.lhs))) }
 {
     if is_term_among(first.lhs(), l.r.expand.as_slice()) {
         let found = go_on(l, steps, mode, inner, first)?;
@@ -297,7 +297,7 @@ fn open_recursive<O: TypeOracle, F: Below>(
     at: &Place<'_>,
     f: &Symbol,
     first: Equiv,
-) -> Result<Tried<Equiv>, NoMemory>
+) -> Result<Option<Tried<Equiv>>, NoMemory>
     requires level { IsLevel (F.may l.now.below.now) (F.gives l.now.below.now) l.now.r.now l.now.levels }
     requires facts { KnownFacts (defs_in l.now.r.now) at.now.ctx.now.0 }
     requires first { From l.now.r.now.w.now mode at.now.ctx.now first.says.lhs first }
@@ -305,7 +305,7 @@ fn open_recursive<O: TypeOracle, F: Below>(
         ≡ open_closed (setting_of l.now.r.now) (inner_of l.now.r.now l.now.levels) mode (seen_at at.now) f.now
         first.says.lhs first.says.rhs steps.old.left) }
     ensures from { IfOk result (λ o. IfSome o
-        (λ a. IfSome a (From l.now.r.now.w.now mode at.now.ctx.now first.says.lhs))) }
+        (λ a. IfSome (where_applied a) (From l.now.r.now.w.now mode at.now.ctx.now first.says.lhs))) }
 {
     let closed = closing(l.r.alloc, f, at.closed)?;
     let inner = Place {
@@ -325,7 +325,7 @@ fn open_instance<O: TypeOracle, F: Below>(
     f: &Symbol,
     g: &Function,
     first: Equiv,
-) -> Result<Tried<Equiv>, NoMemory>
+) -> Result<Option<Tried<Equiv>>, NoMemory>
     requires level { IsLevel (F.may l.now.below.now) (F.gives l.now.below.now) l.now.r.now l.now.levels }
     requires facts { KnownFacts (defs_in l.now.r.now) at.now.ctx.now.0 }
     requires first { From l.now.r.now.w.now mode at.now.ctx.now first.says.lhs first }
@@ -333,7 +333,7 @@ fn open_instance<O: TypeOracle, F: Below>(
         ≡ open_instance (setting_of l.now.r.now) (inner_of l.now.r.now l.now.levels) mode (seen_at at.now)
         first.says.lhs f.now g.now first.says.rhs steps.old.left) }
     ensures from { IfOk result (λ o. IfSome o
-        (λ a. IfSome a (From l.now.r.now.w.now mode at.now.ctx.now first.says.lhs))) }
+        (λ a. IfSome (where_applied a) (From l.now.r.now.w.now mode at.now.ctx.now first.says.lhs))) }
 {
     if g.measure.is_some() {
         return open_recursive(l, steps, mode, at, f, first);
@@ -350,7 +350,7 @@ fn open_at_once<O: TypeOracle, F: Below>(
     at: &Place<'_>,
     call: &Called<'_>,
     g: &Function,
-) -> Result<Tried<Equiv>, NoMemory>
+) -> Result<Option<Tried<Equiv>>, NoMemory>
     requires level { IsLevel (F.may l.now.below.now) (F.gives l.now.below.now) l.now.r.now l.now.levels }
     requires facts { KnownFacts (defs_in l.now.r.now) at.now.ctx.now.0 }
     requires term { IsTrue (known (defs_in l.now.r.now) call.now.t.now) }
@@ -362,11 +362,11 @@ fn open_at_once<O: TypeOracle, F: Below>(
         ≡ opening (setting_of l.now.r.now) (inner_of l.now.r.now l.now.levels) mode (seen_at at.now)
         call.now.t.now call.now.f.now call.now.us.now (Some g.now) steps.old.left) }
     ensures from { IfOk result (λ o. IfSome o
-        (λ a. IfSome a (From l.now.r.now.w.now mode at.now.ctx.now call.now.t.now))) }
+        (λ a. IfSome (where_applied a) (From l.now.r.now.w.now mode at.now.ctx.now call.now.t.now))) }
 {
     let first = opened(l.r, at.ctx, mode, call.t)?;
     if !is_small(first.rhs()) {
-        return Ok(Some(None));
+        return Ok(Some(Tried::PassedBy));
     }
     open_instance(l, steps, mode, at, call.f, g, first)
 }
@@ -411,7 +411,7 @@ fn walk_past<O: TypeOracle, F: Below>(
     way: &Way<'_>,
     first: Equiv,
     test: Equiv,
-) -> Result<Tried<Equiv>, NoMemory>
+) -> Result<Option<Tried<Equiv>>, NoMemory>
     requires level { IsLevel (F.may l.now.below.now) (F.gives l.now.below.now) l.now.r.now l.now.levels }
     requires facts { KnownFacts (defs_in l.now.r.now) way.now.at.now.ctx.now.0 }
     requires inner { way.now.inner.now.ctx.now ≡ way.now.at.now.ctx.now }
@@ -425,7 +425,7 @@ fn walk_past<O: TypeOracle, F: Below>(
         ≡ walk (setting_of l.now.r.now) (inner_of l.now.r.now l.now.levels) way.now.mode
         (seen_at way.now.at.now) (seen_at way.now.inner.now) first.says.rhs way.now.taken n) }
     ensures from { IfOk result (λ o. IfSome o
-        (λ a. IfSome a (From l.now.r.now.w.now way.now.mode way.now.at.now.ctx.now first.says.lhs))) }
+        (λ a. IfSome (where_applied a) (From l.now.r.now.w.now way.now.mode way.now.at.now.ctx.now first.says.lhs))) }
 {
     let body = copy_term(l.r.alloc, first.rhs())?;
     match shape_of(&body) {
@@ -444,7 +444,7 @@ fn open_tested<O: TypeOracle, F: Below>(
     t: &Term,
     f: &Symbol,
     test: Equiv,
-) -> Result<Tried<Equiv>, NoMemory>
+) -> Result<Option<Tried<Equiv>>, NoMemory>
     requires level { IsLevel (F.may l.now.below.now) (F.gives l.now.below.now) l.now.r.now l.now.levels }
     requires facts { KnownFacts (defs_in l.now.r.now) at.now.ctx.now.0 }
     requires term { IsTrue (known (defs_in l.now.r.now) t.now) }
@@ -457,7 +457,7 @@ fn open_tested<O: TypeOracle, F: Below>(
         → got_any o steps.new.left
         ≡ walk (setting_of l.now.r.now) (inner_of l.now.r.now l.now.levels) mode (seen_at at.now)
         (closing f.now (seen_at at.now)) v false n) }
-    ensures from { IfOk result (λ o. IfSome o (λ a. IfSome a (From l.now.r.now.w.now mode at.now.ctx.now t.now))) }
+    ensures from { IfOk result (λ o. IfSome o (λ a. IfSome (where_applied a) (From l.now.r.now.w.now mode at.now.ctx.now t.now))) }
 {
     let first = opened(l.r, at.ctx, mode, t)?;
     let closed = closing(l.r.alloc, f, at.closed)?;
@@ -485,7 +485,7 @@ fn open_by_test<O: TypeOracle, F: Below>(
     call: &Called<'_>,
     g: &Function,
     a: &Term,
-) -> Result<Tried<Equiv>, NoMemory>
+) -> Result<Option<Tried<Equiv>>, NoMemory>
     requires level { IsLevel (F.may l.now.below.now) (F.gives l.now.below.now) l.now.r.now l.now.levels }
     requires facts { KnownFacts (defs_in l.now.r.now) at.now.ctx.now.0 }
     requires term { IsTrue (known (defs_in l.now.r.now) call.now.t.now) }
@@ -496,14 +496,14 @@ fn open_by_test<O: TypeOracle, F: Below>(
         ≡ walk (setting_of l.now.r.now) (inner_of l.now.r.now l.now.levels) mode (seen_at at.now)
         (closing call.now.f.now (seen_at at.now)) (body_at g.now call.now.us.now) false steps.old.left) }
     ensures from { IfOk result (λ o. IfSome o
-        (λ a. IfSome a (From l.now.r.now.w.now mode at.now.ctx.now call.now.t.now))) }
+        (λ a. IfSome (where_applied a) (From l.now.r.now.w.now mode at.now.ctx.now call.now.t.now))) }
 {
     l.r.w.recall_sound();
     let Some(test) = rewrite_test(l, steps, at, call.us, g, a)? else {
         return Ok(None);
     };
     match truth_of(test.rhs()) {
-        None => Ok(Some(None)),
+        None => Ok(Some(Tried::PassedBy)),
         Some(_) => open_tested(l, steps, mode, at, call.t, call.f, test),
     }
 }
@@ -548,7 +548,7 @@ fn open_call<O: TypeOracle, F: Below>(
     at: &Place<'_>,
     call: &Called<'_>,
     g: &Function,
-) -> Result<Tried<Equiv>, NoMemory>
+) -> Result<Option<Tried<Equiv>>, NoMemory>
     requires level { IsLevel (F.may l.now.below.now) (F.gives l.now.below.now) l.now.r.now l.now.levels }
     requires facts { KnownFacts (defs_in l.now.r.now) at.now.ctx.now.0 }
     requires term { IsTrue (known (defs_in l.now.r.now) call.now.t.now) }
@@ -558,10 +558,10 @@ fn open_call<O: TypeOracle, F: Below>(
         ≡ opening (setting_of l.now.r.now) (inner_of l.now.r.now l.now.levels) mode (seen_at at.now)
         call.now.t.now call.now.f.now call.now.us.now (Some g.now) steps.old.left) }
     ensures from { IfOk result (λ o. IfSome o
-        (λ a. IfSome a (From l.now.r.now.w.now mode at.now.ctx.now call.now.t.now))) }
+        (λ a. IfSome (where_applied a) (From l.now.r.now.w.now mode at.now.ctx.now call.now.t.now))) }
 {
     if !l.r.theory.is_enabled(RuneKind::Definition, call.f) || is_among(call.f, at.closed) {
-        return Ok(Some(None));
+        return Ok(Some(Tried::PassedBy));
     }
     match first_test(l.r.expand.as_slice(), call.t, g) {
         Some(a) => open_by_test(l, steps, mode, at, call, g, a),
@@ -578,7 +578,7 @@ pub fn by_definition<O: TypeOracle, F: Below>(
     t: &Term,
     f: &Symbol,
     us: &[Term],
-) -> Result<Tried<Equiv>, NoMemory>
+) -> Result<Option<Tried<Equiv>>, NoMemory>
     requires level { IsLevel (F.may l.now.below.now) (F.gives l.now.below.now) l.now.r.now l.now.levels }
     requires facts { KnownFacts (defs_in l.now.r.now) at.now.ctx.now.0 }
     requires term { IsTrue (known (defs_in l.now.r.now) t.now) }
@@ -586,10 +586,10 @@ pub fn by_definition<O: TypeOracle, F: Below>(
     ensures is { IfOk result (λ o. got_any o steps.new.left
         ≡ by_definition (setting_of l.now.r.now) (inner_of l.now.r.now l.now.levels) mode (seen_at at.now) f.now
         us.now steps.old.left) }
-    ensures from { IfOk result (λ o. IfSome o (λ a. IfSome a (From l.now.r.now.w.now mode at.now.ctx.now t.now))) }
+    ensures from { IfOk result (λ o. IfSome o (λ a. IfSome (where_applied a) (From l.now.r.now.w.now mode at.now.ctx.now t.now))) }
 {
     match l.r.w.lookup_fun(f) {
-        None => Ok(Some(None)),
+        None => Ok(Some(Tried::PassedBy)),
         Some(g) => {
             let call = Called { t, f, us };
             open_call(l, steps, mode, at, &call, g)

@@ -1,7 +1,7 @@
 ghost use Rattle.std.specs.Prelude.{◌≡◌, IsTrue, IfOk, IfSome};
 ghost use Rattle.ap_world.specs.Facts.{KnownFacts};
 ghost use Rattle.ap_world.specs.Sound.{known};
-ghost use Rattle.ap_rewrite.specs.Answering.{defs_in, inner_of, seen_at, got, From, IsLevel};
+ghost use Rattle.ap_rewrite.specs.Answering.{defs_in, where_applied, inner_of, seen_at, got, From, IsLevel};
 
 use ap_kernel::{Ctx, Equiv, Mode, NoMemory, Seq, Symbol, Term, TypeOracle, World};
 use ap_rules::RuleIndex;
@@ -30,8 +30,24 @@ pub struct Place<'a> {
     pub chain: u32,
 }
 
-/// What something that may not apply came to: `None` where the steps ran out, `Some(None)` where it doesn't apply.
-pub type Tried<T> = Option<Option<T>>;
+/// What something that may not apply came to.
+#[derive(Drop)]
+pub enum Tried<T> {
+    /// It applied, and this is what it gave.
+    Applied(T),
+    /// It doesn't apply.
+    PassedBy,
+}
+
+/// It applied where something was found. Takes no memory.
+pub(crate) fn from_found<T>(found: Option<T>) -> Tried<T>
+    ensures { where_applied result ≡ found }
+{
+    match found {
+        Some(it) => Tried::Applied(it),
+        None => Tried::PassedBy,
+    }
+}
 
 /// What rewrites a term one level deeper. `None` where the steps run out.
 pub trait Below {

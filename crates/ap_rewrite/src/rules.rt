@@ -21,7 +21,7 @@ ghost use Rattle.ap_rewrite.specs.Leading.{leads_made};
 ghost use Rattle.ap_rewrite.specs.Settings.{relieving};
 ghost use Rattle.ap_rewrite.specs.Relieving.{if_so, relieve_one, relieve};
 ghost use Rattle.ap_rewrite.specs.Rewriting.{right, relieved, apply, fits_mode, try_rule, by_rules};
-ghost use Rattle.ap_rewrite.specs.Answering.{defs_in, Ready, setting_of, inner_of, seen_at, got, got_any, got_pairs, got_reliefs, IsRuleOf, Shows, From, IsLevel};
+ghost use Rattle.ap_rewrite.specs.Answering.{defs_in, where_applied, Ready, setting_of, inner_of, seen_at, got, got_any, got_pairs, got_reliefs, IsRuleOf, Shows, From, IsLevel};
 ghost use Rattle.ap_rewrite.specs.Relieved.{RelievedFrom};
 
 use crate::branching::go_on;
@@ -29,7 +29,7 @@ use crate::engines::answered;
 use crate::facts::{Relieved, by_sign, is_bound};
 use crate::laws::search_by_head;
 use crate::ordering::{fits_mode, in_order_first, in_order_then};
-use crate::rewriter::{Below, Level, Place, Rewriter, Tried, deeper};
+use crate::rewriter::{Below, Level, Place, Rewriter, Tried, deeper, from_found};
 use crate::settling::{in_mode, to_true};
 use crate::sizes::is_small;
 use ap_kernel::{
@@ -101,7 +101,7 @@ fn by_rewriting<O: TypeOracle, F: Below>(
     at: &Place<'_>,
     h: &Term,
     s: Subst,
-) -> Result<Tried<Relieved>, NoMemory>
+) -> Result<Option<Tried<Relieved>>, NoMemory>
     requires level { IsLevel (F.may l.now.below.now) (F.gives l.now.below.now) l.now.r.now l.now.levels }
     requires facts { KnownFacts (defs_in l.now.r.now) at.now.ctx.now.0 }
     requires hyp { IsTrue (known (defs_in l.now.r.now) h.now) }
@@ -109,13 +109,13 @@ fn by_rewriting<O: TypeOracle, F: Below>(
     requires bound { IsTrue (is_bound s.0 h.now) }
     requires few { at.now.chain < 10 }
     ensures is { IfOk result (λ o. got_pairs o steps.new.left ≡ relieve_one (inner_of l.now.r.now l.now.levels) (seen_at at.now) h.now s.0 steps.old.left) }
-    ensures shown { IfOk result (λ o. IfSome o (λ a. IfSome a (RelievedFrom l.now.r.now.w.now at.now.ctx.now h.now s.0))) }
+    ensures shown { IfOk result (λ o. IfSome o (λ a. IfSome (where_applied a) (RelievedFrom l.now.r.now.w.now at.now.ctx.now h.now s.0))) }
 {
     let Some(q) = rewrite_instance(l, steps, at, h, &s)? else {
         return Ok(None);
     };
     let found = where_true(l.r.alloc, l.r.w, q, s)?;
-    Ok(Some(found))
+    Ok(Some(from_found(found)))
 }
 
 /// One hypothesis: an instance that becomes a constant other than `nil`, or, with variables that have no term, a fact,
@@ -126,20 +126,20 @@ fn relieve_one<O: TypeOracle, F: Below>(
     at: &Place<'_>,
     h: &Term,
     s: Subst,
-) -> Result<Tried<Relieved>, NoMemory>
+) -> Result<Option<Tried<Relieved>>, NoMemory>
     requires level { IsLevel (F.may l.now.below.now) (F.gives l.now.below.now) l.now.r.now l.now.levels }
     requires facts { KnownFacts (defs_in l.now.r.now) at.now.ctx.now.0 }
     requires hyp { IsTrue (known (defs_in l.now.r.now) h.now) }
     requires pairs { KnownPairs (defs_in l.now.r.now) s.0 }
     requires few { at.now.chain < 10 }
     ensures is { IfOk result (λ o. got_pairs o steps.new.left ≡ relieve_one (inner_of l.now.r.now l.now.levels) (seen_at at.now) h.now s.0 steps.old.left) }
-    ensures shown { IfOk result (λ o. IfSome o (λ a. IfSome a (RelievedFrom l.now.r.now.w.now at.now.ctx.now h.now s.0))) }
+    ensures shown { IfOk result (λ o. IfSome o (λ a. IfSome (where_applied a) (RelievedFrom l.now.r.now.w.now at.now.ctx.now h.now s.0))) }
 {
     if is_bound(s.0.as_slice(), h) {
         return by_rewriting(l, steps, at, h, s);
     }
     let found = by_sign(l.r.alloc, l.r.w, at.ctx, h, &s)?;
-    Ok(Some(found))
+    Ok(Some(from_found(found)))
 }
 
 /// The hypotheses from left to right, each only where fewer than ten are being relieved around it.
@@ -149,24 +149,24 @@ pub(crate) fn relieve<O: TypeOracle, F: Below>(
     at: &Place<'_>,
     hs: &[Term],
     s: Subst,
-) -> Result<Tried<Reliefs>, NoMemory>
+) -> Result<Option<Tried<Reliefs>>, NoMemory>
     requires level { IsLevel (F.may l.now.below.now) (F.gives l.now.below.now) l.now.r.now l.now.levels }
     requires facts { KnownFacts (defs_in l.now.r.now) at.now.ctx.now.0 }
     requires hyps { Each (λ h. IsTrue (known (defs_in l.now.r.now) h)) hs.now }
     requires pairs { KnownPairs (defs_in l.now.r.now) s.0 }
     ensures is { IfOk result (λ o. got_reliefs o steps.new.left ≡ relieve (inner_of l.now.r.now l.now.levels) (seen_at at.now) hs.now s.0 steps.old.left) }
-    ensures shown { IfOk result (λ o. IfSome o (λ a. IfSome a (Shows l.now.r.now.w.now at.now.ctx.now hs.now s.0))) }
+    ensures shown { IfOk result (λ o. IfSome o (λ a. IfSome (where_applied a) (Shows l.now.r.now.w.now at.now.ctx.now hs.now s.0))) }
 {
     let mut pairs = s;
     let mut shown = Seq::new(l.r.alloc);
     for h in hs {
         if at.chain >= 10 {
-            return Ok(Some(None));
+            return Ok(Some(Tried::PassedBy));
         }
         match relieve_one(l, steps, at, h, pairs)? {
             None => return Ok(None),
-            Some(None) => return Ok(Some(None)),
-            Some(Some(found)) => {
+            Some(Tried::PassedBy) => return Ok(Some(Tried::PassedBy)),
+            Some(Tried::Applied(found)) => {
                 let Relieved {
                     pairs: more,
                     shown: q,
@@ -176,7 +176,7 @@ pub(crate) fn relieve<O: TypeOracle, F: Below>(
             }
         }
     }
-    Ok(Some(Some(Reliefs { pairs, shown })))
+    Ok(Some(Tried::Applied(Reliefs { pairs, shown })))
 }
 
 /// From the instance of a rule's left side to that of its right side, under a mode, where its hypotheses are relieved.
@@ -211,18 +211,18 @@ fn right<O: TypeOracle, F: Below>(
     at: &Place<'_>,
     g: &RewriteRule,
     found: Reliefs,
-) -> Result<Tried<Equiv>, NoMemory>
+) -> Result<Option<Tried<Equiv>>, NoMemory>
     requires level { IsLevel (F.may l.now.below.now) (F.gives l.now.below.now) l.now.r.now l.now.levels }
     requires facts { KnownFacts (defs_in l.now.r.now) at.now.ctx.now.0 }
     requires rule { IsRuleOf l.now.r.now.w.now (rule_in g.now) }
     requires fits { IsTrue (fits_mode mode (rule_in g.now)) }
     requires shown { Shows l.now.r.now.w.now at.now.ctx.now g.now.hyps [] found }
     ensures is { IfOk result (λ o. got_any o steps.new.left ≡ right (setting_of l.now.r.now) (inner_of l.now.r.now l.now.levels) mode (seen_at at.now) (subst_of found.pairs.0 g.now.rhs) steps.old.left) }
-    ensures from { IfOk result (λ o. IfSome o (λ a. IfSome a (From l.now.r.now.w.now mode at.now.ctx.now (subst_of found.pairs.0 g.now.lhs)))) }
+    ensures from { IfOk result (λ o. IfSome o (λ a. IfSome (where_applied a) (From l.now.r.now.w.now mode at.now.ctx.now (subst_of found.pairs.0 g.now.lhs)))) }
 {
     let first = applied(l.r, at.ctx, mode, g, found)?;
     if !is_small(first.rhs()) {
-        return Ok(Some(None));
+        return Ok(Some(Tried::PassedBy));
     }
     let found = go_on(l, steps, mode, at, first)?;
     Ok(answered(found))
@@ -237,7 +237,7 @@ fn relieved<O: TypeOracle, F: Below>(
     t: &Term,
     g: &RewriteRule,
     found: Reliefs,
-) -> Result<Tried<Equiv>, NoMemory>
+) -> Result<Option<Tried<Equiv>>, NoMemory>
     requires level { IsLevel (F.may l.now.below.now) (F.gives l.now.below.now) l.now.r.now l.now.levels }
     requires facts { KnownFacts (defs_in l.now.r.now) at.now.ctx.now.0 }
     requires rule { IsRuleOf l.now.r.now.w.now (rule_in g.now) }
@@ -245,10 +245,10 @@ fn relieved<O: TypeOracle, F: Below>(
     requires shown { Shows l.now.r.now.w.now at.now.ctx.now g.now.hyps [] found }
     requires instance { subst_of found.pairs.0 g.now.lhs ≡ t.now }
     ensures is { IfOk result (λ o. got_any o steps.new.left ≡ relieved (setting_of l.now.r.now) (inner_of l.now.r.now l.now.levels) mode (seen_at at.now) t.now (rule_in g.now) (Some found.pairs.0) steps.old.left) }
-    ensures from { IfOk result (λ o. IfSome o (λ a. IfSome a (From l.now.r.now.w.now mode at.now.ctx.now t.now))) }
+    ensures from { IfOk result (λ o. IfSome o (λ a. IfSome (where_applied a) (From l.now.r.now.w.now mode at.now.ctx.now t.now))) }
 {
     if !in_order_then(l.r.alloc, g, &found.pairs, t)? {
-        return Ok(Some(None));
+        return Ok(Some(Tried::PassedBy));
     }
     right(l, steps, mode, at, g, found)
 }
@@ -262,7 +262,7 @@ fn apply<O: TypeOracle, F: Below>(
     t: &Term,
     g: &RewriteRule,
     s: Subst,
-) -> Result<Tried<Equiv>, NoMemory>
+) -> Result<Option<Tried<Equiv>>, NoMemory>
     requires level { IsLevel (F.may l.now.below.now) (F.gives l.now.below.now) l.now.r.now l.now.levels }
     requires facts { KnownFacts (defs_in l.now.r.now) at.now.ctx.now.0 }
     requires term { IsTrue (known (defs_in l.now.r.now) t.now) }
@@ -270,15 +270,15 @@ fn apply<O: TypeOracle, F: Below>(
     requires fits { IsTrue (fits_mode mode (rule_in g.now)) }
     requires matched { matched g.now.lhs t.now [] ≡ Some s.0 }
     ensures is { IfOk result (λ o. got_any o steps.new.left ≡ apply (setting_of l.now.r.now) (inner_of l.now.r.now l.now.levels) mode (seen_at at.now) t.now (rule_in g.now) (Some s.0) steps.old.left) }
-    ensures from { IfOk result (λ o. IfSome o (λ a. IfSome a (From l.now.r.now.w.now mode at.now.ctx.now t.now))) }
+    ensures from { IfOk result (λ o. IfSome o (λ a. IfSome (where_applied a) (From l.now.r.now.w.now mode at.now.ctx.now t.now))) }
 {
     if !in_order_first(l.r.alloc, g, &s, t)? {
-        return Ok(Some(None));
+        return Ok(Some(Tried::PassedBy));
     }
     match relieve(l, steps, at, g.hyps.as_slice(), s)? {
         None => Ok(None),
-        Some(None) => Ok(Some(None)),
-        Some(Some(found)) => relieved(l, steps, mode, at, t, g, found),
+        Some(Tried::PassedBy) => Ok(Some(Tried::PassedBy)),
+        Some(Tried::Applied(found)) => relieved(l, steps, mode, at, t, g, found),
     }
 }
 
@@ -297,20 +297,20 @@ fn try_rule<O: TypeOracle, F: Below>(
     at: &Place<'_>,
     t: &Term,
     g: &RewriteRule,
-) -> Result<Tried<Equiv>, NoMemory>
+) -> Result<Option<Tried<Equiv>>, NoMemory>
     requires level { IsLevel (F.may l.now.below.now) (F.gives l.now.below.now) l.now.r.now l.now.levels }
     requires facts { KnownFacts (defs_in l.now.r.now) at.now.ctx.now.0 }
     requires term { IsTrue (known (defs_in l.now.r.now) t.now) }
     requires rule { IsRuleOf l.now.r.now.w.now (rule_in g.now) }
     ensures is { IfOk result (λ o. got_any o steps.new.left ≡ try_rule (setting_of l.now.r.now) (inner_of l.now.r.now l.now.levels) mode (seen_at at.now) t.now (rule_in g.now) steps.old.left) }
-    ensures from { IfOk result (λ o. IfSome o (λ a. IfSome a (From l.now.r.now.w.now mode at.now.ctx.now t.now))) }
+    ensures from { IfOk result (λ o. IfSome o (λ a. IfSome (where_applied a) (From l.now.r.now.w.now mode at.now.ctx.now t.now))) }
 {
     if !may_serve(l.r.theory, mode, g) {
-        return Ok(Some(None));
+        return Ok(Some(Tried::PassedBy));
     }
     let start = Subst(Seq::new(l.r.alloc));
     match one_way_match(l.r.alloc, &g.lhs, t, &start)? {
-        None => Ok(Some(None)),
+        None => Ok(Some(Tried::PassedBy)),
         Some(s) => apply(l, steps, mode, at, t, g, s),
     }
 }
@@ -323,22 +323,22 @@ fn each_rule<O: TypeOracle, F: Below>(
     at: &Place<'_>,
     t: &Term,
     gs: &[RewriteRule],
-) -> Result<Tried<Equiv>, NoMemory>
+) -> Result<Option<Tried<Equiv>>, NoMemory>
     requires level { IsLevel (F.may l.now.below.now) (F.gives l.now.below.now) l.now.r.now l.now.levels }
     requires facts { KnownFacts (defs_in l.now.r.now) at.now.ctx.now.0 }
     requires term { IsTrue (known (defs_in l.now.r.now) t.now) }
     requires rules { Each (IsRuleOf l.now.r.now.w.now) (map rule_in gs.now) }
     ensures is { IfOk result (λ o. got_any o steps.new.left ≡ first_that (map (try_rule (setting_of l.now.r.now) (inner_of l.now.r.now l.now.levels) mode (seen_at at.now) t.now) (map rule_in gs.now)) steps.old.left) }
-    ensures from { IfOk result (λ o. IfSome o (λ a. IfSome a (From l.now.r.now.w.now mode at.now.ctx.now t.now))) }
+    ensures from { IfOk result (λ o. IfSome o (λ a. IfSome (where_applied a) (From l.now.r.now.w.now mode at.now.ctx.now t.now))) }
 {
     for g in gs {
         match try_rule(l, steps, mode, at, t, g)? {
             None => return Ok(None),
-            Some(Some(q)) => return Ok(Some(Some(q))),
-            Some(None) => {}
+            Some(Tried::Applied(q)) => return Ok(Some(Tried::Applied(q))),
+            Some(Tried::PassedBy) => {}
         }
     }
-    Ok(Some(None))
+    Ok(Some(Tried::PassedBy))
 }
 
 /// The first rule that applies, from the newest on.
@@ -350,13 +350,13 @@ pub fn by_rules<O: TypeOracle, F: Below>(
     t: &Term,
     f: &Symbol,
     us: &[Term],
-) -> Result<Tried<Equiv>, NoMemory>
+) -> Result<Option<Tried<Equiv>>, NoMemory>
     requires level { IsLevel (F.may l.now.below.now) (F.gives l.now.below.now) l.now.r.now l.now.levels }
     requires facts { KnownFacts (defs_in l.now.r.now) at.now.ctx.now.0 }
     requires term { IsTrue (known (defs_in l.now.r.now) t.now) }
     requires call { t.now ≡ Call f.now us.now }
     ensures is { IfOk result (λ o. got_any o steps.new.left ≡ by_rules (setting_of l.now.r.now) (inner_of l.now.r.now l.now.levels) mode (seen_at at.now) t.now steps.old.left) }
-    ensures from { IfOk result (λ o. IfSome o (λ a. IfSome a (From l.now.r.now.w.now mode at.now.ctx.now t.now))) }
+    ensures from { IfOk result (λ o. IfSome o (λ a. IfSome (where_applied a) (From l.now.r.now.w.now mode at.now.ctx.now t.now))) }
 {
     search_by_head();
     rules_are_parts();

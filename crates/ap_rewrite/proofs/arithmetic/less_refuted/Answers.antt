@@ -4,7 +4,7 @@ use Rattle.ap_world.specs.Sound.{known}
 use Rattle.ap_kernel.specs.Linear.{is_comparison}
 use Rattle.ap_rewrite.specs.Linear.{refuted}
 use Rattle.ap_rewrite.specs.Refuting.{Refutes}
-use Rattle.ap_rewrite.specs.Answering.{defs_in, setting_of, inner_of, seen_at, got_if}
+use Rattle.ap_rewrite.specs.Answering.{where_applied, defs_in, setting_of, inner_of, seen_at, got_if}
 use Rattle.ap_rewrite.proofs.Refuted.{less_compares, less_known}
 use Rattle.ap_rewrite.proofs.arithmetic.less_refuted.Goals as goal
 
@@ -22,4 +22,4 @@ returns-clause-is g c =
 
 pub returns-clause-refutes : goal.returns-clause-refutes
 returns-clause-refutes g c =
-    subst (λ (u : Term). IfSome c.in_ok-found.found (λ q. IfSome q (Refutes c.args.l.now.r.now.w.now c.args.at.now.ctx.now u true))) c.in_ok-less.ensures c.in_ok-found.ensures.refutes
+    subst (λ (u : Term). IfSome c.in_ok-found.found (λ q. IfSome (where_applied q) (Refutes c.args.l.now.r.now.w.now c.args.at.now.ctx.now u true))) c.in_ok-less.ensures c.in_ok-found.ensures.refutes

@@ -1,7 +1,7 @@
 use Rattle.std.proofs.Common.{◌≡◌, true, unwrap_or, sym, ap, ◌∙◌, subst}
 use Rattle.ap_term.specs.declared.term.Term.{Term, Call}
 use Rattle.ap_world.specs.Sound.{known}
-use Rattle.ap_rewrite.specs.Answering.{defs_in, setting_of, inner_of, seen_at, right_of}
+use Rattle.ap_rewrite.specs.Answering.{defs_in, where_applied, setting_of, inner_of, seen_at, right_of}
 use Rattle.ap_rewrite.proofs.Froms.{call_parts, from_own, from_at, followed_from, right_known}
 use Rattle.ap_rewrite.proofs.Called.{call_is, call_out, arguments_out, head_takes, each_from}
 use Rattle.ap_rewrite.proofs.calls.rewrite_call.Goals as goal
@@ -55,7 +55,7 @@ pub returns-clause-is : goal.returns-clause-is
 returns-clause-is g c =
     let head = sym (c.in-Call.is ∙ ap (Call c.in-Call.g) (sym c.as_slice.ensures)) ∙ c.rhs-call.ensures ∙ c.in_ok-first.ensures.is in
     call_is (setting_of c.args.l.now.r.now) (inner_of c.args.l.now.r.now c.args.l.now.levels) c.args.mode (seen_at c.args.at.now) c.args.f.now c.args.us.now _ _ _ (rw c.in-Some.is at c.in_ok-args.ensures.is) _ _ head
-    _ _ _ (rw c.in-Some-2.is at c.in_ok-found.ensures.is) (c.in_ok-q.ensures.is ∙ ap (unwrap_or (right_of c.in-Some-2.found)) c.in_ok-first.ensures.is)
+    _ _ _ (rw c.in-Some-2.is at c.in_ok-found.ensures.is) (c.in_ok-q.ensures.is ∙ ap (unwrap_or (right_of (where_applied c.in-Some-2.found))) c.in_ok-first.ensures.is)
 
 pub returns-clause-from : goal.returns-clause-from
 returns-clause-from g c =

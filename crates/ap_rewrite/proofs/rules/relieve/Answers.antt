@@ -1,9 +1,10 @@
-use Rattle.std.proofs.Common.{◌≡◌, ◌∙◌, IsTrue, Some, None, refl, ap, arith}
+use Rattle.std.proofs.Common.{◌≡◌, ◌∙◌, IsTrue, Some, refl, ap, arith}
 use Rattle.std.proofs.lemmas.List.{drop_all}
 use Rattle.std.proofs.lemmas.Option.{slice_get_read}
 use Rattle.ap_term.specs.declared.term.Term.{Term}
 use Rattle.ap_world.specs.Sound.{known}
 use Rattle.ap_kernel.proofs.Typed.{each_at}
+use Rattle.ap_rewrite.specs.declared.rewriter.Tried.TheVariants.{Applied, PassedBy}
 use Rattle.ap_rewrite.specs.Answering.{defs_in, inner_of, seen_at}
 use Rattle.ap_rewrite.proofs.Arguments.{from_place}
 use Rattle.ap_rewrite.proofs.Reliefs.{reliefs_begin, few_around, many_around, too_many, relief_out, relief_none, relief_done, all_relieved}
@@ -19,10 +20,10 @@ relieve_one-requires-clause-hyp g c =
 
 pub loop-h-preserved : goal.loop-h-preserved
 loop-h-preserved g c =
-    let there : c.in_ok-relieve_one.field-0 ≡ Some (Some c.in-Some-Some.found) = c.in-Some-Some.is ∙ ap Some c.in-Some-Some.field-0-is in
+    let there : c.in_ok-relieve_one.field-0 ≡ Some (Applied c.in-Some-Applied.found) = c.in-Some-Applied.is ∙ ap Some c.in-Some-Applied.field-0-is in
     relief_done _ _ (inner_of c.args.l.now.r.now c.args.l.now.levels) (seen_at c.args.at.now) _ _ _ _ _ _ _ _ _ c.relieve_one.new.steps.left
-    (from_place c.args.hs.now c.loop-h.h-index c.h-item.result (omega arith) c.h-item.is) c.loop-h.invariant c.in-Some-Some.found c.push.new.self (few_around c.args.at.now.chain c.if-at-ge10.false)
-    (rw there at c.in_ok-relieve_one.ensures.is) (rw there at c.in_ok-relieve_one.ensures.shown) c.in_ok-push-in-Some-Some.ensures.ok
+    (from_place c.args.hs.now c.loop-h.h-index c.h-item.result (omega arith) c.h-item.is) c.loop-h.invariant c.in-Some-Applied.found c.push.new.self (few_around c.args.at.now.chain c.if-at-ge10.false)
+    (rw there at c.in_ok-relieve_one.ensures.is) (rw there at c.in_ok-relieve_one.ensures.shown) c.in_ok-push-in-Some-Applied.ensures.ok
 
 pub returns-then-at-ge10-clause-is : goal.returns-then-at-ge10-clause-is
 returns-then-at-ge10-clause-is g c =
@@ -35,9 +36,9 @@ returns-in-None-clause-is g c =
     (from_place c.args.hs.now c.loop-h.h-index c.h-item.result (omega arith) c.h-item.is) c.loop-h.invariant (few_around c.args.at.now.chain c.if-at-ge10.false)
     (rw c.in-None.is at c.in_ok-relieve_one.ensures.is)
 
-pub returns-in-Some-None-clause-is : goal.returns-in-Some-None-clause-is
-returns-in-Some-None-clause-is g c =
-    let there : c.in_ok-relieve_one.field-0 ≡ Some None = c.in-Some-None.is ∙ ap Some c.in-Some-None.field-0-is in
+pub returns-in-Some-PassedBy-clause-is : goal.returns-in-Some-PassedBy-clause-is
+returns-in-Some-PassedBy-clause-is g c =
+    let there : c.in_ok-relieve_one.field-0 ≡ Some PassedBy = c.in-Some-PassedBy.is ∙ ap Some c.in-Some-PassedBy.field-0-is in
     relief_none _ _ (inner_of c.args.l.now.r.now c.args.l.now.levels) (seen_at c.args.at.now) _ _ _ _ _ _ _ _ _ c.relieve_one.new.steps.left
     (from_place c.args.hs.now c.loop-h.h-index c.h-item.result (omega arith) c.h-item.is) c.loop-h.invariant (few_around c.args.at.now.chain c.if-at-ge10.false)
     (rw there at c.in_ok-relieve_one.ensures.is)

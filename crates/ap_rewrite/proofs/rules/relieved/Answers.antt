@@ -1,7 +1,7 @@
 use Rattle.std.proofs.Common.{◌≡◌, ◌∙◌, IfOk, IfSome, Option, refl, sym, subst}
 use Rattle.ap_term.specs.declared.term.Term.{Term}
 use Rattle.ap_term.specs.Metered.{Got}
-use Rattle.ap_rewrite.specs.Answering.{got_any, From}
+use Rattle.ap_rewrite.specs.Answering.{where_applied, got_any, From}
 use Rattle.ap_rewrite.proofs.Ruled.{taken, passed}
 use Rattle.ap_rewrite.proofs.rules.relieved.Goals as goal
 
@@ -15,4 +15,4 @@ returns-clause-is g c =
 
 pub returns-clause-from : goal.returns-clause-from
 returns-clause-from g c =
-    subst (λ (u : Term). IfOk c.right.result (λ o. IfSome o (λ a. IfSome a (From c.args.l.now.r.now.w.now c.args.mode c.args.at.now.ctx.now u)))) c.requires.instance c.right.ensures.from
+    subst (λ (u : Term). IfOk c.right.result (λ o. IfSome o (λ a. IfSome (where_applied a) (From c.args.l.now.r.now.w.now c.args.mode c.args.at.now.ctx.now u)))) c.requires.instance c.right.ensures.from
