@@ -1,20 +1,13 @@
 -- Leaves counted as far as 32 bits hold them.
-use Rattle.std.proofs.Common.{◌≡◌, ℕ, ◌+◌, ◌*◌, ◌<◌, ◌≤◌, min, Bool, true, false, zero, suc, List, [], ◌∷◌, map, length, drop, get_or, ◌⊎◌, inl, inr, refl, ap, sym, ◌∙◌, add-one, drop-cons, arith}
+use Rattle.std.proofs.Common.{◌≡◌, ℕ, ◌+◌, ◌*◌, ◌<◌, ◌≤◌, min, zero, suc, List, [], ◌∷◌, map, length, drop, get_or, ◌⊎◌, inl, inr, refl, ap, sym, ◌∙◌, add-one, drop-cons, arith}
 use Rattle.std.proofs.Math.Nat.{mul-one, one-mul, mul_assoc}
 use Rattle.std.proofs.lemmas.Nat.{mul-le}
 use Rattle.std.proofs.lemmas.Bool.{cases_lt}
-use Rattle.ap_value.specs.declared.symbol.Symbol.{Symbol}
-use Rattle.ap_value.specs.Values.{symbol_eq}
-use Rattle.ap_term.specs.declared.term.Term.{Term, Call}
-use Rattle.ap_world.specs.Names.{if_name}
+use Rattle.ap_term.specs.declared.term.Term.{Term}
 use Rattle.ap_clausify.specs.Leaves.{product, leaves, capped}
-use Rattle.ap_clausify.proofs.Flattened.{triple_is}
-use Rattle.ap_clausify.proofs.LeavesCounted.{leaves_var, leaves_quote, leaves_at, leaves_call, leaves_some, all_some_leaves}
+use Rattle.ap_clausify.proofs.LeavesCounted.{leaves_some, all_some_leaves}
 
--- sums and products of what is capped
-pub capped_sum : (limit a b s n : ℕ) → limit ≤ 4294967295 → s ≡ min (capped limit a + capped limit b) 4294967295 → n ≡ min s limit → n ≡ capped limit (a + b)
-capped_sum limit a b s n f h k = omega arith
-
+-- products of what is capped
 pub capped_product : (limit a b : ℕ) → 1 ≤ limit → 1 ≤ a → 1 ≤ b → capped limit (capped limit a * capped limit b) ≡ capped limit (a * b)
 capped_product limit a b l h k = go (cases_lt limit a) (cases_lt limit b)
   where
@@ -41,47 +34,6 @@ capped_product limit a b l h k = go (cases_lt limit a) (cases_lt limit b)
 -- cut at 32 bits first
 pub cut : (limit p s n : ℕ) → limit ≤ 4294967295 → s ≡ min p 4294967295 → n ≡ min s limit → n ≡ capped limit p
 cut limit p s n f h k = omega arith
-
--- an `if`
-choice_is : (u : Term) (f : Symbol) (ts us : List Term) (a b c : Term) → u ≡ Call f us → ts ≡ us → symbol_eq f if_name ≡ true → 3 ≤ length ts → length ts < 4
-    → a ≡ get_or ts 0 a → b ≡ get_or ts 1 b → c ≡ get_or ts 2 c → leaves u ≡ leaves a * (leaves b + leaves c)
-choice_is u f ts us a b c e t q l m p1 p2 p3 = ap leaves (e ∙ ap (Call f) (triple_is ts us a b c t l m p1 p2 p3)) ∙ leaves_call f (a ∷ b ∷ c ∷ []) ∙ ap (λ v. leaves_at v (a ∷ b ∷ c ∷ [])) q
-
-pub choice_capped : (limit : ℕ) (u : Term) (f : Symbol) (ts us : List Term) (a b c : Term) (x y z s b2 p n : ℕ) → 1 ≤ limit → limit ≤ 4294967295 → u ≡ Call f us → ts ≡ us → symbol_eq f if_name ≡ true → 3 ≤ length ts → length ts < 4
-    → a ≡ get_or ts 0 a → b ≡ get_or ts 1 b → c ≡ get_or ts 2 c → x ≡ capped limit (leaves a) → y ≡ capped limit (leaves b) → z ≡ capped limit (leaves c) → s ≡ min (y + z) 4294967295 → b2 ≡ min s limit
-    → p ≡ min (x * b2) 4294967295 → n ≡ min p limit → n ≡ capped limit (leaves u)
-choice_capped limit u f ts us a b c x y z s b2 p n o fits e t q l m p1 p2 p3 hx hy hz hs hb hp hn =
-    let whole = choice_is u f ts us a b c e t q l m p1 p2 p3 in
-    let sum : b2 ≡ capped limit (leaves b + leaves c) = capped_sum limit (leaves b) (leaves c) s b2 fits (hs ∙ ap (λ k. min (k + z) 4294967295) hy ∙ ap (λ k. min (capped limit (leaves b) + k) 4294967295) hz) hb in
-    let some : 1 ≤ leaves b + leaves c = let r = leaves_some b in omega arith in
-    cut limit (x * b2) p n fits hp hn ∙ ap (λ k. capped limit (k * b2)) hx ∙ ap (λ k. capped limit (capped limit (leaves a) * k)) sum
-    ∙ capped_product limit (leaves a) (leaves b + leaves c) o (leaves_some a) some ∙ ap (capped limit) (sym whole)
-
-pub choice_full : (limit : ℕ) (u : Term) (f : Symbol) (ts us : List Term) (a b c : Term) (y : ℕ) → u ≡ Call f us → ts ≡ us → symbol_eq f if_name ≡ true → 3 ≤ length ts → length ts < 4
-    → a ≡ get_or ts 0 a → b ≡ get_or ts 1 b → c ≡ get_or ts 2 c → y ≡ capped limit (leaves b) → y ≡ limit → limit ≡ capped limit (leaves u)
-choice_full limit u f ts us a b c y e t q l m p1 p2 p3 hy full =
-    let whole = choice_is u f ts us a b c e t q l m p1 p2 p3 in
-    let more : 1 * limit ≤ leaves a * (leaves b + leaves c) = mul-le 1 limit (leaves a) (leaves b + leaves c) (leaves_some a) (omega arith) in
-    go (leaves a * (leaves b + leaves c)) more ∙ ap (capped limit) (sym whole)
-  where
-    go : (k : ℕ) → 1 * limit ≤ k → limit ≡ capped limit k
-    go k h = let e2 = one-mul limit in omega arith
-
--- another call
-pub other_leaves : (u : Term) (f : Symbol) (ts : List Term) → u ≡ Call f ts → leaves_at (symbol_eq f if_name) ts ≡ product (map leaves ts) → leaves u ≡ product (map leaves ts)
-other_leaves u f ts e h = ap leaves e ∙ leaves_call f ts ∙ h
-
-pub few_leaves : (x : Bool) (ts : List Term) → length ts < 3 → leaves_at x ts ≡ product (map leaves ts)
-few_leaves true (a ∷ b ∷ c ∷ []) h = absurd (omega arith)
-few_leaves x ts h = refl
-
-pub many_leaves : (x : Bool) (ts : List Term) → 4 ≤ length ts → leaves_at x ts ≡ product (map leaves ts)
-many_leaves true (a ∷ b ∷ c ∷ []) h = absurd (omega arith)
-many_leaves x ts h = refl
-
-pub no_if_leaves : (x : Bool) (ts : List Term) → x ≡ false → leaves_at x ts ≡ product (map leaves ts)
-no_if_leaves true ts h = cc
-no_if_leaves false ts h = refl
 
 -- the next one of a list, and the end
 half : (limit a b : ℕ) → 1 ≤ limit → 1 ≤ a → 1 ≤ b → capped limit (capped limit a * b) ≡ capped limit (a * b)
@@ -128,5 +80,3 @@ full_capped limit ts i all e h = go (all * product (map leaves (drop i ts))) (mu
   where
     go : (m : ℕ) → limit * 1 ≤ m → limit ≡ capped limit m
     go m k = let e2 = mul-one limit in omega arith
-
-pub ruleset counting = (leaves_var, leaves_quote)

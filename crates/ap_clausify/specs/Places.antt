@@ -4,18 +4,10 @@ use Rattle.ap_value.specs.Values.{symbol_eq}
 use Rattle.ap_term.specs.declared.term.Term.{Term, fold-Term, para-Term}
 use Rattle.ap_term.specs.declared.term.Term.TheOpen.{Term-F}
 use Rattle.ap_term.specs.declared.term.Clause.{Clause}
+pub use Rattle.ap_term.specs.Leaves.{has_if_step, has_if}
 use Rattle.ap_world.specs.Names.{if_name}
 use Rattle.ap_world.specs.Clauses.{if_parts}
 use Rattle.ap_kernel.specs.Solving.{any_true}
-
--- whether a term has an `if`
-abbrev pub has_if_step : Term-F Bool → Bool
-has_if_step (Term-F.Var x) = false
-has_if_step (Term-F.Quote v) = false
-has_if_step (Term-F.Call f bs) = is_some (if_parts (symbol_eq f if_name) bs) || any_true bs
-
-abbrev pub has_if : Term → Bool
-has_if = fold-Term Bool has_if_step
 
 -- an `if` whose test has none
 abbrev pub has_plain_test : Option (Term × Term × Term) → Bool

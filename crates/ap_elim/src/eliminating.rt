@@ -33,7 +33,7 @@ fn has_call(alloc: Global, name: &[u8], literals: &[Term], v: &Symbol) -> Result
 {
     let head = acl2(alloc, name)?;
     let mut parts = Seq::new(alloc);
-    parts.push(Term::Var(copy_symbol(alloc, v)?))?;
+    parts.push(Term::var(copy_symbol(alloc, v)?))?;
     let call = Term::call(alloc, head, parts)?;
     Ok(some_contains(literals, &call))
 }
@@ -72,7 +72,7 @@ fn second_name(
     ensures { IfOk result (λ b. new_name stem.now (Var first.now ∷ literals.now) ≡ Some b) }
 {
     let mut terms = Seq::new(alloc);
-    terms.push(Term::Var(copy_symbol(alloc, first)?))?;
+    terms.push(Term::var(copy_symbol(alloc, first)?))?;
     terms.append(copy_terms(alloc, literals)?)?;
     new_name(alloc, stem, terms.as_slice())
 }

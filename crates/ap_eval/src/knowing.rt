@@ -5,7 +5,7 @@ ghost use Rattle.ap_world.specs.Primitives.{prim_of, prim_arity};
 ghost use Rattle.ap_world.specs.Sound.{takes, is_head, known};
 ghost use Rattle.ap_world.specs.World.{function_of};
 
-use ap_term::Term;
+use ap_term::{Shape, Term};
 use ap_value::Symbol;
 use ap_world::{Primitive, World, primitive_of};
 
@@ -47,12 +47,13 @@ fn is_callable(w: &World, f: &Symbol, count: usize) -> bool
 /// Whether each call in a term is of a primitive or a function of the world, with its number of
 /// arguments. Takes no memory.
 #[cycle(knowing)]
+#[tactic(auto, using(ap_term::proofs::Seen::trees))]
 pub fn is_known(w: &World, t: &Term) -> bool
     ensures { result ≡ known (function_of w.now.entries) t.now }
 {
-    match t {
-        Term::Var(_) | Term::Quote(_) => true,
-        Term::Call(f, terms) => is_callable(w, f, terms.len()) && are_known(w, terms.as_slice()),
+    match &t.shape {
+        Shape::Var(_) | Shape::Quote(_) => true,
+        Shape::Call(f, terms) => is_callable(w, f, terms.len()) && are_known(w, terms.as_slice()),
     }
 }
 

@@ -15,7 +15,7 @@ use crate::machine::{Frame, Machine, State, Task};
 use crate::spending::{charge, charge_variable, settle};
 use crate::stop::EvalStop;
 use ap_list::Seq;
-use ap_term::Term;
+use ap_term::{Shape, Term};
 use ap_value::{Symbol, Value};
 use ap_world::{Primitive, World, primitive_of};
 use std::alloc::Global;
@@ -192,6 +192,7 @@ fn enter_constant<'a>(
 }
 
 /// Runs a term.
+#[tactic(auto, using(ap_term::proofs::Seen::trees))]
 fn enter<'a>(
     alloc: Global,
     w: &'a World,
@@ -202,10 +203,10 @@ fn enter<'a>(
     ensures falls { IfOk result (λ s. weight s < 3 * machine.entry.units + length machine.entry.frames) }
 {
     let mut machine = machine;
-    match t {
-        Term::Var(x) => enter_variable(alloc, w, x, machine),
-        Term::Quote(v) => enter_constant(alloc, w, v, machine),
-        Term::Call(f, terms) => {
+    match &t.shape {
+        Shape::Var(x) => enter_variable(alloc, w, x, machine),
+        Shape::Quote(v) => enter_constant(alloc, w, v, machine),
+        Shape::Call(f, terms) => {
             if machine.units == 0 {
                 return Err(EvalStop::Spent);
             }

@@ -44,7 +44,7 @@ fn take(stack: &mut Seq<Term>) -> Term
 {
     match stack.pop() {
         Some(term) => term,
-        None => Term::Quote(Value::Int(0)),
+        None => Term::quote(Value::Int(0)),
     }
 }
 
@@ -54,9 +54,9 @@ fn made(alloc: Global, stack: &mut Seq<Term>, word: &Word) -> Result<Term, NoMem
 {
     let mut arguments = Seq::new(alloc);
     match word {
-        Word::Var(name) => Ok(Term::Var(symbol(alloc, name)?)),
-        Word::Int(n) => Ok(Term::Quote(Value::Int(*n))),
-        Word::Sym(name) => Ok(Term::Quote(Value::Sym(symbol(alloc, name)?))),
+        Word::Var(name) => Ok(Term::var(symbol(alloc, name)?)),
+        Word::Int(n) => Ok(Term::quote(Value::Int(*n))),
+        Word::Sym(name) => Ok(Term::quote(Value::Sym(symbol(alloc, name)?))),
         Word::One(head) => {
             arguments.push(take(stack))?;
             Term::call(alloc, symbol(alloc, head)?, arguments)

@@ -8,7 +8,7 @@ ghost use Rattle.ap_reader.specs.Tops.{items_in};
 use crate::fault::HintError;
 use ap_list::Seq;
 use ap_reader::{Form, items, symbol};
-use ap_term::Term;
+use ap_term::{Shape, Term};
 use ap_translate::{TransError, translate};
 use ap_value::Symbol;
 use ap_world::World;
@@ -93,11 +93,12 @@ pub(crate) fn cases(alloc: Global, w: &World, form: &Form) -> Result<Seq<Term>, 
 }
 
 /// A term, where it is a call.
+#[tactic(auto, using(ap_term::proofs::Seen::trees))]
 fn call_only(term: Term) -> Result<Term, HintError>
     ensures { result ≡ call_only term (out-Term term) }
 {
-    match &term {
-        Term::Call(..) => Ok(term),
+    match &term.shape {
+        Shape::Call(..) => Ok(term),
         _ => Err(HintError::UnknownKeyword),
     }
 }

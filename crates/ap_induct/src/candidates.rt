@@ -11,7 +11,7 @@ use crate::counting::are_few;
 use crate::symbols::{is_apart, is_distinct};
 use ap_kernel::{is_led, mentions, variable_of};
 use ap_list::{NoMemory, Seq};
-use ap_term::{Term, copy_term, vars};
+use ap_term::{Shape, Term, copy_term, vars};
 use ap_value::Symbol;
 use ap_world::{Function, RuneKind, Theory, World};
 use std::alloc::Global;
@@ -42,13 +42,14 @@ fn led_names(
 }
 
 /// Whether a term is a variable. Takes no memory.
+#[tactic(auto, using(ap_term::proofs::Seen::trees))]
 fn is_variable(t: &Term) -> bool
     ensures { result ≡ is_variable t.now }
 {
-    match t {
-        Term::Var(_) => true,
-        Term::Quote(_) => false,
-        Term::Call(_, _) => false,
+    match &t.shape {
+        Shape::Var(_) => true,
+        Shape::Quote(_) => false,
+        Shape::Call(_, _) => false,
     }
 }
 
@@ -175,6 +176,7 @@ fn replaces_by(
 }
 
 /// The same of a term, which may be a call.
+#[tactic(auto, using(ap_term::proofs::Seen::trees))]
 fn replaces(
     alloc: Global,
     w: &World,
@@ -184,10 +186,10 @@ fn replaces(
 ) -> Result<Option<Seq<Symbol>>, NoMemory>
     ensures { IfOk result (λ o. o ≡ replaces (function_of w.now.entries) theory.now literals (out-Term t.now)) }
 {
-    match t {
-        Term::Call(f, actuals) => replaces_by(alloc, w, theory, literals, f, actuals.as_slice()),
-        Term::Var(_) => Ok(None),
-        Term::Quote(_) => Ok(None),
+    match &t.shape {
+        Shape::Call(f, actuals) => replaces_by(alloc, w, theory, literals, f, actuals.as_slice()),
+        Shape::Var(_) => Ok(None),
+        Shape::Quote(_) => Ok(None),
     }
 }
 

@@ -4,22 +4,23 @@ ghost use Rattle.ap_induct.specs.Choosing.{calls_of, calls_among, score, better,
 
 use crate::symbols::are_same;
 use ap_list::{NoMemory, Seq};
-use ap_term::{Term, copy_term};
+use ap_term::{Shape, Term, copy_term};
 use ap_value::Symbol;
 use std::alloc::Global;
 
 /// Adds the calls of a term, in preorder.
 #[cycle(calls)]
+#[tactic(auto, using(ap_term::proofs::Seen::trees))]
 fn push_calls(alloc: Global, t: &Term, out: &mut Seq<Term>) -> Result<(), NoMemory>
     ensures { OnOk result (out.new ≡ out.old ++ calls_of t.now) }
 {
-    match t {
-        Term::Call(_, ts) => {
+    match &t.shape {
+        Shape::Call(_, ts) => {
             out.push(copy_term(alloc, t)?)?;
             push_all_calls(alloc, ts.as_slice(), out)
         }
-        Term::Var(_) => Ok(()),
-        Term::Quote(_) => Ok(()),
+        Shape::Var(_) => Ok(()),
+        Shape::Quote(_) => Ok(()),
     }
 }
 

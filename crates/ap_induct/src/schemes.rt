@@ -11,7 +11,7 @@ use crate::choosing::{best_call, push_all_calls};
 use crate::found::Scheme;
 use ap_kernel::induct;
 use ap_list::{NoMemory, Seq};
-use ap_term::{Clause, Term, copy_term, copy_terms};
+use ap_term::{Clause, Shape, Term, copy_term, copy_terms};
 use ap_world::{Theory, World};
 use std::alloc::Global;
 
@@ -50,6 +50,7 @@ pub fn chosen(
 /// The induction of a clause: by the hint's call, which is then the only candidate, or by the first of the
 /// calls in the clause, in preorder, that has the highest score among the candidates. `None` exactly where there
 /// is no candidate. The only error is want of memory. See the manual's topic `induction`.
+#[tactic(auto, using(ap_term::proofs::Seen::trees))]
 pub fn scheme(
     alloc: Global,
     w: &World,
@@ -66,7 +67,7 @@ pub fn scheme(
     let Some(call) = chosen(alloc, w, theory, c.0.as_slice(), hint)? else {
         return Ok(None);
     };
-    let Term::Call(f, actuals) = &call else {
+    let Shape::Call(f, actuals) = &call.shape else {
         return Ok(None);
     };
     let clause = Clause(copy_terms(alloc, c.0.as_slice())?);

@@ -30,3 +30,4 @@ pub mod InductFollows
 pub mod Listed
 pub mod PlainForm
 pub mod Closing
+pub mod Walked

@@ -6,16 +6,13 @@ use Rattle.ap_term.specs.declared.term.Term.{Term, fold-Term, out-Term}
 use Rattle.ap_term.specs.declared.term.Term.TheOpen.{Term-F}
 use Rattle.ap_term.specs.declared.term.Clause.{Clause}
 use Rattle.ap_term.specs.Terms.{subst_of}
+pub use Rattle.ap_term.specs.Leaves.{any_true}
 use Rattle.ap_world.specs.Shapes.{Shape, negation, equation, shape_of}
 use Rattle.ap_kernel.specs.declared.reductions.Inference.{Inference}
 use Rattle.ap_kernel.specs.Reductions.{others, to_one}
 use Rattle.ap_kernel.specs.Splits.{and_then}
 
 -- a variable occurs in a term
-abbrev pub any_true : List Bool → Bool
-any_true [] = false
-any_true (b ∷ bs) = b || any_true bs
-
 abbrev pub occurs_step : Symbol → Term-F Bool → Bool
 occurs_step x (Term-F.Var y) = symbol_eq x y
 occurs_step x (Term-F.Quote v) = false

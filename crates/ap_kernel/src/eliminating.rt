@@ -56,7 +56,7 @@ fn cons_term(alloc: Global, a: &Symbol, b: &Symbol) -> Result<Term, NoMemory>
     let head = acl2(alloc, b"CONS")?;
     let first = copy_symbol(alloc, a)?;
     let second = copy_symbol(alloc, b)?;
-    let parts = two(alloc, Term::Var(first), Term::Var(second))?;
+    let parts = two(alloc, Term::var(first), Term::var(second))?;
     Term::call(alloc, head, parts)
 }
 
@@ -66,7 +66,7 @@ fn car_pair(alloc: Global, v: &Symbol, a: &Symbol) -> Result<(Term, Term), NoMem
 {
     let by = copy_symbol(alloc, a)?;
     let part = car_term(alloc, v)?;
-    Ok((part, Term::Var(by)))
+    Ok((part, Term::var(by)))
 }
 
 /// `(cdr v)` with the variable that it becomes.
@@ -75,7 +75,7 @@ fn cdr_pair(alloc: Global, v: &Symbol, b: &Symbol) -> Result<(Term, Term), NoMem
 {
     let by = copy_symbol(alloc, b)?;
     let part = cdr_term(alloc, v)?;
-    Ok((part, Term::Var(by)))
+    Ok((part, Term::var(by)))
 }
 
 /// `v` with the cons that it becomes.
@@ -84,7 +84,7 @@ fn cons_pair(alloc: Global, v: &Symbol, a: &Symbol, b: &Symbol) -> Result<(Term,
 {
     let whole = copy_symbol(alloc, v)?;
     let by = cons_term(alloc, a, b)?;
-    Ok((Term::Var(whole), by))
+    Ok((Term::var(whole), by))
 }
 
 /// What `(car v)`, `(cdr v)` and other `v` become: the first new variable, the second, and their cons.

@@ -110,7 +110,7 @@ fn own_constant(alloc: Global, v: &Value) -> Result<Term, NoMemory>
     ensures { IfOk result (λ u. u ≡ Quote v.now) }
 {
     let value = copy(alloc, v)?;
-    Ok(Term::Quote(value))
+    Ok(Term::quote(value))
 }
 
 /// The first part, copied.

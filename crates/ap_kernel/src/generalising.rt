@@ -63,7 +63,7 @@ pub(crate) fn call_on(alloc: Global, f: Symbol, v: &Symbol) -> Result<Term, NoMe
     ensures { IfOk result (λ u. u ≡ call_on f v.now) }
 {
     let v = copy_symbol(alloc, v)?;
-    let parts = one(alloc, Term::Var(v))?;
+    let parts = one(alloc, Term::var(v))?;
     Term::call(alloc, f, parts)
 }
 
@@ -89,7 +89,7 @@ fn with_variable(
     ensures { IfOk result (λ ts. ts ≡ map (swapped ((t.now, Var v) ∷ [])) literals.now) }
 {
     let part = copy_term(alloc, t)?;
-    let pairs = one_pair(alloc, part, Term::Var(v))?;
+    let pairs = one_pair(alloc, part, Term::var(v))?;
     swapped_all(alloc, pairs.as_slice(), literals)
 }
 

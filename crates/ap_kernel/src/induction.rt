@@ -15,7 +15,7 @@ use crate::places::{Place, places_of};
 use crate::reductions::Reduction;
 use crate::splits::negated_instance;
 use ap_list::{NoMemory, Seq};
-use ap_term::{Clause, Subst, Term, copy_term, copy_terms, subst};
+use ap_term::{Clause, Shape, Subst, Term, copy_term, copy_terms, subst};
 use ap_value::{Symbol, acl2, copy_symbol};
 use ap_world::{Case, World};
 use std::alloc::Global;
@@ -82,14 +82,14 @@ fn choices(alloc: Global, lists: &[Seq<Term>]) -> Result<Seq<Seq<Term>>, NoMemor
 }
 
 /// A variable's name; that of another term is `nil`.
-#[tactic(auto, unfolding(ap_world::specs::Names::nil_name))]
+#[tactic(auto, using(ap_term::proofs::Seen::trees), unfolding(ap_world::specs::Names::nil_name))]
 pub fn variable_of(alloc: Global, t: &Term) -> Result<Symbol, NoMemory>
     ensures { IfOk result (λ x. x ≡ variable_of t.now) }
 {
-    match t {
-        Term::Var(x) => copy_symbol(alloc, x),
-        Term::Quote(_) => acl2(alloc, b"NIL"),
-        Term::Call(_, _) => acl2(alloc, b"NIL"),
+    match &t.shape {
+        Shape::Var(x) => copy_symbol(alloc, x),
+        Shape::Quote(_) => acl2(alloc, b"NIL"),
+        Shape::Call(_, _) => acl2(alloc, b"NIL"),
     }
 }
 

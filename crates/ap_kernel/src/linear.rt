@@ -14,7 +14,7 @@ use crate::equations::truth_term;
 use crate::objects::{Ctx, Equiv, Mode};
 use ap_list::{NoMemory, Seq};
 use ap_poly::Poly;
-use ap_term::Term;
+use ap_term::{Shape, Term};
 use ap_world::{Mask, Primitive, World, equal_symbol, primitive_of, t_term};
 use std::alloc::Global;
 
@@ -33,17 +33,18 @@ pub trait LinearOracle {
 }
 
 /// Whether a term is a call of `<` or of `equal`. Takes no memory.
+#[tactic(auto, using(ap_term::proofs::Seen::trees))]
 pub fn is_comparison(t: &Term) -> bool
     ensures { result ≡ is_comparison t.now }
 {
-    match t {
-        Term::Call(f, _) => match primitive_of(f) {
+    match &t.shape {
+        Shape::Call(f, _) => match primitive_of(f) {
             Some(Primitive::Less) => true,
             Some(Primitive::Equal) => true,
             _ => false,
         },
-        Term::Var(_) => false,
-        Term::Quote(_) => false,
+        Shape::Var(_) => false,
+        Shape::Quote(_) => false,
     }
 }
 
@@ -83,14 +84,15 @@ fn left_of(q: Equiv) -> Term
 }
 
 /// The equation of the two sides of a call of `<`, which are moved.
+#[tactic(auto, using(ap_term::proofs::Seen::trees))]
 fn equated(alloc: Global, call: Term) -> Result<Term, NoMemory>
     requires { (a : Term) × (b : Term) × (call ≡ less_of a b) }
     ensures { IfOk result (λ u. (a b : Term) → call ≡ less_of a b → u ≡ equal_of a b) }
 {
-    match call {
-        Term::Call(_, sides) => Ok(Term::Call(equal_symbol(), sides)),
-        Term::Var(_) => unreachable!(),
-        Term::Quote(_) => unreachable!(),
+    match call.shape {
+        Shape::Call(_, sides) => Ok(Term::call_of(equal_symbol(), sides)),
+        Shape::Var(_) => unreachable!(),
+        Shape::Quote(_) => unreachable!(),
     }
 }
 

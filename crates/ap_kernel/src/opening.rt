@@ -12,19 +12,20 @@ ghost use Rattle.ap_kernel.specs.Opening.{opened, is_quoted, is_constant_call};
 
 use crate::objects::{Ctx, Equiv, Mode};
 use ap_list::NoMemory;
-use ap_term::{Term, pairs_of, subst};
+use ap_term::{Shape, Term, pairs_of, subst};
 use ap_value::Value;
 use ap_world::World;
 use std::alloc::Global;
 
 /// Whether a term is a constant.
+#[tactic(auto, using(ap_term::proofs::Seen::trees))]
 fn is_quoted(t: &Term) -> bool
     ensures { result ≡ is_quoted t.now }
 {
-    match t {
-        Term::Quote(_) => true,
-        Term::Var(_) => false,
-        Term::Call(_, _) => false,
+    match &t.shape {
+        Shape::Quote(_) => true,
+        Shape::Var(_) => false,
+        Shape::Call(_, _) => false,
     }
 }
 
@@ -41,32 +42,35 @@ fn are_quoted(ts: &[Term]) -> bool
 }
 
 /// Whether a term is a call whose arguments are constants. Takes no memory.
+#[tactic(auto, using(ap_term::proofs::Seen::trees))]
 pub fn is_constant_call(t: &Term) -> bool
     ensures { result ≡ is_constant_call t.now }
 {
-    match t {
-        Term::Call(_, ts) => are_quoted(ts.as_slice()),
-        Term::Var(_) => false,
-        Term::Quote(_) => false,
+    match &t.shape {
+        Shape::Call(_, ts) => are_quoted(ts.as_slice()),
+        Shape::Var(_) => false,
+        Shape::Quote(_) => false,
     }
 }
 
 /// Whether a term is a call of a function that the world defines. Takes no memory.
+#[tactic(auto, using(ap_term::proofs::Seen::trees))]
 pub fn can_open(w: &World, t: &Term) -> bool
     ensures { result ≡ is_some (opened (function_of w.now.entries) t.now) }
 {
-    match t {
-        Term::Call(f, _) => w.lookup_fun(f).is_some(),
-        Term::Var(_) => false,
-        Term::Quote(_) => false,
+    match &t.shape {
+        Shape::Call(f, _) => w.lookup_fun(f).is_some(),
+        Shape::Var(_) => false,
+        Shape::Quote(_) => false,
     }
 }
 
 /// The body's instance, of a call of a function that the world defines.
+#[tactic(auto, using(ap_term::proofs::Seen::trees))]
 fn opened(alloc: Global, w: &World, t: &Term) -> Result<Option<Term>, NoMemory>
     ensures { IfOk result (λ o. o ≡ opened (function_of w.now.entries) t.now) }
 {
-    let Term::Call(f, ts) = t else {
+    let Shape::Call(f, ts) = &t.shape else {
         return Ok(None);
     };
     let Some(function) = w.lookup_fun(f) else {
@@ -112,6 +116,6 @@ pub fn fold(
     ensures made { IfOk result (λ q. q.says ≡ equation_made ctx.now call.now (Quote value)) }
 {
     w.recall_sound();
-    let answer = Equiv::from_copy(alloc, ctx, Mode::Equal, call, Term::Quote(value))?;
+    let answer = Equiv::from_copy(alloc, ctx, Mode::Equal, call, Term::quote(value))?;
     Ok(answer)
 }

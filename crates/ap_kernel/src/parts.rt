@@ -9,7 +9,7 @@ ghost use Rattle.ap_kernel.specs.Applying.{mode_in, joined_parts, implied_parts,
 
 use crate::objects::Mode;
 use ap_list::{NoMemory, Seq};
-use ap_term::{Subst, Term, subst};
+use ap_term::{Shape, Subst, Term, subst};
 use ap_world::{
     ShapeRef, is_equal, is_iff, is_implies, is_nil_term, is_not, nil_term, push_conjuncts,
     shape_of, t_term,
@@ -43,17 +43,18 @@ fn joined_parts(t: &Term) -> Option<(&Term, &Term)>
 }
 
 /// The parts `h` and `c` of `(implies h c)`.
+#[tactic(auto, using(ap_term::proofs::Seen::trees))]
 fn implied_parts(t: &Term) -> Option<(&Term, &Term)>
     ensures is { option_map (λ p. (p.0.now, p.1.now)) result ≡ implied_parts (out-Term t.now) }
     ensures smaller { IfSome result (λ p. (term_size p.0.now < term_size t.now) × (term_size p.1.now < term_size t.now)) }
 {
-    match t {
-        Term::Call(f, ts) => match (is_implies(f), ts.as_slice()) {
+    match &t.shape {
+        Shape::Call(f, ts) => match (is_implies(f), ts.as_slice()) {
             (true, [h, c]) => Some((h, c)),
             _ => None,
         },
-        Term::Var(_) => None,
-        Term::Quote(_) => None,
+        Shape::Var(_) => None,
+        Shape::Quote(_) => None,
     }
 }
 
@@ -120,18 +121,19 @@ pub fn conclusion_part(t: &Term, place: u32) -> Option<&Term>
 }
 
 /// How a conjunct is read.
+#[tactic(auto, using(ap_term::proofs::Seen::trees))]
 fn read(t: &Term) -> Reading<'_>
     ensures { seen_sides result ≡ sides t.now }
 {
-    match t {
-        Term::Call(f, ts) => match (is_equal(f), is_iff(f), is_not(f), ts.as_slice()) {
+    match &t.shape {
+        Shape::Call(f, ts) => match (is_equal(f), is_iff(f), is_not(f), ts.as_slice()) {
             (true, _, _, [a, b]) => Reading::Equal(a, b),
             (false, true, _, [a, b]) => Reading::Iff(a, b),
             (false, false, true, [a]) => Reading::Nil(a),
             _ => Reading::True(t),
         },
-        Term::Var(_) => Reading::True(t),
-        Term::Quote(_) => Reading::True(t),
+        Shape::Var(_) => Reading::True(t),
+        Shape::Quote(_) => Reading::True(t),
     }
 }
 
@@ -160,7 +162,7 @@ fn left_of(reading: Reading<'_>) -> &Term
 }
 
 /// The instance of the right side.
-#[tactic(auto, using(ap_world::proofs::Written::subst_quote))]
+#[tactic(auto, using(ap_term::proofs::Seen::trees, ap_world::proofs::Written::subst_quote))]
 fn right_instance(alloc: Global, reading: Reading<'_>, s: &Subst) -> Result<Term, NoMemory>
     ensures { IfOk result (λ u. u ≡ subst_of s.now.0 (seen_sides reading.entry).2) }
 {

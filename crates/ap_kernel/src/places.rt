@@ -9,7 +9,7 @@ ghost use Rattle.ap_kernel.specs.Induction.{any_true, count_true, occurs, change
 
 use crate::solving::occurs;
 use ap_list::{NoMemory, Seq};
-use ap_term::{Term, copy_term, is_symbol};
+use ap_term::{Shape, Term, copy_term, is_symbol};
 use ap_value::{Symbol, copy_symbol};
 use ap_world::{Case, Function};
 use std::alloc::Global;
@@ -45,14 +45,14 @@ pub fn mentions(x: &Symbol, terms: &[Term]) -> bool
 }
 
 /// Whether a term is a variable of this name. Takes no memory.
-#[tactic(auto, using(crate::proofs::Mentioned::comparing))]
+#[tactic(auto, using(ap_term::proofs::Seen::trees, crate::proofs::Mentioned::comparing))]
 fn is_the_variable(t: &Term, x: &Symbol) -> bool
     ensures { result ≡ term_eq t.now (Var x.now) }
 {
-    match t {
-        Term::Var(y) => is_symbol(y, x),
-        Term::Quote(_) => false,
-        Term::Call(_, _) => false,
+    match &t.shape {
+        Shape::Var(y) => is_symbol(y, x),
+        Shape::Quote(_) => false,
+        Shape::Call(_, _) => false,
     }
 }
 
@@ -121,6 +121,7 @@ fn is_in_one(x: &Symbol, terms: &[Term]) -> bool
 
 /// Whether a formal that some call changes has a variable as its actual that no other actual has. Takes no
 /// memory.
+#[tactic(auto, using(ap_term::proofs::Seen::trees))]
 fn follows(
     function: &Function,
     measure: &[Term],
@@ -133,10 +134,10 @@ fn follows(
     if !changes(function.formals.as_slice(), function.cases.as_slice(), x) {
         return false;
     }
-    match actual {
-        Term::Var(y) => is_in_one(y, actuals),
-        Term::Quote(_) => false,
-        Term::Call(_, _) => false,
+    match &actual.shape {
+        Shape::Var(y) => is_in_one(y, actuals),
+        Shape::Quote(_) => false,
+        Shape::Call(_, _) => false,
     }
 }
 

@@ -10,20 +10,21 @@ use crate::lists::copied_pair;
 use crate::literals::{put_at, to_one};
 use crate::reductions::Reduction;
 use ap_list::{NoMemory, Seq};
-use ap_term::{Clause, Subst, Term, is_symbol, subst_all};
+use ap_term::{Clause, Shape, Subst, Term, is_symbol, subst_all};
 use ap_value::Symbol;
 use ap_world::{ShapeRef, World, shape_of};
 use std::alloc::Global;
 
 /// Whether a variable occurs in a term. Takes no memory.
 #[cycle(occurring)]
+#[tactic(auto, using(ap_term::proofs::Seen::trees))]
 pub(crate) fn occurs(x: &Symbol, t: &Term) -> bool
     ensures { result ≡ occurs x.now t.now }
 {
-    match t {
-        Term::Var(y) => is_symbol(x, y),
-        Term::Quote(_) => false,
-        Term::Call(_, ts) => occurs_in(x, ts.as_slice()),
+    match &t.shape {
+        Shape::Var(y) => is_symbol(x, y),
+        Shape::Quote(_) => false,
+        Shape::Call(_, ts) => occurs_in(x, ts.as_slice()),
     }
 }
 
@@ -40,18 +41,19 @@ pub fn occurs_in(x: &Symbol, ts: &[Term]) -> bool
 }
 
 /// A side that is a variable, with the other side, where it doesn't occur in that. Takes no memory.
+#[tactic(auto, using(ap_term::proofs::Seen::trees))]
 fn side_solved<'a>(a: &'a Term, b: &'a Term) -> Option<(&'a Symbol, &'a Term)>
     ensures { option_map (λ p. (p.0.now, p.1.now)) result ≡ side_solved (out-Term a.now) b.now }
 {
-    match a {
-        Term::Var(x) => {
+    match &a.shape {
+        Shape::Var(x) => {
             if occurs(x, b) {
                 return None;
             }
             Some((x, b))
         }
-        Term::Quote(_) => None,
-        Term::Call(_, _) => None,
+        Shape::Quote(_) => None,
+        Shape::Call(_, _) => None,
     }
 }
 

@@ -14,19 +14,20 @@ use crate::lists::{one, two, two_clauses};
 use crate::literals::put_at;
 use crate::reductions::Reduction;
 use ap_list::{NoMemory, Seq};
-use ap_term::{Clause, Subst, Term, copy_term, subst};
+use ap_term::{Clause, Shape, Subst, Term, copy_term, subst};
 use ap_value::{Symbol, copy_symbol};
 use ap_world::{ShapeRef, World, shape_of};
 use std::alloc::Global;
 
 /// The part of a term that the places of arguments lead to, the outermost first. Takes no memory.
+#[tactic(auto, using(ap_term::proofs::Seen::trees))]
 fn part_at<'a>(t: &'a Term, at: &[u32]) -> Option<&'a Term>
     ensures { option_copied result ≡ part_at at.now t.now }
 {
     let [place, rest @ ..] = at else {
         return Some(t);
     };
-    let Term::Call(_, arguments) = t else {
+    let Shape::Call(_, arguments) = &t.shape else {
         return None;
     };
     part_at(arguments.get(*place as usize)?, rest)
@@ -60,13 +61,14 @@ fn with_argument(
 }
 
 /// A copy of a term in which the part at a place is a copy of another one.
+#[tactic(auto, using(ap_term::proofs::Seen::trees))]
 fn with_part(alloc: Global, t: &Term, at: &[u32], part: &Term) -> Result<Option<Term>, NoMemory>
     ensures { IfOk result (λ o. o ≡ with_part at.now part.now t.now) }
 {
     let [place, rest @ ..] = at else {
         return Ok(Some(copy_term(alloc, part)?));
     };
-    let Term::Call(f, arguments) = t else {
+    let Shape::Call(f, arguments) = &t.shape else {
         return Ok(None);
     };
     let place = *place as usize;

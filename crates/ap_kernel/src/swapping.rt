@@ -6,7 +6,7 @@ ghost use Rattle.ap_kernel.specs.Solving.{any_true};
 ghost use Rattle.ap_kernel.specs.Swapping.{swapped, is_part};
 
 use ap_list::{NoMemory, Seq};
-use ap_term::{Term, copy_term, is_same};
+use ap_term::{Shape, Term, copy_term, is_same};
 use ap_value::copy_symbol;
 use std::alloc::Global;
 
@@ -26,16 +26,17 @@ fn other_of<'a>(pairs: &'a [(Term, Term)], t: &Term) -> Option<&'a Term>
 /// outermost parts first. The time is linear in the term's size for pairs that are given. What isn't changed
 /// within a call that is, is shared.
 #[cycle(swapping)]
+#[tactic(auto, using(ap_term::proofs::Seen::trees))]
 pub(crate) fn swapped(alloc: Global, pairs: &[(Term, Term)], t: &Term) -> Result<Term, NoMemory>
     ensures { IfOk result (λ u. u ≡ swapped pairs.now t.now) }
 {
     if let Some(by) = other_of(pairs, t) {
         return copy_term(alloc, by);
     }
-    match t {
-        Term::Var(_) => copy_term(alloc, t),
-        Term::Quote(_) => copy_term(alloc, t),
-        Term::Call(f, ts) => {
+    match &t.shape {
+        Shape::Var(_) => copy_term(alloc, t),
+        Shape::Quote(_) => copy_term(alloc, t),
+        Shape::Call(f, ts) => {
             let parts = swapped_all(alloc, pairs, ts.as_slice())?;
             Term::call(alloc, copy_symbol(alloc, f)?, parts)
         }
@@ -60,16 +61,17 @@ pub(crate) fn swapped_all(
 
 /// Whether the second term is the first one or a part of it; constants have no parts. Takes no memory.
 #[cycle(finding)]
+#[tactic(auto, using(ap_term::proofs::Seen::trees))]
 pub fn contains(u: &Term, t: &Term) -> bool
     ensures { result ≡ is_part t.now u.now }
 {
     if is_same(t, u) {
         return true;
     }
-    match u {
-        Term::Var(_) => false,
-        Term::Quote(_) => false,
-        Term::Call(_, us) => some_contains(us.as_slice(), t),
+    match &u.shape {
+        Shape::Var(_) => false,
+        Shape::Quote(_) => false,
+        Shape::Call(_, us) => some_contains(us.as_slice(), t),
     }
 }
 

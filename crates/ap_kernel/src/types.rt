@@ -81,6 +81,6 @@ pub fn by_type(
 {
     w.recall_sound();
     let mode = typed_mode(mask, &value);
-    let answer = Equiv::from_copy(alloc, ctx, mode, t, Term::Quote(value))?;
+    let answer = Equiv::from_copy(alloc, ctx, mode, t, Term::quote(value))?;
     Ok(answer)
 }

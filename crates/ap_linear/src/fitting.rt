@@ -4,7 +4,7 @@ ghost use Rattle.ap_list.specs.Lists.{all_true};
 ghost use Rattle.ap_value.specs.Fits.{fits, all_fit};
 ghost use Rattle.ap_term.specs.Terms.{term_fits};
 
-use ap_term::Term;
+use ap_term::{Shape, Term};
 use ap_value::Value;
 
 /// An integer has 128 bits. It does nothing.
@@ -30,13 +30,14 @@ fn value_fits(v: &Value)
 
 /// Each integer of a term has 128 bits, as is seen where it is read. Takes no memory.
 #[cycle(fitting)]
+#[tactic(auto, using(ap_term::proofs::Seen::trees))]
 fn term_fits(t: &Term)
     ensures { term_fits t.now ≡ true }
 {
-    match t {
-        Term::Var(_) => {}
-        Term::Quote(v) => value_fits(v),
-        Term::Call(_, xs) => terms_fit(xs.as_slice()),
+    match &t.shape {
+        Shape::Var(_) => {}
+        Shape::Quote(v) => value_fits(v),
+        Shape::Call(_, xs) => terms_fit(xs.as_slice()),
     }
 }
 

@@ -3,7 +3,7 @@
 //! A [`Poly`] says that a constant plus integer multiples of atoms is at least 0. [`of_literal`] makes those of a
 //! literal, [`add`] and [`scale`] make sums and multiples of them. That all these hold where they should, and that
 //! polynomials don't all hold of which a weighted sum is a negative constant, are the laws of [`laws`].
-#![tactic(auto)]
+#![tactic(auto, using(ap_term::proofs::Seen::trees))]
 
 mod laws;
 mod literal;

@@ -7,7 +7,7 @@ use crate::numbers::{integer_in, narrow_negation, narrow_product, narrow_sum};
 use crate::parts::put;
 use crate::poly::Poly;
 use ap_list::{NoMemory, Seq};
-use ap_term::Term;
+use ap_term::{Shape, Term};
 use ap_world::{Primitive, primitive_of};
 use std::alloc::Global;
 
@@ -38,10 +38,10 @@ fn add_atom(alloc: Global, t: &Term, k: i128, p: Poly) -> Result<Option<Poly>, N
 fn add_term(alloc: Global, t: &Term, k: i128, p: Poly) -> Result<Option<Poly>, NoMemory>
     ensures { IfOk result (λ o. o ≡ into t.now k p) }
 {
-    match t {
-        Term::Var(_) => add_atom(alloc, t, k, p),
-        Term::Quote(v) => Ok(add_constant(integer_in(v), k, p)),
-        Term::Call(f, ts) => add_call(alloc, t, primitive_of(f), ts.as_slice(), k, p),
+    match &t.shape {
+        Shape::Var(_) => add_atom(alloc, t, k, p),
+        Shape::Quote(v) => Ok(add_constant(integer_in(v), k, p)),
+        Shape::Call(f, ts) => add_call(alloc, t, primitive_of(f), ts.as_slice(), k, p),
     }
 }
 
@@ -92,13 +92,13 @@ fn add_product(
 ) -> Result<Option<Poly>, NoMemory>
     ensures { IfOk result (λ o. o ≡ add_product (out-Term a.now) (into b.now) (add_atom t.now) k p) }
 {
-    match a {
-        Term::Quote(v) => match narrow_product(k, integer_in(v)) {
+    match &a.shape {
+        Shape::Quote(v) => match narrow_product(k, integer_in(v)) {
             Some(m) => add_term(alloc, b, m, p),
             None => Ok(None),
         },
-        Term::Var(_) => add_atom(alloc, t, k, p),
-        Term::Call(_, _) => add_atom(alloc, t, k, p),
+        Shape::Var(_) => add_atom(alloc, t, k, p),
+        Shape::Call(_, _) => add_atom(alloc, t, k, p),
     }
 }
 
@@ -170,12 +170,12 @@ fn polys_by(
 pub fn of_literal(alloc: Global, t: &Term, sign: bool) -> Result<Seq<Poly>, NoMemory>
     ensures { IfOk result (λ ps. ps ≡ of_literal t.now sign) }
 {
-    match t {
-        Term::Call(f, ts) => match polys_by(alloc, primitive_of(f), ts.as_slice(), sign)? {
+    match &t.shape {
+        Shape::Call(f, ts) => match polys_by(alloc, primitive_of(f), ts.as_slice(), sign)? {
             Some(polys) => Ok(polys),
             None => Ok(Seq::new(alloc)),
         },
-        Term::Var(_) => Ok(Seq::new(alloc)),
-        Term::Quote(_) => Ok(Seq::new(alloc)),
+        Shape::Var(_) => Ok(Seq::new(alloc)),
+        Shape::Quote(_) => Ok(Seq::new(alloc)),
     }
 }

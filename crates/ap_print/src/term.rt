@@ -3,21 +3,21 @@ ghost use Rattle.ap_term.specs.Printed.{spaced, list_text, quote_text, term_text
 
 use crate::atom::put_symbol;
 use crate::value::put_value;
-use ap_term::{Bytes, Clause, NoMemory, Seq, Term};
+use ap_term::{Bytes, Clause, NoMemory, Seq, Shape, Term};
 use std::alloc::Global;
 
 #[cycle(terms)]
-#[tactic(auto, unfolding(ap_term::specs::Printed::quote_text, ap_term::specs::Printed::list_text))]
+#[tactic(auto, using(ap_term::proofs::Seen::trees), unfolding(ap_term::specs::Printed::quote_text, ap_term::specs::Printed::list_text))]
 fn put_term(text: &mut Bytes, t: &Term) -> Result<(), NoMemory>
     ensures { OnOk result (text.new ≡ text.old ++ term_text t.now) }
 {
-    match t {
-        Term::Var(x) => put_symbol(text, x),
-        Term::Quote(v) => {
+    match &t.shape {
+        Shape::Var(x) => put_symbol(text, x),
+        Shape::Quote(v) => {
             text.extend(b"'")?;
             put_value(text, v)
         }
-        Term::Call(f, xs) => {
+        Shape::Call(f, xs) => {
             text.extend(b"(")?;
             put_symbol(text, f)?;
             put_terms(text, xs.as_slice())?;

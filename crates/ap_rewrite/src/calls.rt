@@ -16,7 +16,7 @@ use crate::rewriter::{Below, Level, Place, Rewriter, Tried, deeper};
 use crate::rows::{follow, stay};
 use crate::settling::in_mode;
 use ap_kernel::{Ctx, Equiv, LinearOracle, Mode, NoMemory, Seq, Symbol, Term, TypeOracle, cong};
-use ap_term::Steps;
+use ap_term::{Shape, Steps};
 
 /// The arguments of a call, from left to right, under equality.
 fn rewrite_args<O: TypeOracle, F: Below>(
@@ -111,6 +111,7 @@ fn followed<O: TypeOracle>(
 }
 
 /// A call that is no `if` and no negation.
+#[tactic(auto, using(ap_term::proofs::Seen::trees))]
 pub fn rewrite_call<O: TypeOracle + LinearOracle, F: Below>(
     l: &Level<'_, '_, O, F>,
     steps: &mut Steps,
@@ -132,7 +133,7 @@ pub fn rewrite_call<O: TypeOracle + LinearOracle, F: Below>(
     };
     let first = on_arguments(l.r, at.ctx, mode, t, f, args)?;
     let call = first.rhs();
-    let Term::Call(g, vs) = call else {
+    let Shape::Call(g, vs) = &call.shape else {
         unreachable!()
     };
     let Some(found) = tried(l, steps, mode, at, call, g, vs.as_slice())? else {

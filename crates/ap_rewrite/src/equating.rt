@@ -11,16 +11,18 @@ ghost use Rattle.ap_rewrite.specs.Leading.{leads_made, said_of};
 
 use crate::settling::in_mode;
 use ap_kernel::{Ctx, Equiv, Mode, NoMemory, Term, World, cons_equal, equation_leads};
+use ap_term::Shape;
 use std::alloc::Global;
 
 /// Whether a term is a constant. Takes no memory.
+#[tactic(auto, using(ap_term::proofs::Seen::trees))]
 pub fn is_quoted(t: &Term) -> bool
     ensures { result ≡ is_quoted t.now }
 {
-    match t {
-        Term::Quote(_) => true,
-        Term::Var(_) => false,
-        Term::Call(_, _) => false,
+    match &t.shape {
+        Shape::Quote(_) => true,
+        Shape::Var(_) => false,
+        Shape::Call(_, _) => false,
     }
 }
 

@@ -22,7 +22,7 @@ use ap_kernel::{
     Ctx, Equiv, Mode, NoMemory, ShapeRef, Subst, Symbol, Term, World, by_fact, cong, is_symbol,
     not_symbol, shape_of, trans,
 };
-use ap_term::one_way_match;
+use ap_term::{Shape, one_way_match};
 use std::alloc::Global;
 use std::slice;
 
@@ -48,13 +48,14 @@ fn has_pair(pairs: &[(Symbol, Term)], x: &Symbol) -> bool
 
 /// Whether each variable of a term has a pair. Takes no memory.
 #[cycle(binding)]
+#[tactic(auto, using(ap_term::proofs::Seen::trees))]
 pub fn is_bound(pairs: &[(Symbol, Term)], t: &Term) -> bool
     ensures { result ≡ is_bound pairs.now t.now }
 {
-    match t {
-        Term::Var(x) => has_pair(pairs, x),
-        Term::Quote(_) => true,
-        Term::Call(_, ts) => are_bound(pairs, ts.as_slice()),
+    match &t.shape {
+        Shape::Var(x) => has_pair(pairs, x),
+        Shape::Quote(_) => true,
+        Shape::Call(_, ts) => are_bound(pairs, ts.as_slice()),
     }
 }
 

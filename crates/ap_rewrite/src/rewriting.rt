@@ -12,9 +12,10 @@ use crate::calls::rewrite_call;
 use crate::rewriter::{Below, Level, Place, Rewriter};
 use crate::rows::{as_constant, settled_by_type, stay};
 use ap_kernel::{Equiv, LinearOracle, Mode, NoMemory, ShapeRef, Term, TypeOracle, shape_of};
-use ap_term::Steps;
+use ap_term::{Shape, Steps};
 
 /// A variable, a constant, or a call that is no `if` and no negation.
+#[tactic(auto, using(ap_term::proofs::Seen::trees))]
 fn rewrite_parts<O: TypeOracle + LinearOracle, F: Below>(
     l: &Level<'_, '_, O, F>,
     steps: &mut Steps,
@@ -28,16 +29,16 @@ fn rewrite_parts<O: TypeOracle + LinearOracle, F: Below>(
     ensures is { IfOk result (λ o. got o steps.new.left ≡ rewrite_parts (setting_of l.now.r.now) (inner_of l.now.r.now l.now.levels) mode (seen_at at.now) t.now (out-Term t.now) steps.old.left) }
     ensures from { IfOk result (λ o. IfSome o (From l.now.r.now.w.now mode at.now.ctx.now t.now)) }
 {
-    match t {
-        Term::Var(_) => {
+    match &t.shape {
+        Shape::Var(_) => {
             let q = settled_by_type(l.r, at.ctx, mode, t)?;
             Ok(Some(q))
         }
-        Term::Quote(v) => {
+        Shape::Quote(v) => {
             let q = as_constant(l.r, at.ctx, mode, t, v)?;
             Ok(Some(q))
         }
-        Term::Call(f, us) => rewrite_call(l, steps, mode, at, t, f, us.as_slice()),
+        Shape::Call(f, us) => rewrite_call(l, steps, mode, at, t, f, us.as_slice()),
     }
 }
 

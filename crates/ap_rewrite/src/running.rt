@@ -20,6 +20,7 @@ ghost use Rattle.ap_rewrite.specs.Rewriting.{constant_in, run};
 use crate::settling::{becomes_true, to_true, value_equiv};
 use ap_eval::{Env, EvalStop, eval};
 use ap_kernel::{Ctx, Equiv, Mode, NoMemory, Seq, Symbol, Term, Value, World, is_constant_call};
+use ap_term::Shape;
 use ap_world::{RuneKind, Theory};
 use std::alloc::{AllocError, Global};
 
@@ -120,6 +121,7 @@ fn run_call(
 /// From a call of constants whose executable counterpart the theory enables to the value that running gives with
 /// 2,000 units, where it gives one; under `iff` one that isn't `nil` is `'T`. See the manual's topic
 /// `executable-counterpart`.
+#[tactic(auto, using(ap_term::proofs::Seen::trees))]
 pub fn run(
     alloc: Global,
     w: &World,
@@ -133,12 +135,12 @@ pub fn run(
     ensures stands { IfOk result (λ o. IfSome o (λ q. Stands w.now q)) }
     ensures made { IfOk result (λ o. (f : Symbol) (us : List Term) → t.now ≡ Call f us → said_of o ≡ option_map (leads_made ctx.now mode t.now) (run (plain_in w.now theory.now) mode f us)) }
 {
-    match t {
-        Term::Call(f, _) => {
+    match &t.shape {
+        Shape::Call(f, _) => {
             let o = run_call(alloc, w, theory, ctx, mode, t, f)?;
             Ok(o)
         }
-        Term::Var(_) => Ok(None),
-        Term::Quote(_) => Ok(None),
+        Shape::Var(_) => Ok(None),
+        Shape::Quote(_) => Ok(None),
     }
 }

@@ -14,7 +14,7 @@ use crate::making::{EntryRules, entry_rules};
 use crate::rule::RewriteRule;
 use crate::table::{Groups, RuleIndex};
 use ap_list::{NoMemory, Seq};
-use ap_term::Term;
+use ap_term::{Shape, Term};
 use ap_value::{Symbol, copy_symbol};
 use ap_world::Entry;
 use std::alloc::{AllocError, Global};
@@ -42,15 +42,16 @@ impl Drop for Carrier {
 }
 
 /// The head of a rule's left side.
+#[tactic(auto, using(ap_term::proofs::Seen::trees))]
 fn head_of(alloc: Global, t: &Term) -> Result<Symbol, NoMemory>
     requires { is_left (out-Term t.now) ≡ true }
     ensures { IfOk result (λ h. called (out-Term t.now) ≡ Some h) }
 {
-    match t {
-        Term::Call(f, _) => copy_symbol(alloc, f),
+    match &t.shape {
+        Shape::Call(f, _) => copy_symbol(alloc, f),
         // No left side is one of these.
-        Term::Var(_) => Err(AllocError),
-        Term::Quote(_) => Err(AllocError),
+        Shape::Var(_) => Err(AllocError),
+        Shape::Quote(_) => Err(AllocError),
     }
 }
 

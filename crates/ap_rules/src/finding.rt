@@ -10,7 +10,7 @@ use crate::linear::LinearRule;
 use crate::linears::Linears;
 use crate::table::RuleIndex;
 use ap_list::{NoMemory, Seq};
-use ap_term::Term;
+use ap_term::{Shape, Term};
 use std::alloc::Global;
 
 /// The lesser of the first places of two lists.
@@ -51,6 +51,7 @@ fn merged(alloc: Global, xs: &[usize], ys: &[usize]) -> Result<Seq<usize>, NoMem
 }
 
 /// Adds the places of the rules whose trigger is a call of the head of one atom more.
+#[tactic(auto, using(ap_term::proofs::Seen::trees))]
 fn with_atom(
     alloc: Global,
     rules: &Linears,
@@ -59,10 +60,10 @@ fn with_atom(
 ) -> Result<Seq<usize>, NoMemory>
     ensures { IfOk result (λ is. (xs : List Term) → places ≡ places_from (may_match xs) 0 rules.now → is ≡ places_from (may_match (xs ++ atom.now ∷ [])) 0 rules.now) }
 {
-    match atom {
-        Term::Call(f, _) => merged(alloc, places.as_slice(), rules.places_of(f)),
-        Term::Var(_) => Ok(places),
-        Term::Quote(_) => Ok(places),
+    match &atom.shape {
+        Shape::Call(f, _) => merged(alloc, places.as_slice(), rules.places_of(f)),
+        Shape::Var(_) => Ok(places),
+        Shape::Quote(_) => Ok(places),
     }
 }
 

@@ -7,7 +7,7 @@ use crate::making::{is_linear, numbered};
 use crate::shapes::{are_inequalities, trigger_of};
 use crate::statement::{Statement, state};
 use ap_list::{NoMemory, Seq};
-use ap_term::{Term, copy_term, copy_terms};
+use ap_term::{Shape, Term, copy_term, copy_terms};
 use ap_value::{Symbol, copy_symbol};
 use ap_world::{RuleClass, is_not};
 use std::alloc::Global;
@@ -26,16 +26,17 @@ pub struct LinearRule {
 }
 
 /// A conjunct as a literal: of `(not a)` that `a` is `nil`.
+#[tactic(auto, using(ap_term::proofs::Seen::trees))]
 fn signed(alloc: Global, t: &Term) -> Result<(Term, bool), NoMemory>
     ensures { IfOk result (λ s. s ≡ signed t.now) }
 {
-    match t {
-        Term::Call(f, ts) => match (is_not(f), ts.as_slice()) {
+    match &t.shape {
+        Shape::Call(f, ts) => match (is_not(f), ts.as_slice()) {
             (true, [a]) => Ok((copy_term(alloc, a)?, false)),
             _ => Ok((copy_term(alloc, t)?, true)),
         },
-        Term::Var(_) => Ok((copy_term(alloc, t)?, true)),
-        Term::Quote(_) => Ok((copy_term(alloc, t)?, true)),
+        Shape::Var(_) => Ok((copy_term(alloc, t)?, true)),
+        Shape::Quote(_) => Ok((copy_term(alloc, t)?, true)),
     }
 }
 

@@ -7,7 +7,7 @@ ghost use Rattle.ap_rules.specs.Placed.{places_from, is_of, places_at, with_last
 
 use crate::linear::LinearRule;
 use ap_list::{NoMemory, Seq};
-use ap_term::Term;
+use ap_term::{Shape, Term};
 use ap_value::{Symbol, copy_symbol};
 use indexmap::IndexMap;
 use std::alloc::Global;
@@ -39,13 +39,14 @@ impl Model for Linears {
 }
 
 /// The head of a trigger, lent, where it is a call.
+#[tactic(auto, using(ap_term::proofs::Seen::trees))]
 fn head_of(t: &Term) -> Option<&Symbol>
     ensures { option_copied result ≡ called (out-Term t.now) }
 {
-    match t {
-        Term::Call(f, _) => Some(f),
-        Term::Var(_) => None,
-        Term::Quote(_) => None,
+    match &t.shape {
+        Shape::Call(f, _) => Some(f),
+        Shape::Var(_) => None,
+        Shape::Quote(_) => None,
     }
 }
 

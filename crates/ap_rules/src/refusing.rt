@@ -9,7 +9,7 @@ ghost use Rattle.ap_rules.specs.Refused.{first_refusal, left_refusal, right_refu
 
 use crate::rule::RewriteRule;
 use ap_list::{Fixed, NoMemory, Seq};
-use ap_term::{Term, copy_term, is_among, vars};
+use ap_term::{Shape, Term, copy_term, is_among, vars};
 use ap_value::{Symbol, named};
 use ap_world::is_if;
 use std::alloc::{AllocError, Global};
@@ -68,13 +68,14 @@ fn bound_variables(alloc: Global, rule: &RewriteRule) -> Result<Seq<Symbol>, NoM
 }
 
 /// What a left side is refused for.
+#[tactic(auto, using(ap_term::proofs::Seen::trees))]
 fn left_refusal(t: &Term) -> Option<RuleError>
     ensures { result ≡ left_refusal (out-Term t.now) }
 {
-    match t {
-        Term::Var(_) => Some(RuleError::LhsVariable),
-        Term::Quote(_) => Some(RuleError::LhsConstant),
-        Term::Call(f, _) => {
+    match &t.shape {
+        Shape::Var(_) => Some(RuleError::LhsVariable),
+        Shape::Quote(_) => Some(RuleError::LhsConstant),
+        Shape::Call(f, _) => {
             if is_if(f) {
                 Some(RuleError::LhsConstant)
             } else {

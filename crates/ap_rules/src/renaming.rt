@@ -8,7 +8,7 @@ ghost use Rattle.ap_world.specs.Rules.{Renames, agrees, is_renaming, rename_all,
 
 use crate::refusing::are_within;
 use ap_list::{NoMemory, Seq};
-use ap_term::{Term, is_same, is_symbol, vars};
+use ap_term::{Shape, Term, is_same, is_symbol, vars};
 use ap_value::{Symbol, copy_symbol};
 use std::alloc::Global;
 
@@ -43,6 +43,7 @@ fn rename_var(
 /// Whether one term is the other with its variables renamed, beginning with these pairs, which get those that stand
 /// in the same places.
 #[cycle(renaming)]
+#[tactic(auto, using(ap_term::proofs::Seen::trees))]
 fn rename_term(
     alloc: Global,
     a: &Term,
@@ -51,10 +52,10 @@ fn rename_term(
 ) -> Result<bool, NoMemory>
     ensures { IfOk result (λ r. fold-Term Renames rename_step a.now b.now pairs.old ≡ cond r (Some pairs.new) None) }
 {
-    match (a, b) {
-        (Term::Var(x), Term::Var(y)) => rename_var(alloc, x, y, pairs),
-        (Term::Quote(_), _) => Ok(is_same(a, b)),
-        (Term::Call(f, ts), Term::Call(g, us)) => {
+    match (&a.shape, &b.shape) {
+        (Shape::Var(x), Shape::Var(y)) => rename_var(alloc, x, y, pairs),
+        (Shape::Quote(_), _) => Ok(is_same(a, b)),
+        (Shape::Call(f, ts), Shape::Call(g, us)) => {
             if !is_symbol(f, g) {
                 return Ok(false);
             }

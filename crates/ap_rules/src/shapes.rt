@@ -7,37 +7,39 @@ ghost use Rattle.ap_rules.specs.Shapes.{told, is_trigger, first_trigger, trigger
 use crate::refusing::are_within;
 use ap_list::{NoMemory, Seq};
 use ap_poly::{Poly, of_literal};
-use ap_term::{Term, copy_term, is_term_among, vars};
+use ap_term::{Shape, Term, copy_term, is_term_among, vars};
 use ap_value::Symbol;
 use ap_world::{are_distinct_variables, is_not, recognised};
 use std::alloc::Global;
 
 /// What a conjunct says of integers.
+#[tactic(auto, using(ap_term::proofs::Seen::trees))]
 fn told(alloc: Global, t: &Term) -> Result<Seq<Poly>, NoMemory>
     ensures { IfOk result (λ ps. ps ≡ told t.now) }
 {
-    match t {
-        Term::Call(f, ts) => match (is_not(f), ts.as_slice()) {
+    match &t.shape {
+        Shape::Call(f, ts) => match (is_not(f), ts.as_slice()) {
             (true, [a]) => of_literal(alloc, a, false),
             _ => of_literal(alloc, t, true),
         },
-        Term::Var(_) => of_literal(alloc, t, true),
-        Term::Quote(_) => of_literal(alloc, t, true),
+        Shape::Var(_) => of_literal(alloc, t, true),
+        Shape::Quote(_) => of_literal(alloc, t, true),
     }
 }
 
 /// Whether an atom is a call with all variables of a conjunct.
+#[tactic(auto, using(ap_term::proofs::Seen::trees))]
 fn is_trigger(alloc: Global, t: &Term, atom: &Term) -> Result<bool, NoMemory>
     ensures { IfOk result (λ b. b ≡ is_trigger t.now atom.now) }
 {
-    match atom {
-        Term::Call(_, _) => {
+    match &atom.shape {
+        Shape::Call(_, _) => {
             let wanted = vars(alloc, t)?;
             let there = vars(alloc, atom)?;
             Ok(are_within(wanted.as_slice(), there.as_slice()))
         }
-        Term::Var(_) => Ok(false),
-        Term::Quote(_) => Ok(false),
+        Shape::Var(_) => Ok(false),
+        Shape::Quote(_) => Ok(false),
     }
 }
 
@@ -116,26 +118,28 @@ fn is_recogniser(symbol: &Symbol) -> bool
 }
 
 /// Whether a term is a call of distinct variables.
+#[tactic(auto, using(ap_term::proofs::Seen::trees))]
 fn calls_variables(t: &Term) -> bool
     ensures { result ≡ calls_variables (out-Term t.now) }
 {
-    match t {
-        Term::Call(_, ts) => are_distinct_variables(ts.as_slice()),
-        Term::Var(_) => false,
-        Term::Quote(_) => false,
+    match &t.shape {
+        Shape::Call(_, ts) => are_distinct_variables(ts.as_slice()),
+        Shape::Var(_) => false,
+        Shape::Quote(_) => false,
     }
 }
 
 /// Whether a term is a recogniser on a call of distinct variables.
+#[tactic(auto, using(ap_term::proofs::Seen::trees))]
 pub(crate) fn is_type_form(t: &Term) -> bool
     ensures { result ≡ is_type_form (out-Term t.now) }
 {
-    match t {
-        Term::Call(r, ts) => match ts.as_slice() {
+    match &t.shape {
+        Shape::Call(r, ts) => match ts.as_slice() {
             [a] => is_recogniser(r) && calls_variables(a),
             _ => false,
         },
-        Term::Var(_) => false,
-        Term::Quote(_) => false,
+        Shape::Var(_) => false,
+        Shape::Quote(_) => false,
     }
 }

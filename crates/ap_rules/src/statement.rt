@@ -7,7 +7,7 @@ ghost use Rattle.ap_world.specs.Rules.{stated, call_sides, sides};
 ghost use Rattle.ap_rules.specs.Made.{as_sides};
 
 use ap_list::{NoMemory, Seq};
-use ap_term::{Term, copy_term};
+use ap_term::{Shape, Term, copy_term};
 use ap_value::Symbol;
 use ap_world::{is_equal, is_iff, is_implies, is_not, nil_term, push_conjuncts, t_term};
 use std::alloc::Global;
@@ -28,21 +28,21 @@ pub(crate) struct Reading {
 }
 
 /// Adds the hypotheses of a theorem, and answers its conclusion.
-#[tactic(auto, using(crate::proofs::Stated::stating))]
+#[tactic(auto, using(ap_term::proofs::Seen::trees, crate::proofs::Stated::stating))]
 fn push_hyps<'a>(alloc: Global, hyps: &mut Seq<Term>, t: &'a Term) -> Result<&'a Term, NoMemory>
     ensures hyps { OnOk result (hyps.new ≡ hyps.old ++ (stated t.now).0) }
     ensures rest { IfOk result (λ u. u.now ≡ (stated t.now).1) }
 {
-    match t {
-        Term::Call(f, ts) => match (is_implies(f), ts.as_slice()) {
+    match &t.shape {
+        Shape::Call(f, ts) => match (is_implies(f), ts.as_slice()) {
             (true, [h, c]) => {
                 push_conjuncts(alloc, hyps, h)?;
                 push_hyps(alloc, hyps, c)
             }
             _ => Ok(t),
         },
-        Term::Var(_) => Ok(t),
-        Term::Quote(_) => Ok(t),
+        Shape::Var(_) => Ok(t),
+        Shape::Quote(_) => Ok(t),
     }
 }
 
@@ -116,16 +116,17 @@ fn one_side(alloc: Global, t: &Term, f: &Symbol, a: &Term) -> Result<Reading, No
 
 /// How a conjunct is read: `(equal l r)` and `(iff l r)` by their parts, `(not p)` as p to `'NIL`, and another p
 /// as p to `'T` under iff.
+#[tactic(auto, using(ap_term::proofs::Seen::trees))]
 pub(crate) fn sides(alloc: Global, t: &Term) -> Result<Reading, NoMemory>
     ensures { IfOk result (λ s. as_sides s ≡ sides t.now) }
 {
-    match t {
-        Term::Call(f, ts) => match ts.as_slice() {
+    match &t.shape {
+        Shape::Call(f, ts) => match ts.as_slice() {
             [a, b] => two_sides(alloc, t, f, a, b),
             [a] => one_side(alloc, t, f, a),
             _ => alone(alloc, t),
         },
-        Term::Var(_) => alone(alloc, t),
-        Term::Quote(_) => alone(alloc, t),
+        Shape::Var(_) => alone(alloc, t),
+        Shape::Quote(_) => alone(alloc, t),
     }
 }

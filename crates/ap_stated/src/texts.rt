@@ -15,7 +15,7 @@ use std::alloc::Global;
 pub fn printed(alloc: Global, symbol: &Symbol) -> Result<Bytes, NoMemory>
     ensures { IfOk result (λ text. text ≡ symbol_text symbol.now) }
 {
-    let term = Term::Var(copy_symbol(alloc, symbol)?);
+    let term = Term::var(copy_symbol(alloc, symbol)?);
     print_term(alloc, &term)
 }
 

@@ -1,7 +1,7 @@
 ghost use Rattle.std.specs.Prelude.{◌≡◌, ◌≤◌, ◌↔◌, IsTrue, map};
 ghost use Rattle.ap_strategy.specs.Depths.{term_depth, greatest};
 
-use ap_term::{Clause, Term};
+use ap_term::{Clause, Shape, Term};
 
 /// The most calls that stand within each other in a goal that is stepped. What a step makes of such a clause, twice as deep
 /// at most and ten thousand levels more, can be walked on a thread's stack of 256 MiB, by over 1,800 bytes a level.
@@ -9,12 +9,13 @@ const DEEPEST: u32 = 65_536;
 
 /// Whether at most so many calls stand within each other in a term. Looks no deeper than that. Takes no memory.
 #[cycle(depth)]
+#[tactic(auto, using(ap_term::proofs::Seen::trees))]
 fn is_within(t: &Term, levels: u32) -> bool
     ensures { IsTrue result ↔ (term_depth t.now ≤ levels) }
 {
-    match t {
-        Term::Var(_) | Term::Quote(_) => true,
-        Term::Call(_, xs) => levels > 0 && are_within(xs.as_slice(), levels - 1),
+    match &t.shape {
+        Shape::Var(_) | Shape::Quote(_) => true,
+        Shape::Call(_, xs) => levels > 0 && are_within(xs.as_slice(), levels - 1),
     }
 }
 

@@ -3,7 +3,7 @@ ghost use Rattle.std.specs.Prelude.{◌≡◌, [], IfOk, OnOk};
 
 use crate::clauses::copy_clause;
 use ap_list::{NoMemory, Seq};
-use ap_term::{Clause, Term, copy_term};
+use ap_term::{Clause, Shape, Term, copy_term};
 use ap_value::copy_symbol;
 use std::alloc::Global;
 
@@ -13,14 +13,15 @@ const MOST_CALLS: u32 = 4096;
 
 /// A copy of a term, of whose calls so many may be made anew.
 #[cycle(renewing)]
+#[tactic(auto, using(ap_term::proofs::Seen::trees))]
 fn fresh_term(alloc: Global, t: &Term, calls: &mut u32) -> Result<Term, NoMemory>
     ensures { IfOk result (λ r. r ≡ t.now) }
 {
     if *calls == 0 {
         return copy_term(alloc, t);
     }
-    match t {
-        Term::Call(f, ts) => {
+    match &t.shape {
+        Shape::Call(f, ts) => {
             *calls = *calls - 1;
             let arguments = fresh_terms(alloc, ts.as_slice(), calls)?;
             Term::call(alloc, copy_symbol(alloc, f)?, arguments)

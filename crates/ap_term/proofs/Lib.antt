@@ -1,12 +1,16 @@
-pub mod Arguments
+pub mod ArgumentTexts
 pub mod AtomTexts
 pub mod Compares
 pub mod Equals
 pub mod Folds
 pub mod Induction
+pub mod KeptCounts
+pub mod LeavesCapped
 pub mod Less
 pub mod Matches
 pub mod Parts
 pub mod PrintedApart
+pub mod Pushes
+pub mod Seen
 pub mod StrictOrder
 pub mod Wholes

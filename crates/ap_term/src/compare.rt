@@ -4,11 +4,12 @@ ghost use Rattle.ap_term.specs.Starts.{value_opens, arguments_text};
 ghost use Rattle.ap_term.specs.Printed.{value_text, rest_text, term_text};
 
 use crate::piece::{compare_pieces, compare_symbols, plain_piece};
+use crate::shape::Shape;
 use crate::starts::{
     compare_dot_with, compare_term_starts, compare_value_starts, compare_with_dot, ends_list,
     rest_byte,
 };
-use crate::term::Term;
+use crate::tree::Term;
 use ap_value::Value;
 use std::cmp::Ordering;
 
@@ -115,14 +116,15 @@ fn arguments_byte(xs: &[Term]) -> u8
 
 /// How two terms compare by their printed bytes, each with the byte after it.
 #[cycle(terms)]
+#[tactic(auto, using(crate::proofs::Seen::trees))]
 pub fn compare_term(a: &Term, x: Option<u8>, b: &Term, y: Option<u8>) -> Ordering
     requires left { EndsPart x }
     requires right { EndsPart y }
     ensures { Decided result (term_text a.now) x (term_text b.now) y }
 {
-    match (a, b) {
-        (Term::Quote(v), Term::Quote(w)) => compare_value(v, x, w, y),
-        (Term::Call(f, xs), Term::Call(g, ys)) => {
+    match (&a.shape, &b.shape) {
+        (Shape::Quote(v), Shape::Quote(w)) => compare_value(v, x, w, y),
+        (Shape::Call(f, xs), Shape::Call(g, ys)) => {
             let (xs, ys) = (xs.as_slice(), ys.as_slice());
             let left = arguments_byte(xs);
             let right = arguments_byte(ys);
@@ -137,6 +139,7 @@ pub fn compare_term(a: &Term, x: Option<u8>, b: &Term, y: Option<u8>) -> Orderin
 
 /// How the arguments of two calls compare, with the parenthesis and the byte after them.
 #[cycle(terms)]
+#[tactic(auto, using(crate::proofs::Seen::trees))]
 fn compare_arguments(xs: &[Term], x: Option<u8>, ys: &[Term], y: Option<u8>) -> Ordering
     ensures { Decided result (arguments_text (map term_text xs.now)) x (arguments_text (map term_text ys.now)) y }
 {

@@ -3,7 +3,8 @@ ghost use Rattle.ap_list.specs.Lists.{sum_of};
 ghost use Rattle.ap_term.specs.Order.{variables_in, functions_in, constants_in};
 ghost use Rattle.ap_term.specs.Terms.{term_size};
 
-use crate::term::Term;
+use crate::shape::Shape;
+use crate::tree::Term;
 use ap_value::nodes;
 
 /// The counts by which terms are ordered first: variable occurrences, function symbols and the nodes in
@@ -15,7 +16,9 @@ pub struct TermCounts {
     pub constants: u64,
 }
 
-/// The counts of a term. `None` exactly where its nodes pass 64 bits.
+/// The counts of a term. `None` exactly where its nodes pass 64 bits. It takes one step where the nodes don't
+/// pass 32 bits.
+#[tactic(auto, using(crate::proofs::KeptCounts::size_parted))]
 pub fn counts(t: &Term) -> Option<TermCounts>
     ensures variables { IfSome result (λ c. c.variables ≡ variables_in t.now) }
     ensures functions { IfSome result (λ c. c.functions ≡ functions_in t.now) }
@@ -23,7 +26,14 @@ pub fn counts(t: &Term) -> Option<TermCounts>
     ensures within { IfSome result (λ _. term_size t.now ≤ 2 ^ 64 - 1) }
     ensures past { IfNone result (2 ^ 64 - 1 < term_size t.now) }
 {
-    let counted = counts_each(t)?;
+    if t.nodes_up_to() < u32::MAX {
+        return Some(TermCounts {
+            variables: u64::from(t.variables()),
+            functions: u64::from(t.functions()),
+            constants: u64::from(t.constants()),
+        });
+    }
+    let counted = walked_counts(t)?;
     let _nodes = counted
         .variables
         .checked_add(counted.functions)?
@@ -31,27 +41,28 @@ pub fn counts(t: &Term) -> Option<TermCounts>
     Some(counted)
 }
 
-/// The counts of a term. `None` where one of them passes 64 bits.
+/// The counts of a term, by a walk. `None` where one of them passes 64 bits.
 #[cycle(counting)]
-fn counts_each(t: &Term) -> Option<TermCounts>
+#[tactic(auto, using(crate::proofs::Seen::trees))]
+fn walked_counts(t: &Term) -> Option<TermCounts>
     ensures variables { IfSome result (λ c. c.variables ≡ variables_in t.now) }
     ensures functions { IfSome result (λ c. c.functions ≡ functions_in t.now) }
     ensures constants { IfSome result (λ c. c.constants ≡ constants_in t.now) }
     ensures nodes { IfSome result (λ c. c.variables + c.functions + c.constants ≡ term_size t.now) }
     ensures past { IfNone result (2 ^ 64 - 1 < term_size t.now) }
 {
-    match t {
-        Term::Var(_) => Some(TermCounts {
+    match &t.shape {
+        Shape::Var(_) => Some(TermCounts {
             variables: 1,
             functions: 0,
             constants: 0,
         }),
-        Term::Quote(v) => Some(TermCounts {
+        Shape::Quote(v) => Some(TermCounts {
             variables: 0,
             functions: 0,
             constants: nodes(v)?,
         }),
-        Term::Call(_, xs) => {
+        Shape::Call(_, xs) => {
             let parts = counts_of(xs.as_slice())?;
             Some(TermCounts {
                 variables: parts.variables,
@@ -75,7 +86,7 @@ fn counts_of(xs: &[Term]) -> Option<TermCounts>
     let mut functions = 0u64;
     let mut constants = 0u64;
     for x in xs {
-        let more = counts_each(x)?;
+        let more = walked_counts(x)?;
         variables = variables.checked_add(more.variables)?;
         functions = functions.checked_add(more.functions)?;
         constants = constants.checked_add(more.constants)?;

@@ -4,7 +4,10 @@ ghost use Rattle.ap_list.specs.Lists.{in_turn, is_among, lookup_by};
 ghost use Rattle.ap_value.specs.Values.{symbol_eq};
 ghost use Rattle.ap_term.specs.Terms.{vars_after, subst_of};
 
-use crate::term::{Subst, Term, copy_term};
+use crate::shape::Shape;
+use crate::term::Subst;
+use crate::terms::copy_term;
+use crate::tree::Term;
 use ap_value::{NoMemory, Seq, Symbol, copy_symbol, same_symbol};
 use std::alloc::Global;
 
@@ -29,18 +32,19 @@ pub fn is_among(x: &Symbol, list: &[Symbol]) -> bool
 
 /// Adds the variables of a term that aren't there yet.
 #[cycle(collecting)]
+#[tactic(auto, using(crate::proofs::Seen::trees))]
 fn add_vars(alloc: Global, t: &Term, seen: &mut Seq<Symbol>) -> Result<(), NoMemory>
     ensures { OnOk result (seen.new ≡ vars_after t.now seen.old) }
 {
-    match t {
-        Term::Var(x) => {
+    match &t.shape {
+        Shape::Var(x) => {
             if !is_among(x, seen.as_slice()) {
                 seen.push(copy_symbol(alloc, x)?)?;
             }
             Ok(())
         }
-        Term::Quote(_) => Ok(()),
-        Term::Call(_, ts) => add_all_vars(alloc, ts.as_slice(), seen),
+        Shape::Quote(_) => Ok(()),
+        Shape::Call(_, ts) => add_all_vars(alloc, ts.as_slice(), seen),
     }
 }
 
@@ -79,16 +83,17 @@ pub(crate) fn replacement<'a>(pairs: &'a [(Symbol, Term)], x: &Symbol) -> Option
 /// variable stays. What isn't changed is shared. The only error is want of memory. See the manual's topic
 /// `instance`.
 #[cycle(replacing)]
+#[tactic(auto, using(crate::proofs::Seen::trees))]
 pub fn subst(alloc: Global, t: &Term, s: &Subst) -> Result<Term, NoMemory>
     ensures { IfOk result (λ u. u ≡ subst_of s.now.0 t.now) }
 {
-    match t {
-        Term::Var(x) => match replacement(s.0.as_slice(), x) {
+    match &t.shape {
+        Shape::Var(x) => match replacement(s.0.as_slice(), x) {
             Some(by) => copy_term(alloc, by),
             None => copy_term(alloc, t),
         },
-        Term::Quote(_) => copy_term(alloc, t),
-        Term::Call(f, ts) => {
+        Shape::Quote(_) => copy_term(alloc, t),
+        Shape::Call(f, ts) => {
             let parts = subst_all(alloc, ts.as_slice(), s)?;
             Term::call(alloc, copy_symbol(alloc, f)?, parts)
         }

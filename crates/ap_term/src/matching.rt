@@ -7,7 +7,10 @@ ghost use Rattle.ap_term.specs.Equal.{term_eq};
 ghost use Rattle.ap_term.specs.Matching.{noted, match_all, match_call, matched, MatchesAreLeast, MatchesAreFound};
 
 use crate::instance::{is_symbol, replacement};
-use crate::term::{Subst, Term, copy_term, same_term};
+use crate::shape::Shape;
+use crate::term::Subst;
+use crate::terms::{copy_term, same_term};
+use crate::tree::Term;
 use ap_value::{NoMemory, Seq, Symbol, copy_symbol};
 use std::alloc::Global;
 
@@ -48,6 +51,7 @@ fn note(
 
 /// Whether the pattern matches the term, beginning with these pairs, which get those that it needs.
 #[cycle(matching)]
+#[tactic(auto, using(crate::proofs::Seen::trees))]
 fn match_term(
     alloc: Global,
     pattern: &Term,
@@ -56,10 +60,10 @@ fn match_term(
 ) -> Result<bool, NoMemory>
     ensures { IfOk result (λ b. matched pattern.now t.now pairs.old ≡ cond b (Some pairs.new) None) }
 {
-    match (pattern, t) {
-        (Term::Var(x), _) => note(alloc, x, t, pairs),
-        (Term::Quote(_), _) => Ok(is_same(pattern, t)),
-        (Term::Call(f, patterns), Term::Call(g, ts)) => {
+    match (&pattern.shape, &t.shape) {
+        (Shape::Var(x), _) => note(alloc, x, t, pairs),
+        (Shape::Quote(_), _) => Ok(is_same(pattern, t)),
+        (Shape::Call(f, patterns), Shape::Call(g, ts)) => {
             if !is_symbol(f, g) {
                 return Ok(false);
             }

@@ -6,7 +6,7 @@ ghost use Rattle.ap_term.specs.Order.{term_less};
 
 use crate::compare::compare_term;
 use crate::counts::counts;
-use crate::term::Term;
+use crate::tree::Term;
 
 /// The law of the order of terms: no term comes before itself, what comes before a term comes before all
 /// that this one comes before, and of two terms that print differently one comes before the other. So of

@@ -6,7 +6,8 @@ ghost use Rattle.ap_term.specs.Printed.{character_text, quoted, value_text, rest
 ghost use Rattle.ap_term.specs.Pieces.{piece_text};
 
 use crate::piece::{Piece, compare_pieces, plain_piece, symbol_piece};
-use crate::term::Term;
+use crate::shape::Shape;
+use crate::tree::Term;
 use ap_value::{Symbol, Value};
 use itoa::Buffer;
 use std::cmp::Ordering;
@@ -118,14 +119,15 @@ pub fn compare_dot_with(v: &Value, end: u8) -> Ordering
 }
 
 /// The name of a variable, or the byte that opens a constant or a call, and the byte after it.
+#[tactic(auto, using(crate::proofs::Seen::trees))]
 fn term_start(t: &Term, after: Option<u8>) -> Piece<'_>
     ensures text { piece_text result ≡ start_of (term_opens t.now) (term_text t.now) ++ follow after [] }
     ensures start { IsStart (term_opens t.now) (term_text t.now) }
 {
-    match t {
-        Term::Var(x) => symbol_piece(x, after),
-        Term::Quote(_) => plain_piece(b"'", after),
-        Term::Call(_, _) => plain_piece(b"(", after),
+    match &t.shape {
+        Shape::Var(x) => symbol_piece(x, after),
+        Shape::Quote(_) => plain_piece(b"'", after),
+        Shape::Call(_, _) => plain_piece(b"(", after),
     }
 }
 

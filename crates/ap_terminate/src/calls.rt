@@ -6,19 +6,20 @@ ghost use Rattle.ap_terminate.specs.Distinct.{with_distinct};
 
 use ap_kernel::{is_same, is_symbol};
 use ap_list::{NoMemory, Seq};
-use ap_term::{Term, copy_terms};
+use ap_term::{Shape, Term, copy_terms};
 use ap_value::Symbol;
 use std::alloc::Global;
 
 /// Whether a term has no call of the function of a name. Takes no memory.
 #[cycle(seeking)]
+#[tactic(auto, using(ap_term::proofs::Seen::trees))]
 pub fn has_no_call(name: &Symbol, t: &Term) -> bool
     ensures { result ≡ has_no_call name.now t.now }
 {
-    match t {
-        Term::Var(_) => true,
-        Term::Quote(_) => true,
-        Term::Call(f, ts) => !is_symbol(f, name) && have_no_call(name, ts.as_slice()),
+    match &t.shape {
+        Shape::Var(_) => true,
+        Shape::Quote(_) => true,
+        Shape::Call(f, ts) => !is_symbol(f, name) && have_no_call(name, ts.as_slice()),
     }
 }
 
@@ -47,13 +48,14 @@ fn is_flat_call(name: &Symbol, f: &Symbol, arguments: &[Term]) -> bool
 
 /// Whether no argument of a call of the function in a term has another one. Takes no memory.
 #[cycle(nesting)]
+#[tactic(auto, using(ap_term::proofs::Seen::trees))]
 pub(crate) fn has_flat_calls(name: &Symbol, t: &Term) -> bool
     ensures { result ≡ has_flat_calls name.now (calls_in name.now t.now) }
 {
-    match t {
-        Term::Var(_) => true,
-        Term::Quote(_) => true,
-        Term::Call(f, ts) => {
+    match &t.shape {
+        Shape::Var(_) => true,
+        Shape::Quote(_) => true,
+        Shape::Call(f, ts) => {
             let arguments = ts.as_slice();
             is_flat_call(name, f, arguments) && have_flat_calls(name, arguments)
         }
@@ -123,6 +125,7 @@ fn push_own(
 
 /// Adds the arguments of each call of the function in a term, in preorder, that aren't there yet.
 #[cycle(gathering)]
+#[tactic(auto, using(ap_term::proofs::Seen::trees))]
 fn push_calls(
     alloc: Global,
     name: &Symbol,
@@ -131,10 +134,10 @@ fn push_calls(
 ) -> Result<(), NoMemory>
     ensures { OnOk result (out.new ≡ with_distinct out.old (calls_in name.now t.now)) }
 {
-    match t {
-        Term::Var(_) => Ok(()),
-        Term::Quote(_) => Ok(()),
-        Term::Call(f, ts) => {
+    match &t.shape {
+        Shape::Var(_) => Ok(()),
+        Shape::Quote(_) => Ok(()),
+        Shape::Call(f, ts) => {
             let arguments = ts.as_slice();
             push_own(alloc, name, f, arguments, out)?;
             push_all_calls(alloc, name, arguments, out)

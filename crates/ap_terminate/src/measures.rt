@@ -7,7 +7,7 @@ ghost use Rattle.ap_terminate.specs.Refusals.{is_nested, is_well_formed, has_bad
 use crate::cases::is_unnested;
 use ap_kernel::{is_changed, mentions};
 use ap_list::{NoMemory, Seq};
-use ap_term::{Term, copy_terms};
+use ap_term::{Shape, Term, copy_terms};
 use ap_value::{Fixed, Symbol, copy_symbol, named};
 use ap_world::{Case, Defun, Measure, World};
 use std::alloc::{AllocError, Global};
@@ -89,7 +89,7 @@ fn count_term(alloc: Global, x: &Symbol) -> Result<Term, NoMemory>
     ensures { IfOk result (λ u. u ≡ count_of x.now) }
 {
     let mut arguments = Seq::new(alloc);
-    arguments.push(Term::Var(copy_symbol(alloc, x)?))?;
+    arguments.push(Term::var(copy_symbol(alloc, x)?))?;
     Term::call(alloc, named(Fixed::Acl2Count), arguments)
 }
 

@@ -2,9 +2,7 @@
 //! them. A reader stops at 400 lists within each other, and a translation at 4,096 nodes. The steps of `rt try`
 //! take more stack than those of a built program, so there the first of these tests runs out of it.
 use ap_print::print_term;
-use ap_term::{
-    NoMemory, Seq, Term, Value, copy_term, copy_terms, owned, same_term, size, term_less,
-};
+use ap_term::{NoMemory, Seq, Shape, Term, Value, copy_term, copy_terms, owned, same_term, size, term_less};
 use ap_value::acl2;
 use std::alloc::{AllocError, Global};
 use std::test::Fail;
@@ -25,7 +23,7 @@ fn around(alloc: Global, t: Term) -> Result<Term, NoMemory> {
 
 /// `(F (F .. X))` of so many nodes.
 fn chain(alloc: Global, count: u32) -> Result<Term, NoMemory> {
-    let mut t = Term::Var(acl2(alloc, b"X")?);
+    let mut t = Term::var(acl2(alloc, b"X")?);
     for _ in 1..count {
         t = around(alloc, t)?;
     }
@@ -38,7 +36,7 @@ fn nested(alloc: Global, count: u32) -> Result<Term, NoMemory> {
     for _ in 0..count {
         v = Value::cons(alloc, v, Value::Int(0))?;
     }
-    Ok(Term::Quote(v))
+    Ok(Term::quote(v))
 }
 
 /// The deepest term twice, or the deepest constant.
@@ -119,7 +117,9 @@ fn shared(alloc: Global, is_alone: bool) -> Result<Seq<Term>, NoMemory> {
 /// How many arguments the last of terms has, which are taken from it, and the nodes of the term before it.
 fn taken(alloc: Global, mut ts: Seq<Term>) -> Result<(usize, Option<u64>), NoMemory> {
     match ts.pop() {
-        Some(Term::Call(_head, arguments)) => {
+        Some(Term {
+            shape: Shape::Call(_head, arguments),
+        }) => {
             let count = owned(alloc, arguments)?.len();
             Ok((count, ts.as_slice().first().and_then(|t| size(t))))
         }

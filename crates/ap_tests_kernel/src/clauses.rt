@@ -12,7 +12,7 @@ use ap_kernel::{
 };
 use ap_list::Bytes;
 use ap_print::print_clause;
-use ap_term::copy_terms;
+use ap_term::{Shape, copy_terms};
 use ap_tests_terms::shown;
 use ap_value::Value;
 use std::alloc::{AllocError, Global};
@@ -141,8 +141,8 @@ pub(crate) fn halved(
 
 /// The number that is written.
 fn number(t: &Term) -> Result<u32, NoMemory> {
-    match t {
-        Term::Quote(Value::Int(n)) => u32::try_from(*n).ok().ok_or(AllocError),
+    match &t.shape {
+        Shape::Quote(Value::Int(n)) => u32::try_from(*n).ok().ok_or(AllocError),
         _ => Err(AllocError),
     }
 }

@@ -1,7 +1,7 @@
 //! The rows on matches, instances and variables.
 
 use ap_list::{Bytes, NoMemory, Seq};
-use ap_term::{Subst, Term, copy_term, one_way_match, same_term, subst, subst_all, vars};
+use ap_term::{Shape, Subst, Term, copy_term, one_way_match, same_term, subst, subst_all, vars};
 use ap_tests_terms::put_term;
 use ap_value::{Symbol, copy_symbol};
 use std::alloc::{AllocError, Global};
@@ -10,7 +10,14 @@ use std::alloc::{AllocError, Global};
 fn pairs(alloc: Global, parts: &[Term]) -> Result<Subst, NoMemory> {
     let mut left = parts;
     let mut out = Seq::new(alloc);
-    while let [Term::Var(x), by, rest @ ..] = left {
+    while let [
+        Term {
+            shape: Shape::Var(x),
+        },
+        by,
+        rest @ ..,
+    ] = left
+    {
         out.push((copy_symbol(alloc, x)?, copy_term(alloc, by)?))?;
         left = rest;
     }

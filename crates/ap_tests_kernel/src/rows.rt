@@ -6,7 +6,7 @@ use crate::expect::expect;
 use crate::known::first_world;
 use crate::{clauses, kernel, matches};
 use ap_list::{Bytes, NoMemory};
-use ap_term::Term;
+use ap_term::{Shape, Term};
 use ap_tests_terms::{sides, terms};
 use ap_world::World;
 use std::alloc::{AllocError, Global};
@@ -124,7 +124,9 @@ fn of_terms(alloc: Global, word: &str, row: &[Term]) -> Result<Bytes, NoMemory> 
     match (word, row) {
         ("flat", [t]) => clauses::flattened(alloc, t),
         ("match", [pattern, t, start @ ..]) => matches::matched(alloc, pattern, t, start),
-        ("instances", [Term::Call(_, s), ts @ ..]) => matches::instances(alloc, s.as_slice(), ts),
+        ("instances", [Term { shape: Shape::Call(_, s) }, ts @ ..]) => {
+            matches::instances(alloc, s.as_slice(), ts)
+        }
         ("vars", [t]) => matches::variables(alloc, t),
         ("assume", [t]) => kernel::assumed(alloc, t),
         _ => Err(AllocError),

@@ -275,7 +275,7 @@ fn one(alloc: Global, name: &[u8], t: Term) -> Result<Term, NoMemory>
 fn integer_nfix(alloc: Global) -> Result<Term, NoMemory>
     ensures { IfOk result (λ u. u ≡ one integerp_name (one nfix_name x)) }
 {
-    let x = Term::Var(acl2(alloc, b"X")?);
+    let x = Term::var(acl2(alloc, b"X")?);
     one(alloc, b"INTEGERP", one(alloc, b"NFIX", x)?)
 }
 

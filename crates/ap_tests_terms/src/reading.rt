@@ -61,8 +61,8 @@ fn head(alloc: Global, form: &Form) -> Result<Symbol, NoMemory> {
 #[cycle(writing)]
 pub fn written(alloc: Global, form: &Form) -> Result<Term, NoMemory> {
     match &form.body {
-        Body::Sym(name) => Ok(Term::Var(copy_symbol(alloc, name)?)),
-        Body::Quoted(inner) => Ok(Term::Quote(constant(alloc, inner.get())?)),
+        Body::Sym(name) => Ok(Term::var(copy_symbol(alloc, name)?)),
+        Body::Quoted(inner) => Ok(Term::quote(constant(alloc, inner.get())?)),
         Body::List(items) => match items.as_slice() {
             [first, rest @ ..] => {
                 let arguments = all_written(alloc, rest)?;
@@ -70,7 +70,7 @@ pub fn written(alloc: Global, form: &Form) -> Result<Term, NoMemory> {
             }
             [] => Err(AllocError),
         },
-        _ => Ok(Term::Quote(atom(alloc, form)?)),
+        _ => Ok(Term::quote(atom(alloc, form)?)),
     }
 }
 

@@ -7,7 +7,7 @@ use Rattle.ap_list.specs.contracts.seq.Seq as seq
 use Rattle.ap_list.specs.contracts.shared.Shared as shared
 use Rattle.ap_value.specs.contracts.symbol.Symbol as symbol
 use Rattle.ap_value.specs.contracts.value.Value as value
-use Rattle.ap_term.specs.contracts.term.Term as term
+use Rattle.ap_term.specs.contracts.tree.Term as term
 use Rattle.ap_world.specs.contracts.entry.Measure as measure
 use Rattle.ap_world.specs.contracts.entry.Case as case
 use Rattle.ap_world.specs.contracts.entry.Function as function

@@ -94,7 +94,7 @@ fn conjecture(alloc: Global) -> Result<Term, NoMemory> {
 }
 
 fn variable(alloc: Global, name: &[u8]) -> Result<Term, NoMemory> {
-    Ok(Term::Var(acl2(alloc, name)?))
+    Ok(Term::var(acl2(alloc, name)?))
 }
 
 fn choice(alloc: Global, test: Term, yes: Term, no: Term) -> Result<Term, NoMemory> {

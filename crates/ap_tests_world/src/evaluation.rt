@@ -154,7 +154,7 @@ fn expect_rows(rt: &impl Abort, alloc: Global, w: &World) -> Result<(), NoMemory
 
 /// `(UNARY-- (UNARY-- .. '1))`, so many calls deep.
 fn nested(alloc: Global, calls: u32) -> Result<Term, NoMemory> {
-    let mut term = Term::Quote(Value::Int(1));
+    let mut term = Term::quote(Value::Int(1));
     for _ in 0..calls {
         term = minus(alloc, term)?;
     }

@@ -6,6 +6,7 @@ ghost use Rattle.ap_term.specs.declared.term.Term.TheVariants.{Quote, Call};
 ghost use Rattle.ap_world.specs.Names.{equal_name};
 ghost use Rattle.ap_world.specs.Sound.{not_function};
 
+use ap_term::Shape;
 use ap_value::{acl2, is_named};
 use ap_world::laws::{equal_sides_are_valid, starting_world_is_sound};
 use ap_world::{
@@ -106,15 +107,15 @@ fn same_sides(alloc: Global) -> Result<Term, NoMemory>
     ensures { IfOk result (λ u. u ≡ Call equal_name (Quote (Int (pos 7)) ∷ Quote (Int (pos 7)) ∷ [])) }
 {
     let mut parts = Seq::new(alloc);
-    parts.push(Term::Quote(Value::Int(7)))?;
-    parts.push(Term::Quote(Value::Int(7)))?;
+    parts.push(Term::quote(Value::Int(7)))?;
+    parts.push(Term::quote(Value::Int(7)))?;
     Term::call(alloc, acl2(alloc, b"EQUAL")?, parts)
 }
 
 /// Whether a term is `(equal 7 7)`.
 fn is_same_sides(t: &Term) -> bool {
-    match t {
-        Term::Call(f, parts) => is_named(f, b"EQUAL") && are_sevens(parts.as_slice()),
+    match &t.shape {
+        Shape::Call(f, parts) => is_named(f, b"EQUAL") && are_sevens(parts.as_slice()),
         _ => false,
     }
 }
@@ -122,7 +123,7 @@ fn is_same_sides(t: &Term) -> bool {
 fn are_sevens(terms: &[Term]) -> bool {
     matches!(
         terms,
-        [Term::Quote(Value::Int(7)), Term::Quote(Value::Int(7))]
+        [Term { shape: Shape::Quote(Value::Int(7)) }, Term { shape: Shape::Quote(Value::Int(7)) }]
     )
 }
 
@@ -132,9 +133,9 @@ fn not_body(alloc: Global) -> Result<Term, NoMemory>
     ensures { IfOk result (λ t. t ≡ not_function.body) }
 {
     let mut parts = Seq::new(alloc);
-    parts.push(Term::Var(acl2(alloc, b"P")?))?;
-    parts.push(Term::Quote(Value::Sym(acl2(alloc, b"NIL")?)))?;
-    parts.push(Term::Quote(Value::Sym(acl2(alloc, b"T")?)))?;
+    parts.push(Term::var(acl2(alloc, b"P")?))?;
+    parts.push(Term::quote(Value::Sym(acl2(alloc, b"NIL")?)))?;
+    parts.push(Term::quote(Value::Sym(acl2(alloc, b"T")?)))?;
     Term::call(alloc, acl2(alloc, b"IF")?, parts)
 }
 

@@ -31,7 +31,7 @@ pub enum Join {
 pub(crate) fn nil_term(alloc: Global) -> Result<Term, NoMemory>
     ensures { IfOk result (λ u. u ≡ nil_term) }
 {
-    Ok(Term::Quote(nil(alloc)?))
+    Ok(Term::quote(nil(alloc)?))
 }
 
 /// The constant `t`.
@@ -39,7 +39,7 @@ pub(crate) fn nil_term(alloc: Global) -> Result<Term, NoMemory>
 fn t_term(alloc: Global) -> Result<Term, NoMemory>
     ensures { IfOk result (λ u. u ≡ t_term) }
 {
-    Ok(Term::Quote(Value::Sym(acl2(alloc, b"T")?)))
+    Ok(Term::quote(Value::Sym(acl2(alloc, b"T")?)))
 }
 
 /// A call of the function of package `ACL2` with this name.
@@ -160,7 +160,7 @@ fn joined(alloc: Global, join: Join, terms: Seq<Term>, empty: Term) -> Result<Te
 fn summed(alloc: Global, join: Join, terms: Seq<Term>, unit: i128) -> Result<Term, NoMemory>
     ensures { IfOk result (λ u. u ≡ summed (join_of join) (integer_term unit) terms) }
 {
-    let unit = Term::Quote(Value::Int(unit));
+    let unit = Term::quote(Value::Int(unit));
     let mut left = terms;
     match left.pop() {
         None => Ok(unit),
@@ -190,8 +190,8 @@ fn from_one(alloc: Global, found: Macro, a: Term) -> Result<Term, NoMemory>
 {
     match found {
         Macro::Minus => call_1(alloc, b"UNARY--", a),
-        Macro::Increment => call_2(alloc, b"BINARY-+", Term::Quote(Value::Int(1)), a),
-        Macro::Decrement => call_2(alloc, b"BINARY-+", Term::Quote(Value::Int(-1)), a),
+        Macro::Increment => call_2(alloc, b"BINARY-+", Term::quote(Value::Int(1)), a),
+        Macro::Decrement => call_2(alloc, b"BINARY-+", Term::quote(Value::Int(-1)), a),
         _ => nil_term(alloc),
     }
 }
@@ -311,7 +311,7 @@ fn plus_literal(alloc: Global, n: i128, terms: Seq<Term>) -> Result<Term, NoMemo
     ensures { IfOk result (λ u. u ≡ plus_literal n terms) }
 {
     match only(terms) {
-        Some(term) => call_2(alloc, b"BINARY-+", Term::Quote(Value::Int(n)), term),
+        Some(term) => call_2(alloc, b"BINARY-+", Term::quote(Value::Int(n)), term),
         None => nil_term(alloc),
     }
 }
@@ -413,7 +413,7 @@ fn quote_pieced(alloc: Global, piece: Piece) -> Result<Term, NoMemory>
     let mut pieces = Seq::new(alloc);
     pieces.push(piece)?;
     let rest = pieced(alloc, pieces)?;
-    let head = Term::Quote(quote_symbol(alloc)?);
+    let head = Term::quote(quote_symbol(alloc)?);
     call_2(alloc, b"CONS", head, rest)
 }
 

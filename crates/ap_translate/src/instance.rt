@@ -7,7 +7,7 @@ ghost use Rattle.ap_translate.specs.Instances.{nodes_found, sum_known, nodes_of,
 
 use crate::sizes::{MOST_NODES, more_nodes};
 use ap_list::{NoMemory, Seq};
-use ap_term::{Subst, Term, copy_term, is_symbol, subst};
+use ap_term::{Shape, Subst, Term, copy_term, is_symbol, subst};
 use ap_value::{Symbol, copy_symbol};
 use std::alloc::Global;
 use std::slice::from_ref;
@@ -68,16 +68,16 @@ fn with_found(count: u64, found: Option<&Option<Term>>) -> Option<u64>
 /// The number of nodes of a term with its variables replaced and so many more, where they are at most
 /// 4,096. Takes no memory.
 #[cycle(counting)]
-#[tactic(auto, using(crate::proofs::Counted::counts))]
+#[tactic(auto, using(ap_term::proofs::Seen::trees, crate::proofs::Counted::counts))]
 fn count(names: &[Symbol], terms: &[Option<Term>], term: &Term, before: u64) -> Option<u64>
     requires { before ≤ 4096 }
     ensures is { result ≡ more_than before (nodes_of (zip names.now terms.now) term.now) }
     ensures low { IfSome result (λ n. n ≤ 4096) }
 {
-    match term {
-        Term::Var(name) => with_found(before, found(names, terms, name)),
-        Term::Quote(_) => with_nodes(before, term),
-        Term::Call(_, parts) => {
+    match &term.shape {
+        Shape::Var(name) => with_found(before, found(names, terms, name)),
+        Shape::Quote(_) => with_nodes(before, term),
+        Shape::Call(_, parts) => {
             let start = one_more(before)?;
             count_all(names, terms, parts.as_slice(), start)
         }
@@ -104,7 +104,7 @@ fn term_for(alloc: Global, name: &Symbol, kept: &Option<Term>) -> Result<Term, N
 {
     match kept {
         Some(term) => copy_term(alloc, term),
-        None => Ok(Term::Var(copy_symbol(alloc, name)?)),
+        None => Ok(Term::var(copy_symbol(alloc, name)?)),
     }
 }
 

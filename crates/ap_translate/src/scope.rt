@@ -95,7 +95,7 @@ pub(crate) fn quote(value: Option<Value>) -> Option<Term>
     ensures { result ≡ option_map Quote value }
 {
     match value {
-        Some(value) => Some(Term::Quote(value)),
+        Some(value) => Some(Term::quote(value)),
         None => None,
     }
 }
@@ -106,7 +106,7 @@ fn quote_copy(alloc: Global, value: &Value) -> Result<Option<Term>, NoMemory>
     ensures { IfOk result (λ o. o ≡ small (Quote value.now)) }
 {
     match nodes(value) {
-        Some(count) if count <= 4096 => Ok(Some(Term::Quote(copy(alloc, value)?))),
+        Some(count) if count <= 4096 => Ok(Some(Term::quote(copy(alloc, value)?))),
         _ => Ok(None),
     }
 }
@@ -137,10 +137,10 @@ fn variable_term(
     ensures { Gives result (capped small (variable_term place bound.now.names symbol.now)) }
 {
     match &bound.names {
-        None => Ok(Some(Term::Var(copy_symbol(alloc, symbol)?))),
+        None => Ok(Some(Term::var(copy_symbol(alloc, symbol)?))),
         Some(names) => {
             if is_among(symbol, names.as_slice()) {
-                Ok(Some(Term::Var(copy_symbol(alloc, symbol)?)))
+                Ok(Some(Term::var(copy_symbol(alloc, symbol)?)))
             } else {
                 Err(refused_at(place, TransKind::UnknownName))
             }
@@ -160,7 +160,7 @@ pub(crate) fn symbol_term(
     ensures { Gives result (capped small (symbol_term world.now.entries place bound.now.names symbol.now)) }
 {
     if is_constant(symbol) {
-        Ok(Some(Term::Quote(Value::Sym(copy_symbol(alloc, symbol)?))))
+        Ok(Some(Term::quote(Value::Sym(copy_symbol(alloc, symbol)?))))
     } else if is_starred(symbol.name.as_slice()) {
         constant_term(alloc, world, place, symbol)
     } else {

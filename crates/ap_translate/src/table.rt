@@ -40,8 +40,8 @@ pub(crate) fn term(
 {
     let place = form.place;
     match &form.body {
-        Body::Int(n) => Ok(Some(Term::Quote(Value::Int(*n)))),
-        Body::Chr(code) => Ok(Some(Term::Quote(Value::Chr(*code)))),
+        Body::Int(n) => Ok(Some(Term::quote(Value::Int(*n)))),
+        Body::Chr(code) => Ok(Some(Term::quote(Value::Chr(*code)))),
         Body::Str(bytes) => Ok(quote(string(alloc, bytes)?)),
         Body::Sym(symbol) => symbol_term(alloc, world, place, bound, symbol),
         Body::List(items) => {
@@ -76,10 +76,10 @@ fn part(
 {
     let place = form.place;
     match &form.body {
-        Body::Int(n) => Ok(Some(Term::Quote(Value::Int(*n)))),
-        Body::Chr(code) => Ok(Some(Term::Quote(Value::Chr(*code)))),
+        Body::Int(n) => Ok(Some(Term::quote(Value::Int(*n)))),
+        Body::Chr(code) => Ok(Some(Term::quote(Value::Chr(*code)))),
         Body::Str(bytes) => Ok(quote(string(alloc, bytes)?)),
-        Body::Sym(symbol) => Ok(Some(Term::Quote(Value::Sym(copy_symbol(alloc, symbol)?)))),
+        Body::Sym(symbol) => Ok(Some(Term::quote(Value::Sym(copy_symbol(alloc, symbol)?)))),
         Body::List(items) => {
             let left = nested(left, place)?;
             let pieces = pieces(alloc, world, left, bound, items.as_slice())?;

@@ -11,7 +11,7 @@ use crate::constants::{is_zero_value, kind_of};
 use crate::kinds::{bit, without};
 use crate::rows::is_single;
 use ap_kernel::is_same;
-use ap_term::Term;
+use ap_term::{Shape, Term};
 use ap_value::{Symbol, Value};
 use ap_world::{Kind, Primitive, masks, primitive_of, recognised};
 
@@ -76,11 +76,12 @@ fn by_value(sign: bool, head: Option<Primitive>, mask: u16, v: &Value) -> u16
 
 /// What an equation or an inequality, of which `a` is one side and `b` the other, leaves of a term that is `a`, where `b`
 /// is a constant. Whether it is one costs least, and is asked first; the head costs most, and is asked last.
+#[tactic(auto, using(ap_term::proofs::Seen::trees))]
 fn by_side(t: &Term, sign: bool, f: &Symbol, mask: u16, a: &Term, b: &Term) -> u16
     ensures { result ≡ by_side (term_eq a.now t.now) sign (prim_of f.now) mask (shape_of b.now) }
 {
-    match b {
-        Term::Quote(v) => {
+    match &b.shape {
+        Shape::Quote(v) => {
             if is_same(a, t) {
                 by_value(sign, primitive_of(f), mask, v)
             } else {
@@ -100,11 +101,12 @@ fn by_pair(t: &Term, sign: bool, f: &Symbol, a: &Term, b: &Term) -> u16
 }
 
 /// What a fact on a part of which the term is leaves.
+#[tactic(auto, using(ap_term::proofs::Seen::trees))]
 fn by_parts(t: &Term, sign: bool, fact: &Term) -> u16
     ensures { result ≡ by_parts t.now sign (out-Term fact.now) }
 {
-    match fact {
-        Term::Call(f, ts) => match ts.as_slice() {
+    match &fact.shape {
+        Shape::Call(f, ts) => match ts.as_slice() {
             [a] => {
                 if is_same(a, t) {
                     by_recogniser(sign, recognised(f))

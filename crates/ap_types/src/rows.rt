@@ -5,7 +5,7 @@ ghost use Rattle.ap_world.specs.Rows.{tested, test_types, plus_row, times_row, m
 
 use crate::constants::is_list_name;
 use crate::kinds::{bit, kinds, meets, sign_bit, sign_of, without};
-use ap_term::Term;
+use ap_term::{Shape, Term};
 use ap_value::{Symbol, is_named};
 use ap_world::{Kind, Primitive, Sign, masks, recognised};
 
@@ -240,11 +240,12 @@ pub(crate) fn over_two(p: Primitive, a: u16, b: u16) -> u16
 }
 
 /// `(coerce x y)`, by y.
+#[tactic(auto, using(ap_term::proofs::Seen::trees))]
 fn coerce_by(t: &Term) -> u16
     ensures { result ≡ coerce_by (shape_of t.now) }
 {
-    match t {
-        Term::Quote(v) => {
+    match &t.shape {
+        Shape::Quote(v) => {
             if is_list_name(v) {
                 masks::TRUE_LISTS
             } else {

@@ -4,16 +4,17 @@ ghost use Rattle.ap_world.specs.World.{function_of};
 ghost use Rattle.ap_world.specs.Prescribing.{theorems_about};
 ghost use Rattle.ap_world.specs.Typing.{types_on, prescribed_types, left_by, narrowed, kept_of, function_types};
 
-use ap_term::Term;
+use ap_term::{Shape, Term};
 use ap_value::Symbol;
 use ap_world::{RuneKind, Theorem, Theory, World, are_distinct_variables, masks, recognised};
 
 /// The types that a recogniser leaves to a call of distinct variables; all to another term.
+#[tactic(auto, using(ap_term::proofs::Seen::trees))]
 fn types_on(types: Option<u16>, t: &Term) -> u16
     ensures { result ≡ types_on types (out-Term t.now) }
 {
-    match (types, t) {
-        (Some(types), Term::Call(_, ts)) => {
+    match (types, &t.shape) {
+        (Some(types), Shape::Call(_, ts)) => {
             if are_distinct_variables(ts.as_slice()) {
                 types
             } else {
@@ -25,11 +26,12 @@ fn types_on(types: Option<u16>, t: &Term) -> u16
 }
 
 /// The types that a term leaves to the call that it is a recogniser on.
+#[tactic(auto, using(ap_term::proofs::Seen::trees))]
 fn prescribed_types(t: &Term) -> u16
     ensures { result ≡ prescribed_types (out-Term t.now) }
 {
-    match t {
-        Term::Call(r, ts) => match ts.as_slice() {
+    match &t.shape {
+        Shape::Call(r, ts) => match ts.as_slice() {
             [a] => types_on(recognised(r), a),
             _ => masks::ALL,
         },

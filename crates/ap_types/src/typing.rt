@@ -14,7 +14,7 @@ use crate::kinds::{bit, meets, without};
 use crate::scopes::{cut_by_each, enter};
 use ap_kernel::Ctx;
 use ap_list::{NoMemory, Seq};
-use ap_term::Term;
+use ap_term::{Shape, Term};
 use ap_value::Symbol;
 use ap_world::{Primitive, masks, primitive_of};
 
@@ -35,14 +35,15 @@ pub(crate) fn types_at(
 
 /// The types of a term by its form; the facts on the term itself cut them.
 #[cycle(typing)]
+#[tactic(auto, using(ap_term::proofs::Seen::trees))]
 fn form_types(s: &Setting<'_, '_>, scopes: &mut Seq<Ctx>, t: &Term) -> Result<u16, NoMemory>
     ensures is { IfOk result (λ m. cut (in_scope s.now.base.now scopes.old) t.now m ≡ types_by (types_in s.now.w.now s.now.own) t.now (in_scope s.now.base.now scopes.old)) }
     ensures scopes { OnOk result (scopes.new ≡ scopes.old) }
 {
-    match t {
-        Term::Var(_) => Ok(masks::ALL),
-        Term::Quote(v) => Ok(bit(kind_of(v))),
-        Term::Call(f, ts) => head_types(s, scopes, f, ts.as_slice()),
+    match &t.shape {
+        Shape::Var(_) => Ok(masks::ALL),
+        Shape::Quote(v) => Ok(bit(kind_of(v))),
+        Shape::Call(f, ts) => head_types(s, scopes, f, ts.as_slice()),
     }
 }
 

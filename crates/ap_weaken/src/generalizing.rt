@@ -16,22 +16,23 @@ use ap_elim::new_name;
 use ap_induct::push_all_calls;
 use ap_kernel::{Ctx, Reduction, TypeOracle, generalise};
 use ap_list::{NoMemory, Seq};
-use ap_term::{Clause, Term, copy_term, copy_terms, size};
+use ap_term::{Clause, Shape, Term, copy_term, copy_terms, size};
 use ap_value::Symbol;
 use ap_world::{Mask, World, masks};
 use std::alloc::{AllocError, Global};
 
 /// Whether a term is a call of a recursive function. Takes no memory.
+#[tactic(auto, using(ap_term::proofs::Seen::trees))]
 fn calls_recursive(w: &World, t: &Term) -> bool
     ensures { result ≡ calls_recursive (function_of w.now.entries) (out-Term t.now) }
 {
-    match t {
-        Term::Call(f, _) => match w.lookup_fun(f) {
+    match &t.shape {
+        Shape::Call(f, _) => match w.lookup_fun(f) {
             Some(function) => function.measure.is_some(),
             None => false,
         },
-        Term::Var(_) => false,
-        Term::Quote(_) => false,
+        Shape::Var(_) => false,
+        Shape::Quote(_) => false,
     }
 }
 
@@ -174,13 +175,14 @@ fn first_letter(name: &[u8]) -> u8
 }
 
 /// That of the name of a call's function. Takes no memory.
+#[tactic(auto, using(ap_term::proofs::Seen::trees))]
 fn letter_of(t: &Term) -> u8
     ensures { result ≡ letter_of (out-Term t.now) }
 {
-    match t {
-        Term::Call(f, _) => first_letter(f.name.as_slice()),
-        Term::Var(_) => b'V',
-        Term::Quote(_) => b'V',
+    match &t.shape {
+        Shape::Call(f, _) => first_letter(f.name.as_slice()),
+        Shape::Var(_) => b'V',
+        Shape::Quote(_) => b'V',
     }
 }
 

@@ -6,7 +6,7 @@ ghost use Rattle.ap_weaken.specs.Irrelevance.{vars_of, have_common, united, grow
 
 use ap_kernel::{ShapeRef, shape_of};
 use ap_list::{NoMemory, Seq};
-use ap_term::{Term, is_among, vars};
+use ap_term::{Shape, Term, is_among, vars};
 use ap_value::{Symbol, copy_symbol};
 use std::alloc::Global;
 
@@ -74,13 +74,14 @@ fn part_vars(alloc: Global, literals: &[Term], t: &Term) -> Result<Seq<Symbol>, 
 }
 
 /// Whether a term is a variable. Takes no memory.
+#[tactic(auto, using(ap_term::proofs::Seen::trees))]
 fn is_variable(t: &Term) -> bool
     ensures { result ≡ is_variable t.now }
 {
-    match t {
-        Term::Var(_) => true,
-        Term::Quote(_) => false,
-        Term::Call(_, _) => false,
+    match &t.shape {
+        Shape::Var(_) => true,
+        Shape::Quote(_) => false,
+        Shape::Call(_, _) => false,
     }
 }
 
@@ -95,13 +96,14 @@ fn is_lone(ts: &[Term]) -> bool
 }
 
 /// Whether a term is a call of one argument that is a variable. Takes no memory.
+#[tactic(auto, using(ap_term::proofs::Seen::trees))]
 fn of_variable(t: &Term) -> bool
     ensures { result ≡ of_variable (out-Term t.now) }
 {
-    match t {
-        Term::Var(_) => false,
-        Term::Quote(_) => false,
-        Term::Call(_, ts) => is_lone(ts.as_slice()),
+    match &t.shape {
+        Shape::Var(_) => false,
+        Shape::Quote(_) => false,
+        Shape::Call(_, ts) => is_lone(ts.as_slice()),
     }
 }
 

@@ -5,7 +5,7 @@ ghost use Rattle.ap_kernel.specs.Solving.{any_true};
 ghost use Rattle.ap_weaken.specs.Generalize.{is_in_two, arguments_of, both_have, is_in_sides, atom_of, is_in_both, is_shared};
 
 use ap_kernel::{ShapeRef, contains, is_comparison, shape_of, some_contains};
-use ap_term::Term;
+use ap_term::{Shape, Term};
 
 /// Whether a term is a part of two literals. Takes no memory.
 fn is_in_two(t: &Term, literals: &[Term]) -> bool
@@ -22,13 +22,14 @@ fn is_in_two(t: &Term, literals: &[Term]) -> bool
 }
 
 /// The arguments of a call; another term has none. Takes no memory.
+#[tactic(auto, using(ap_term::proofs::Seen::trees))]
 fn arguments_of(t: &Term) -> &[Term]
     ensures { result.now ≡ arguments_of (out-Term t.now) }
 {
-    match t {
-        Term::Call(_, ts) => ts.as_slice(),
-        Term::Var(_) => &[],
-        Term::Quote(_) => &[],
+    match &t.shape {
+        Shape::Call(_, ts) => ts.as_slice(),
+        Shape::Var(_) => &[],
+        Shape::Quote(_) => &[],
     }
 }
 

@@ -3,6 +3,7 @@ use Rattle.std.specs.Prelude.{Bool, true, false, cond, List, [], ◌∷◌, ◌+
 use Rattle.ap_value.specs.Values.{val_of, symbol_eq, value_eq}
 use Rattle.ap_term.specs.declared.term.Term.{Term, para-Term, out-Term, Var, Quote, Call}
 use Rattle.ap_term.specs.declared.term.Term.TheOpen.{Term-F}
+pub use Rattle.ap_term.specs.Leaves.{if_parts}
 use Rattle.ap_world.specs.Names.{if_name, not_name, implies_name}
 use Rattle.ap_world.specs.Primitives.{nil}
 
@@ -31,11 +32,6 @@ is_nil_constant y = false
 
 abbrev pub is_nil : Term → Bool
 is_nil u = is_nil_constant (out-Term u)
-
--- the three parts where the call is one of `if`
-abbrev pub if_parts : {A : Type 0} → Bool → List A → Option (A × A × A)
-if_parts true (a ∷ b ∷ c ∷ []) = Some (a, b, c)
-if_parts b xs = None
 
 -- the conjuncts of (if a b 'NIL) are those of a and those of b; another term is its one conjunct
 abbrev pub and_parts : Option ((Term × List Term) × (Term × List Term) × (Term × List Term)) → List Term → List Term

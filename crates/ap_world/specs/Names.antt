@@ -2,6 +2,7 @@
 use Rattle.std.specs.Prelude.{codes}
 use Rattle.ap_value.specs.declared.symbol.Symbol.{Symbol}
 use Rattle.ap_value.specs.Values.{acl2}
+unfoldable pub use Rattle.ap_term.specs.Names.{if_name}
 
 unfoldable pub nil_name : Symbol
 nil_name = acl2 (codes "NIL")
@@ -12,10 +13,7 @@ t_name = acl2 (codes "T")
 unfoldable pub list_name : Symbol
 list_name = acl2 (codes "LIST")
 
--- primitives
-unfoldable pub if_name : Symbol
-if_name = acl2 (codes "IF")
-
+-- primitives beside `if`
 unfoldable pub equal_name : Symbol
 equal_name = acl2 (codes "EQUAL")
 

@@ -1,6 +1,6 @@
 //! The world: the functions, theorems and constants that a book has admitted so far, and the current
 //! theory. Its type keeps that the world is sound.
-#![tactic(auto)]
+#![tactic(auto, using(ap_term::proofs::Seen::trees))]
 
 mod conjuncts;
 mod constants;

@@ -7,7 +7,7 @@ ghost use Rattle.ap_world.specs.Kept.{prescribed_in};
 
 use crate::entry::{Entry, RuleClass, Theorem};
 use ap_list::{NoMemory, Seq};
-use ap_term::Term;
+use ap_term::{Shape, Term};
 use ap_value::Symbol;
 use indexmap::IndexMap;
 use std::alloc::Global;
@@ -31,8 +31,8 @@ pub(crate) fn prescribes(classes: &[RuleClass]) -> bool
 fn called(t: &Term) -> Option<&Symbol>
     ensures { option_copied result ≡ called (out-Term t.now) }
 {
-    match t {
-        Term::Call(f, _) => Some(f),
+    match &t.shape {
+        Shape::Call(f, _) => Some(f),
         _ => None,
     }
 }
@@ -41,8 +41,8 @@ fn called(t: &Term) -> Option<&Symbol>
 fn argument_called(t: &Term) -> Option<&Symbol>
     ensures { option_copied result ≡ argument_called (out-Term t.now) }
 {
-    match t {
-        Term::Call(_, ts) => match ts.as_slice() {
+    match &t.shape {
+        Shape::Call(_, ts) => match ts.as_slice() {
             [a] => called(a),
             _ => None,
         },

@@ -7,14 +7,14 @@ ghost use Rattle.ap_world.specs.Rows.{recognised};
 ghost use Rattle.ap_world.specs.Typing.{is_variable, are_distinct_variables};
 
 use crate::masks;
-use ap_term::{Term, is_term_among};
+use ap_term::{Shape, Term, is_term_among};
 use ap_value::Symbol;
 
 /// Whether a term is a variable. Takes no memory.
 pub fn is_variable(t: &Term) -> bool
     ensures { result ≡ is_variable (out-Term t.now) }
 {
-    matches!(t, Term::Var(_))
+    matches!(&t.shape, Shape::Var(_))
 }
 
 /// Whether all terms are variables.

@@ -4,7 +4,7 @@ ghost use Rattle.ap_world.specs.Names.{if_name, not_name, equal_name, cons_name,
 ghost use Rattle.ap_world.specs.Shapes.{head_of, call_shape, shape_of};
 ghost use Rattle.ap_world.specs.Lent.{seen, seen_head};
 
-use ap_term::Term;
+use ap_term::{Shape, Term};
 use ap_value::{Symbol, Value, is_named};
 
 /// What the head of a call is, of those that proofs and types look at.
@@ -139,10 +139,10 @@ fn of_three<'a>(f: &Symbol, a: &'a Term, b: &'a Term, c: &'a Term) -> ShapeRef<'
 pub fn shape_of(t: &Term) -> ShapeRef<'_>
     ensures { seen result ≡ shape_of t.now }
 {
-    match t {
-        Term::Var(_) => ShapeRef::Other,
-        Term::Quote(v) => ShapeRef::Constant(v),
-        Term::Call(f, ts) => match ts.as_slice() {
+    match &t.shape {
+        Shape::Var(_) => ShapeRef::Other,
+        Shape::Quote(v) => ShapeRef::Constant(v),
+        Shape::Call(f, ts) => match ts.as_slice() {
             [a] => of_one(f, a),
             [a, b] => of_two(f, a, b),
             [a, b, c] => of_three(f, a, b, c),

@@ -1,5 +1,6 @@
 use Rattle.std.proofs.Common.{◌≡◌, true, unwrap_or, sym, ap, ◌∙◌, subst}
 use Rattle.ap_term.specs.declared.term.Term.{Term, Call}
+use Rattle.ap_term.proofs.Seen.{seen}
 use Rattle.ap_world.specs.Sound.{known}
 use Rattle.ap_rewrite.specs.Answering.{defs_in, where_applied, setting_of, inner_of, seen_at, right_of}
 use Rattle.ap_rewrite.proofs.Froms.{call_parts, from_own, from_at, followed_from, right_known}
@@ -30,7 +31,7 @@ tried-requires-clause-term g c =
     subst (λ (u : Term). known (defs_in c.args.l.now.r.now) u ≡ true) (sym c.rhs-call.ensures) (right_known _ _ _ _ _ c.in_ok-first.ensures.from)
 
 pub tried-requires-clause-call : goal.tried-requires-clause-call
-tried-requires-clause-call g c = c.in-Call.is ∙ ap (Call c.in-Call.g) (sym c.as_slice.ensures)
+tried-requires-clause-call g c = (seen c.call.view_is c.in-Call.is) ∙ ap (Call c.in-Call.g) (sym c.as_slice.ensures)
 
 pub unreachable-requires : goal.unreachable-requires
 unreachable-requires g c = c.in_default-call.not-Call _ _ (c.rhs-call.ensures ∙ c.in_ok-first.ensures.is)
@@ -47,13 +48,13 @@ returns-in_default-clause-is g c =
 
 pub returns-in_default-2-clause-is : goal.returns-in_default-2-clause-is
 returns-in_default-2-clause-is g c =
-    let head = sym (c.in-Call.is ∙ ap (Call c.in-Call.g) (sym c.as_slice.ensures)) ∙ c.rhs-call.ensures ∙ c.in_ok-first.ensures.is in
+    let head = sym ((seen c.call.view_is c.in-Call.is) ∙ ap (Call c.in-Call.g) (sym c.as_slice.ensures)) ∙ c.rhs-call.ensures ∙ c.in_ok-first.ensures.is in
     call_out (setting_of c.args.l.now.r.now) (inner_of c.args.l.now.r.now c.args.l.now.levels) c.args.mode (seen_at c.args.at.now) c.args.f.now c.args.us.now _ _ _ (rw c.in-Some.is at c.in_ok-args.ensures.is) _ _ head
     (rw c.in_default-2.is at c.in_ok-found.ensures.is)
 
 pub returns-clause-is : goal.returns-clause-is
 returns-clause-is g c =
-    let head = sym (c.in-Call.is ∙ ap (Call c.in-Call.g) (sym c.as_slice.ensures)) ∙ c.rhs-call.ensures ∙ c.in_ok-first.ensures.is in
+    let head = sym ((seen c.call.view_is c.in-Call.is) ∙ ap (Call c.in-Call.g) (sym c.as_slice.ensures)) ∙ c.rhs-call.ensures ∙ c.in_ok-first.ensures.is in
     call_is (setting_of c.args.l.now.r.now) (inner_of c.args.l.now.r.now c.args.l.now.levels) c.args.mode (seen_at c.args.at.now) c.args.f.now c.args.us.now _ _ _ (rw c.in-Some.is at c.in_ok-args.ensures.is) _ _ head
     _ _ _ (rw c.in-Some-2.is at c.in_ok-found.ensures.is) (c.in_ok-q.ensures.is ∙ ap (unwrap_or (right_of (where_applied c.in-Some-2.found))) c.in_ok-first.ensures.is)
 

@@ -1,9 +1,11 @@
 use Rattle.std.proofs.Common.{◌≡◌, ◌∷◌, ◌++◌, map, drop, sym, ◌∙◌, arith}
 use Rattle.ap_term.specs.Printed.{symbol_text, value_text, term_text}
 use Rattle.ap_term.specs.Starts.{arguments_text}
-use Rattle.ap_term.proofs.Arguments.{continued, argument_at, lengths_apart, not_equal}
+use Rattle.ap_term.proofs.ArgumentTexts.{continued, argument_at, lengths_apart, not_equal}
 use Rattle.ap_term.proofs.Folds.{constant_text, call_text}
 use Rattle.ap_term.proofs.Parts.{along, behind_byte, parts_same, parts_apart}
+use Rattle.ap_term.proofs.Seen.{seen}
+use Rattle.ap_term.proofs.Seen.{deeper}
 use Rattle.ap_term.proofs.compare.+terms.Goals as goal
 
 pub compare_term-returns-in-Quote-Quote : goal.compare_term-returns-in-Quote-Quote
@@ -11,7 +13,7 @@ compare_term-returns-in-Quote-Quote t c =
     let v = c.in-Quote-Quote.v in
     let w = c.in-Quote-Quote.w in
     along c.compare_value.result (term_text c.args.a.now) (39 ∷ value_text v) c.args.x (term_text c.args.b.now) (39 ∷ value_text w) c.args.y
-    (constant_text c.args.a.now v c.in-Quote-Quote.is-0) (constant_text c.args.b.now w c.in-Quote-Quote.is-1)
+    (constant_text c.args.a.now v (seen c.a.view_is c.in-Quote-Quote.is-0)) (constant_text c.args.b.now w (seen c.b.view_is c.in-Quote-Quote.is-1))
     (behind_byte 39 c.compare_value.result (value_text v) c.args.x (value_text w) c.args.y c.compare_value.ensures)
 
 pub compare_term-returns-in-Equal : goal.compare_term-returns-in-Equal
@@ -22,8 +24,8 @@ compare_term-returns-in-Equal t c =
     let right = symbol_text c.in-Call-Call.g in
     let xs = arguments_text (map term_text c.as_slice-xs.result.now) in
     let ys = arguments_text (map term_text c.as_slice-ys.result.now) in
-    let e = call_text a c.in-Call-Call.f c.in-Call-Call.xs c.in-Call-Call.is-0 in
-    let f = call_text b c.in-Call-Call.g c.in-Call-Call.ys c.in-Call-Call.is-1 in
+    let e = call_text a c.in-Call-Call.f c.in-Call-Call.xs (seen c.a.view_is c.in-Call-Call.is-0) in
+    let f = call_text b c.in-Call-Call.g c.in-Call-Call.ys (seen c.b.view_is c.in-Call-Call.is-1) in
     let text_a : term_text a ≡ 40 ∷ (left ++ xs) = cc in
     let text_b : term_text b ≡ 40 ∷ (right ++ ys) = cc in
     along c.compare_arguments.result (term_text a) (40 ∷ (left ++ xs)) c.args.x (term_text b) (40 ∷ (right ++ ys)) c.args.y text_a text_b
@@ -39,8 +41,8 @@ compare_term-returns-in_default-compare_symbols t c =
     let right = symbol_text c.in-Call-Call.g in
     let xs = arguments_text (map term_text c.as_slice-xs.result.now) in
     let ys = arguments_text (map term_text c.as_slice-ys.result.now) in
-    let e = call_text a c.in-Call-Call.f c.in-Call-Call.xs c.in-Call-Call.is-0 in
-    let f = call_text b c.in-Call-Call.g c.in-Call-Call.ys c.in-Call-Call.is-1 in
+    let e = call_text a c.in-Call-Call.f c.in-Call-Call.xs (seen c.a.view_is c.in-Call-Call.is-0) in
+    let f = call_text b c.in-Call-Call.g c.in-Call-Call.ys (seen c.b.view_is c.in-Call-Call.is-1) in
     let text_a : term_text a ≡ 40 ∷ (left ++ xs) = cc in
     let text_b : term_text b ≡ 40 ∷ (right ++ ys) = cc in
     along c.compare_symbols.result (term_text a) (40 ∷ (left ++ xs)) c.args.x (term_text b) (40 ∷ (right ++ ys)) c.args.y text_a text_b
@@ -70,3 +72,6 @@ compare_arguments-returns-in_default t c =
     (arguments_text (map term_text (drop i xs))) (arguments_text (map term_text (drop i ys))) c.args.x c.args.y c.loop-i.invariant
     (lengths_apart c.cmp.result xs ys i c.args.x c.args.y (omega (arith, c.min-i-end.ensures)) (omega (arith, c.min-i-end.ensures)) (omega (arith, c.min-i-end.ensures))
     c.cmp.ensures c.in_default.not-Equal)
+
+pub compare_term-compare_arguments-requires : goal.compare_term-compare_arguments-requires
+compare_term-compare_arguments-requires t c = let d = deeper c.a.view_is c.in-Call-Call.is-0 c.as_slice-xs.ensures in (omega (arith, c.decreases), tt)

@@ -1,4 +1,4 @@
-use Rattle.ap_term.proofs.Arguments.{first_argument}
+use Rattle.ap_term.proofs.ArgumentTexts.{first_argument}
 use Rattle.ap_term.proofs.compare.arguments_byte.Goals as goal
 
 pub returns-in-len1-up-clause-first : goal.returns-in-len1-up-clause-first

@@ -1,7 +1,7 @@
 use denote.Exit.{yes}
 use denote.Param.Send.{IsSend, sendable}
 use Rattle.std.proofs.Crossing.{crosses}
-use Rattle.ap_term.specs.contracts.term.Term as term
+use Rattle.ap_term.specs.contracts.tree.Term as term
 use Rattle.ap_value.specs.contracts.value.Value as value
 use Rattle.ap_tests_threads.proofs.Sent.{world_send}
 use Rattle.ap_tests_threads.proofs.crossing.counted_elsewhere.Goals as goal

@@ -1,7 +1,7 @@
 use denote.Exit.{yes}
 use denote.Param.Send.{IsSend, IsSync, sendable}
 use Rattle.std.proofs.Crossing.{crosses}
-use Rattle.ap_term.specs.contracts.term.Term as term
+use Rattle.ap_term.specs.contracts.tree.Term as term
 use Rattle.ap_value.specs.contracts.value.Value as value
 use Rattle.ap_tests_threads.proofs.Sent.{plan_sync, task_send}
 use Rattle.ap_tests_threads.proofs.crossing.waterfall_elsewhere.Goals as goal

@@ -1,5 +1,6 @@
 use Rattle.std.proofs.Common.{◌≡◌, None, map, sym, rules, arith, ◌∙◌}
 use Rattle.ap_term.specs.declared.term.Term.{Var, Quote}
+use Rattle.ap_term.proofs.Seen.{seen}
 use Rattle.ap_world.specs.Typing.{types_by, if_parts, call_types}
 use Rattle.ap_types.specs.Scopes.{in_scope}
 use Rattle.ap_types.specs.Settings.{types_in}
@@ -8,17 +9,17 @@ use Rattle.ap_types.proofs.typing.+typing.Goals as goal
 
 pub form_types-returns-in-Var-clause-is : goal.form_types-returns-in-Var-clause-is
 form_types-returns-in-Var-clause-is t c =
-    let e : c.args.t.now ≡ Var c.in-Var.field-0 = c.in-Var.is in
+    let e : c.args.t.now ≡ Var c.in-Var.field-0 = (seen c.t.view_is c.in-Var.is) in
     rw e (sym (types_var (types_in c.args.s.now.w.now c.args.s.now.own) c.in-Var.field-0 (in_scope c.args.s.now.base.now c.args.scopes.now)))
 
 pub form_types-returns-in-Quote-clause-is : goal.form_types-returns-in-Quote-clause-is
 form_types-returns-in-Quote-clause-is t c =
-    let e : c.args.t.now ≡ Quote c.in-Quote.v = c.in-Quote.is in
+    let e : c.args.t.now ≡ Quote c.in-Quote.v = (seen c.t.view_is c.in-Quote.is) in
     rw (e, c.bit.ensures, c.kind_of.ensures) (sym (types_quote (types_in c.args.s.now.w.now c.args.s.now.own) c.in-Quote.v (in_scope c.args.s.now.base.now c.args.scopes.now)))
 
 pub form_types-returns-in-Call-clause-is : goal.form_types-returns-in-Call-clause-is
 form_types-returns-in-Call-clause-is t c =
-    call_cut (types_in c.args.s.now.w.now c.args.s.now.own) c.head_types.result c.args.t.now c.in-Call.f c.in-Call.ts (in_scope c.args.s.now.base.now c.args.scopes.now) c.in-Call.is
+    call_cut (types_in c.args.s.now.w.now c.args.s.now.own) c.head_types.result c.args.t.now c.in-Call.f c.in-Call.ts (in_scope c.args.s.now.base.now c.args.scopes.now) (seen c.t.view_is c.in-Call.is)
     (rw (← c.as_slice.ensures) c.head_types.ensures.is)
 
 pub other_call-returns-in_ok-masks-in-None-clause-is : goal.other_call-returns-in_ok-masks-in-None-clause-is

@@ -1,0 +1,6 @@
+use Rattle.std.proofs.Common.{◌≡◌, take}
+use Rattle.ap_term.proofs.terms.copy_symbols.Given as goal
+
+-- the symbols so far are copied
+abbrev pub invariant-loop-x : goal.invariant-loop-x
+invariant-loop-x l = l.out ≡ take l.x-index l.xs
