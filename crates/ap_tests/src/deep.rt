@@ -2,7 +2,9 @@
 //! them. A reader stops at 400 lists within each other, and a translation at 4,096 nodes. The steps of `rt try`
 //! take more stack than those of a built program, so there the first of these tests runs out of it.
 use ap_print::print_term;
-use ap_term::{NoMemory, Seq, Shape, Term, Value, copy_term, copy_terms, owned, same_term, size, term_less};
+use ap_term::{
+    NoMemory, Seq, Shape, Term, Value, copy_term, copy_terms, owned, same_term, size, term_less,
+};
 use ap_value::acl2;
 use std::alloc::{AllocError, Global};
 use std::test::Fail;
@@ -117,9 +119,11 @@ fn shared(alloc: Global, is_alone: bool) -> Result<Seq<Term>, NoMemory> {
 /// How many arguments the last of terms has, which are taken from it, and the nodes of the term before it.
 fn taken(alloc: Global, mut ts: Seq<Term>) -> Result<(usize, Option<u64>), NoMemory> {
     match ts.pop() {
-        Some(Term {
-            shape: Shape::Call(_head, arguments),
-        }) => {
+        Some(
+            Term {
+                shape: Shape::Call(_head, arguments),
+            },
+        ) => {
             let count = owned(alloc, arguments)?.len();
             Ok((count, ts.as_slice().first().and_then(|t| size(t))))
         }

@@ -124,9 +124,15 @@ fn of_terms(alloc: Global, word: &str, row: &[Term]) -> Result<Bytes, NoMemory> 
     match (word, row) {
         ("flat", [t]) => clauses::flattened(alloc, t),
         ("match", [pattern, t, start @ ..]) => matches::matched(alloc, pattern, t, start),
-        ("instances", [Term { shape: Shape::Call(_, s) }, ts @ ..]) => {
-            matches::instances(alloc, s.as_slice(), ts)
-        }
+        (
+            "instances",
+            [
+                Term {
+                    shape: Shape::Call(_, s),
+                },
+                ts @ ..,
+            ],
+        ) => { matches::instances(alloc, s.as_slice(), ts) }
         ("vars", [t]) => matches::variables(alloc, t),
         ("assume", [t]) => kernel::assumed(alloc, t),
         _ => Err(AllocError),

@@ -123,7 +123,14 @@ fn is_same_sides(t: &Term) -> bool {
 fn are_sevens(terms: &[Term]) -> bool {
     matches!(
         terms,
-        [Term { shape: Shape::Quote(Value::Int(7)) }, Term { shape: Shape::Quote(Value::Int(7)) }]
+        [
+            Term {
+                shape: Shape::Quote(Value::Int(7))
+            },
+            Term {
+                shape: Shape::Quote(Value::Int(7))
+            }
+        ]
     )
 }
 
