@@ -8,3 +8,4 @@ pub mod Steps
 pub mod Depth
 pub mod Overflow
 pub mod Costs
+pub mod Known
