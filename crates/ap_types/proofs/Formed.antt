@@ -1,12 +1,12 @@
 -- What the table gives at a variable, a constant and a call.
-use Rattle.std.proofs.Common.{◌≡◌, ℕ, true, false, ◌≤◌, zero, suc, List, [], ◌∷◌, map, Option, Some, None, Result, Ok, Err, IfOk, length, ◌<◌, get_or, refl, ap, sym, ◌∙◌, arith}
+use Rattle.std.proofs.Common.{◌≡◌, ℕ, true, false, ◌+◌, ◌≤◌, zero, suc, List, [], ◌∷◌, map, Option, Some, None, Result, Ok, Err, IfOk, length, ◌<◌, get_or, refl, ap, sym, ◌∙◌, arith}
 use Rattle.ap_value.specs.declared.symbol.Symbol.{Symbol}
 use Rattle.ap_value.specs.declared.value.Value.{Value}
 use Rattle.ap_value.specs.Values.{val_of}
 use Rattle.ap_term.specs.declared.term.Term.{Term, Var, Quote, Call}
 use Rattle.ap_list.specs.Lists.{sum_of}
-use Rattle.ap_term.specs.Terms.{term_size}
-use Rattle.ap_term.proofs.Induction.{para_var, para_quote, para_call}
+use Rattle.ap_term.specs.Terms.{size_step, term_size}
+use Rattle.ap_term.proofs.Induction.{fold_call, para_var, para_quote, para_call}
 use Rattle.ap_world.specs.declared.primitive.Primitive.{Primitive as Prim}
 use Rattle.ap_world.specs.declared.primitive.Primitive.TheVariants.{If}
 use Rattle.ap_world.specs.Primitives.{prim_of}
@@ -24,6 +24,10 @@ pub item_size : (ts : List Term) (i : ℕ) (u : Term) → i < length ts → u �
 item_size [] i u l h = absurd (omega arith)
 item_size (t ∷ ts) zero u l h = rw h (omega arith)
 item_size (t ∷ ts) (suc i) u l h = let le = item_size ts i u (omega arith) h in omega arith
+
+-- a call is larger than its arguments together
+pub call_size : (u : Term) (f : Symbol) (ts us : List Term) → u ≡ Call f ts → us ≡ ts → term_size u ≡ sum_of (map term_size us) + 1
+call_size u f ts us e same = ap term_size e ∙ fold_call size_step f ts ∙ ap (λ vs. sum_of (map term_size vs) + 1) (sym same)
 
 no_parts_one : {A : Type 0} (o : Option Prim) (a : A) → if_parts o (a ∷ []) ≡ None
 no_parts_one (Some If) a = refl

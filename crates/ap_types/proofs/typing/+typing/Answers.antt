@@ -4,7 +4,7 @@ use Rattle.ap_term.proofs.Seen.{seen}
 use Rattle.ap_world.specs.Typing.{types_by, if_parts, call_types}
 use Rattle.ap_types.specs.Scopes.{in_scope}
 use Rattle.ap_types.specs.Settings.{types_in}
-use Rattle.ap_types.proofs.Formed.{item_size, types_var, types_quote, call_cut, head_other}
+use Rattle.ap_types.proofs.Formed.{item_size, call_size, types_var, types_quote, call_cut, head_other}
 use Rattle.ap_types.proofs.typing.+typing.Goals as goal
 
 pub form_types-returns-in-Var-clause-is : goal.form_types-returns-in-Var-clause-is
@@ -36,4 +36,9 @@ other_call-returns-in_ok-masks-in-None-clause-is t c =
 pub masks_of-types_at-requires : goal.masks_of-types_at-requires
 masks_of-types_at-requires t c =
     let le = item_size c.args.ts.now c.loop-t.t-index c.t-item.result c.loop-t-test.true c.t-item.is in
+    omega arith
+
+pub form_types-head_types-requires : goal.form_types-head_types-requires
+form_types-head_types-requires t c =
+    let e = call_size c.args.t.now c.in-Call.f c.in-Call.ts c.as_slice.result.now (seen c.t.view_is c.in-Call.is) c.as_slice.ensures in
     omega arith
