@@ -14,7 +14,7 @@ use Rattle.ap_term.proofs.Induction.{term_ind, fold_var, fold_quote, fold_call, 
 use Rattle.ap_term.specs.Terms.{vars_after}
 use Rattle.ap_world.specs.Rules.{Renaming, Renames, same_bool, agrees, with_renaming, rename_all, rename_var, rename_call, rename_step}
 use Rattle.ap_world.proofs.Written.{vars_var, vars_quote, vars_call}
-use Rattle.ap_rules.specs.Renaming.{renamed_step, renamed, StandsIn, IsRenamed}
+use Rattle.ap_rules.specs.Renaming.{renamed_step, renamed, IsRenamed}
 
 abbrev pub R : Term → Renames
 R = fold-Term Renames rename_step

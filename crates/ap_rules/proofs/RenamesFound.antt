@@ -124,8 +124,16 @@ permutative r = (λ h. go (R r.lhs r.rhs []) refl h, renames_found r.lhs r.rhs)
     go (Some s) e h = found_renames r.lhs r.rhs s e
 
 -- a constant is itself with its variables renamed, and has none that isn't its own
-pub constant_renames : (v : Value) → true ≡ is_renaming (R (Quote v) (Quote v) [])
+constant_renames : (v : Value) → true ≡ is_renaming (R (Quote v) (Quote v) [])
 constant_renames v = ap is_renaming (sym (r_quote v (Quote v) [] ∙ ap (λ b. cond b (Some []) None) (term_eq-same (Quote v))))
 
-pub constant_binds : (v : Value) → true ≡ is_within symbol_eq (vars_after (Quote v) []) (vars_after (Quote v) [])
+constant_binds : (v : Value) → true ≡ is_within symbol_eq (vars_after (Quote v) []) (vars_after (Quote v) [])
 constant_binds v = ap (λ xs. is_within symbol_eq xs xs) (sym (vars_quote v []))
+
+-- and so are two terms that are this constant
+pub constants_rename : (v : Value) (a b : Term) → a ≡ Quote v → b ≡ Quote v → true ≡ is_renaming (R a b [])
+constants_rename v a b is is' = constant_renames v ∙ ap (λ u. is_renaming (R u (Quote v) [])) (sym is) ∙ ap (λ u. is_renaming (R a u [])) (sym is')
+
+pub constants_bind : (v : Value) (a b : Term) → a ≡ Quote v → b ≡ Quote v → true ≡ is_within symbol_eq (vars_after b []) (vars_after a [])
+constants_bind v a b is is' =
+    constant_binds v ∙ ap (λ u. is_within symbol_eq (vars_after (Quote v) []) (vars_after u [])) (sym is) ∙ ap (λ u. is_within symbol_eq (vars_after u []) (vars_after a [])) (sym is')
