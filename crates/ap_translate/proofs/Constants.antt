@@ -1,10 +1,10 @@
 -- Lists of constants, and what is kept of them.
-use Rattle.std.proofs.Common.{◌≡◌, ◌≢◌, ℕ, ◌+◌, ◌-◌, ◌<◌, ◌≤◌, Bool, true, false, cond, nat_le, List, [], ◌∷◌, ◌++◌, length, get_or, drop, Option, Some, None, Ok, Err, suc, refl, sym, ap, ◌∙◌, add-one, drop-cons, arith}
+use Rattle.std.proofs.Common.{◌≡◌, ◌≢◌, ℕ, ℤ, ◌+◌, ◌-◌, ◌<◌, ◌≤◌, Bool, true, false, cond, nat_le, List, [], ◌∷◌, ◌++◌, length, get_or, drop, Option, Some, None, Ok, Err, suc, refl, sym, ap, ◌∙◌, add-one, drop-cons, arith}
 use Rattle.std.proofs.lemmas.Bool.Decides.{nat_tests}
 use Rattle.ap_value.specs.declared.symbol.Symbol.{Symbol}
 use Rattle.ap_value.specs.declared.value.Value.{Value, fold-Value, fold-roll-Value}
 use Rattle.ap_value.specs.declared.value.Value.TheOpen.{Value-F}
-use Rattle.ap_value.specs.declared.value.Value.TheVariants.{Sym, Cons, rolls-Sym, rolls-Cons}
+use Rattle.ap_value.specs.declared.value.Value.TheVariants.{Int, Chr, Sym, Cons, rolls-Int, rolls-Chr, rolls-Sym, rolls-Cons}
 use Rattle.ap_value.specs.Counts.{node_step, node_count}
 use Rattle.ap_world.specs.Names.{nil_name}
 use Rattle.ap_reader.specs.declared.form.Form.{Form}
@@ -19,9 +19,15 @@ pub conses_last : (vs : List Value) (v e : Value) → conses (vs ++ v ∷ []) e 
 conses_last [] v e = refl
 conses_last (w ∷ vs) v e = ap (Cons w) (conses_last vs v e)
 
--- the nodes of a symbol and of a cons
+-- the nodes of a symbol, a number, a character and a cons
 pub nodes_symbol : (s : Symbol) → node_count (Sym s) ≡ 1
 nodes_symbol s = ap (fold-Value ℕ node_step) (sym (rolls-Sym s)) ∙ fold-roll-Value ℕ node_step (Value-F.Sym s)
+
+pub nodes_int : (n : ℤ) → node_count (Int n) ≡ 1
+nodes_int n = ap (fold-Value ℕ node_step) (sym (rolls-Int n)) ∙ fold-roll-Value ℕ node_step (Value-F.Int n)
+
+pub nodes_chr : (c : ℕ) → node_count (Chr c) ≡ 1
+nodes_chr c = ap (fold-Value ℕ node_step) (sym (rolls-Chr c)) ∙ fold-roll-Value ℕ node_step (Value-F.Chr c)
 
 pub nodes_cons : (a b : Value) → node_count (Cons a b) ≡ node_count a + node_count b + 1
 nodes_cons a b = ap (fold-Value ℕ node_step) (sym (rolls-Cons a b)) ∙ fold-roll-Value ℕ node_step (Value-F.Cons a b)

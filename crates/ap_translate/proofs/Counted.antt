@@ -1,5 +1,5 @@
 -- Counts of nodes as far as they are at most 4,096, and the instance that they are counts of.
-use Rattle.std.proofs.Common.{◌≡◌, ℕ, ◌+◌, ◌<◌, ◌≤◌, Bool, true, false, cond, List, [], ◌∷◌, ◌++◌, map, zip, length, Option, Some, None, unwrap_or, refl, sym, ap, ◌∙◌, length-append, arith}
+use Rattle.std.proofs.Common.{◌≡◌, ℕ, ◌+◌, ◌<◌, ◌≤◌, Bool, true, false, cond, List, [], ◌∷◌, ◌++◌, map, zip, length, drop, get_or, Option, Some, None, unwrap_or, refl, sym, ap, ◌∙◌, length-append, arith}
 use Rattle.std.proofs.lemmas.Bool.Decides.{nat_tests}
 use Rattle.ap_list.specs.Lists.{lookup_by}
 use Rattle.ap_value.specs.declared.symbol.Symbol.{Symbol}
@@ -11,7 +11,8 @@ use Rattle.ap_term.specs.Terms.{term_size, subst_of, size_step}
 use Rattle.ap_term.proofs.Induction.{fold_var, fold_quote, fold_call}
 use Rattle.ap_value.proofs.Equals.{symbol_eq-true}
 use Rattle.ap_world.proofs.Written.{subst_var, subst_quote, subst_call}
-use Rattle.ap_translate.specs.Instances.{Kept, nodes_found, sum_two, sum_known, nodes_step, nodes_of, more_than, replaced_by, kept_pair, known_pairs, kept_instance, in_turn_by, kept_in_turn, kept_by}
+use Rattle.ap_translate.proofs.Constants.{at_form}
+use Rattle.ap_translate.specs.Instances.{Kept, nodes_found, sum_two, sum_known, nodes_step, nodes_of, at_most, more_than, replaced_by, kept_pair, known_pairs, kept_instance, in_turn_by, kept_in_turn, kept_by}
 
 -- so many more are counted where they are at most 4,096
 pub counted_low : (n m : ℕ) → n + m ≤ 4096 → Some (n + m) ≡ more_than n (Some m)
@@ -24,6 +25,28 @@ pub counted_none : (n : ℕ) → None ≡ more_than n None
 counted_none n = refl
 
 pub ruleset more_thans = (counted_low, counted_past, counted_none)
+
+-- what is counted, and more behind it
+pub then_counted : (n m : ℕ) (o p : Option ℕ) → Some m ≡ more_than n o → more_than m p ≡ more_than n (sum_two o p)
+then_counted n m None p h = cc
+then_counted n m (Some k) None h = refl
+then_counted n m (Some k) (Some j) h = let e : m + j ≡ n + (k + j) = grind (arith, nat_tests) in ap (λ x. at_most (Some x)) e
+
+pub then_past : (n : ℕ) (o p : Option ℕ) → None ≡ more_than n o → None ≡ more_than n (sum_two o p)
+then_past n None p h = refl
+then_past n (Some k) None h = refl
+then_past n (Some k) (Some j) h = grind (arith, nat_tests)
+
+-- the next one of some terms, counted and past
+pub next_counted : (g : Term → Option ℕ) (ts : List Term) (i n m : ℕ) (t : Term) (whole : Option ℕ) → i < length ts → t ≡ get_or ts i t → Some m ≡ more_than n (g t)
+    → more_than n (sum_known (map g (drop i ts))) ≡ whole → more_than m (sum_known (map g (drop (i + 1) ts))) ≡ whole
+next_counted g ts i n m t whole within at made so_far =
+    then_counted n m (g t) (sum_known (map g (drop (i + 1) ts))) made ∙ ap (λ us. more_than n (sum_known (map g us))) (sym (at_form ts i t within at)) ∙ so_far
+
+pub next_past : (g : Term → Option ℕ) (ts : List Term) (i n : ℕ) (t : Term) (whole : Option ℕ) → i < length ts → t ≡ get_or ts i t → None ≡ more_than n (g t)
+    → more_than n (sum_known (map g (drop i ts))) ≡ whole → None ≡ whole
+next_past g ts i n t whole within at past so_far =
+    then_past n (g t) (sum_known (map g (drop (i + 1) ts))) past ∙ ap (λ us. more_than n (sum_known (map g us))) (sym (at_form ts i t within at)) ∙ so_far
 
 -- the nodes at a variable, a constant and a call
 pub nodes_var : (s : Kept) (x : Symbol) → nodes_of s (Var x) ≡ nodes_found (lookup_by symbol_eq s x)

@@ -40,7 +40,6 @@ use Rattle.ap_translate.specs.Rows.{nil_term, t_term, integer_term, call_1, call
 use Rattle.ap_translate.specs.Shapes.{Arm, alone, pair, otherwise, arm_in, Bind, binding_in, Scope}
 use Rattle.ap_translate.specs.Plans.{Plan, empty, quotation, build, arms, bind, apply, arity_of, arity_in, plan_in}
 use Rattle.ap_translate.specs.Table.{Bound, with_bound, Readers, constant_term, variable_term, symbol_term, variable, variables, bindings, scope_of, body_of, let_term, lambda_term, arm_term, arms_term, quoted_term, plan_term, term_layer, part_layer, piece_layer, readers, term_in, within}
-use Rattle.ap_translate.specs.Sizes.{small, capped}
 use Rattle.ap_translate.specs.Laws.{HasMacroFunctions}
 use Rattle.ap_translate.proofs.Makings.{each_length}
 use Rattle.ap_translate.proofs.Bindings.{named_length}

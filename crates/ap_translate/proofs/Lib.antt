@@ -10,6 +10,7 @@ pub mod Grown
 pub mod Kept
 pub mod Laws
 pub mod Layers
+pub mod Literals
 pub mod Makings
 pub mod More
 pub mod Nestings

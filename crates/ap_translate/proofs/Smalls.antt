@@ -1,9 +1,9 @@
 -- Terms of one node, and constants.
-use Rattle.std.proofs.Common.{◌≡◌, ◌<◌, ◌≤◌, Option, Some, None, Ok, Err, option_map, cond, nat_le, Bool, true, false, refl, ap, ◌∙◌, arith}
+use Rattle.std.proofs.Common.{◌≡◌, ℕ, ℤ, ◌<◌, ◌≤◌, Option, Some, None, Ok, Err, option_map, cond, nat_le, Bool, true, false, refl, ap, ◌∙◌, arith}
 use Rattle.std.proofs.lemmas.Bool.Decides.{nat_tests}
 use Rattle.ap_value.specs.declared.symbol.Symbol.{Symbol}
 use Rattle.ap_value.specs.declared.value.Value.{Value}
-use Rattle.ap_value.specs.declared.value.Value.TheVariants.{Sym}
+use Rattle.ap_value.specs.declared.value.Value.TheVariants.{Int, Chr, Sym}
 use Rattle.ap_value.specs.Counts.{node_count}
 use Rattle.ap_term.specs.declared.term.Term.{Term, Var, Quote}
 use Rattle.ap_term.specs.Terms.{size_step, term_size}
@@ -11,7 +11,7 @@ use Rattle.ap_term.proofs.Induction.{fold_var, fold_quote}
 use Rattle.ap_translate.specs.Answers.{Refusal, Answer}
 use Rattle.ap_translate.specs.Sizes.{small, small_value, capped}
 use Rattle.ap_translate.specs.Table.{quoted_term}
-use Rattle.ap_translate.proofs.Constants.{nodes_symbol}
+use Rattle.ap_translate.proofs.Constants.{nodes_symbol, nodes_int, nodes_chr}
 
 pub size_var : (x : Symbol) → term_size (Var x) ≡ 1
 size_var x = fold_var size_step x
@@ -30,6 +30,12 @@ var_kept x = small_some (Var x) (omega (arith, size_var x))
 
 pub symbol_kept : (s : Symbol) → small (Quote (Sym s)) ≡ Some (Quote (Sym s))
 symbol_kept s = small_some (Quote (Sym s)) (omega (arith, size_quote (Sym s), nodes_symbol s))
+
+pub int_kept : (n : ℤ) → small (Quote (Int n)) ≡ Some (Quote (Int n))
+int_kept n = small_some (Quote (Int n)) (omega (arith, size_quote (Int n), nodes_int n))
+
+pub chr_kept : (c : ℕ) → small (Quote (Chr c)) ≡ Some (Quote (Chr c))
+chr_kept c = small_some (Quote (Chr c)) (omega (arith, size_quote (Chr c), nodes_chr c))
 
 pub quote_kept : (v : Value) → node_count v ≤ 4096 → small (Quote v) ≡ Some (Quote v)
 quote_kept v h = small_some (Quote v) (omega (arith, size_quote v))

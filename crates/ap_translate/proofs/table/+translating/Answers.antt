@@ -1,11 +1,12 @@
-use Rattle.std.proofs.Common.{◌∷◌, [], List, Some, Ok, true, sym, ap, ◌∙◌, subst, arith, rules}
+use Rattle.std.proofs.Common.{◌≡◌, ◌∷◌, [], List, Some, Ok, true, sym, ap, ◌∙◌, subst, arith, rules}
 use Rattle.ap_term.specs.Terms.{term_size}
 use Rattle.ap_reader.specs.declared.form.Form.{Form}
 use Rattle.ap_reader.specs.declared.form.Body.{out-Body}
 use Rattle.ap_reader.specs.declared.form.Body.TheOpen.{Body-F}
-use Rattle.ap_term.specs.declared.term.Term.{Term}
+use Rattle.ap_value.specs.declared.value.Value.TheVariants.{Int}
+use Rattle.ap_term.specs.declared.term.Term.{Term, Quote}
 use Rattle.ap_value.specs.declared.symbol.Symbol.{Symbol}
-use Rattle.ap_reader.specs.declared.form.Body.TheVariants.{outs-List, outs-Quoted, outs-Quasi, outs-Comma, outs-CommaAt}
+use Rattle.ap_reader.specs.declared.form.Body.TheVariants.{outs-Int, outs-Chr, outs-Str, outs-Sym, outs-List, outs-Quoted, outs-Quasi, outs-Comma, outs-CommaAt}
 use Rattle.ap_translate.specs.Answers.{Answer, ◌>>=◌, each, Fails}
 use Rattle.ap_translate.specs.Rows.{pieced}
 use Rattle.ap_translate.specs.Shapes.{arm_seen, bind_seen, scope_seen}
@@ -19,6 +20,7 @@ use Rattle.ap_translate.proofs.Constants.{at_form}
 use Rattle.ap_translate.proofs.Fails.{gives_err, gives_same, bad_fails, same_fails, then_fails, capped_fails, fails_capped}
 use Rattle.ap_translate.proofs.Kept.{next}
 use Rattle.ap_translate.proofs.Layers.{term_list, term_quoted, term_quasi, part_list, part_quoted, part_comma, piece_splice, term_list_none, term_quoted_none, term_quasi_none, part_list_none, part_quoted_none, part_comma_none, piece_splice_none}
+use Rattle.ap_translate.proofs.Literals.{term_int, term_chr, term_str, part_int, part_chr, part_str, part_symbol, plan_none}
 use Rattle.ap_translate.proofs.Makings.{plan_built, enough, list_pieced, one_pieced, piece_kept}
 use Rattle.ap_translate.proofs.Planning.{admitted, sensible}
 use Rattle.ap_translate.proofs.table.+translating.Goals as goal
@@ -258,3 +260,37 @@ plan_term-returns-in-Lambda t c =
     gives_same c.lambda.result _ _
     (ap (λ x. capped small (plan_term (level c.args.world.now.entries c.args.left) c.args.bound.now.names c.args.place (planned x))) c.in-Lambda.is)
     c.lambda.ensures
+
+pub term-returns-in-Int : goal.term-returns-in-Int
+term-returns-in-Int t c =
+    let made : c.quote.result ≡ Quote (Int c.in-Int.n) = search rules in
+    term_int c.args.world.now.entries c.args.left c.args.bound.now.names c.args.form.now c.in-Int.n c.quote.result (ap out-Body c.in-Int.is ∙ outs-Int c.in-Int.n) made
+
+pub term-returns-in-Chr : goal.term-returns-in-Chr
+term-returns-in-Chr t c =
+    term_chr c.args.world.now.entries c.args.left c.args.bound.now.names c.args.form.now _ _ (ap out-Body c.in-Chr.is ∙ outs-Chr _) c.quote-in-Chr.ensures
+
+pub term-returns-in_ok-string-in-Str : goal.term-returns-in_ok-string-in-Str
+term-returns-in_ok-string-in-Str t c =
+    term_str c.args.world.now.entries c.args.left c.args.bound.now.names c.args.form.now _ _ _ (ap out-Body c.in-Str.is ∙ outs-Str _) c.in_ok-string-in-Str.ensures c.quote-in-Str.ensures
+
+pub part-returns-in-Int : goal.part-returns-in-Int
+part-returns-in-Int t c =
+    let made : c.quote.result ≡ Quote (Int c.in-Int.n) = search rules in
+    part_int c.args.world.now.entries c.args.left c.args.bound.now.names c.args.form.now c.in-Int.n c.quote.result (ap out-Body c.in-Int.is ∙ outs-Int c.in-Int.n) made
+
+pub part-returns-in-Chr : goal.part-returns-in-Chr
+part-returns-in-Chr t c =
+    part_chr c.args.world.now.entries c.args.left c.args.bound.now.names c.args.form.now _ _ (ap out-Body c.in-Chr.is ∙ outs-Chr _) c.quote-in-Chr.ensures
+
+pub part-returns-in_ok-string-in-Str : goal.part-returns-in_ok-string-in-Str
+part-returns-in_ok-string-in-Str t c =
+    part_str c.args.world.now.entries c.args.left c.args.bound.now.names c.args.form.now _ _ _ (ap out-Body c.in-Str.is ∙ outs-Str _) c.in_ok-string-in-Str.ensures c.quote-in-Str.ensures
+
+pub part-returns-in_ok-copy_symbol-in-Sym : goal.part-returns-in_ok-copy_symbol-in-Sym
+part-returns-in_ok-copy_symbol-in-Sym t c =
+    part_symbol c.args.world.now.entries c.args.left c.args.bound.now.names c.args.form.now _ _ _ (ap out-Body c.in-Sym.is ∙ outs-Sym _) c.in_ok-copy_symbol-in-Sym.ensures c.quote-in-Sym.ensures
+
+pub plan_term-returns-in_ok-nil_term-in-Empty : goal.plan_term-returns-in_ok-nil_term-in-Empty
+plan_term-returns-in_ok-nil_term-in-Empty t c =
+    plan_none (level c.args.world.now.entries c.args.left) c.args.bound.now.names c.args.place (planned c.args.asked) _ (ap planned c.in-Empty.is) c.in_ok-nil_term-in-Empty.ensures
