@@ -2,9 +2,12 @@
 use Rattle.std.proofs.Common.{◌≡◌, ℕ, true, List, length, Option, Some, None, IfSome, unwrap_or, refl, sym, ap, ◌∙◌, subst}
 use Rattle.std.specs.Option.{ForSome}
 use Rattle.ap_value.specs.declared.symbol.Symbol.{Symbol}
-use Rattle.ap_term.specs.declared.term.Term.{Term, Call, out-Term}
+use Rattle.ap_term.specs.declared.term.Term.{Term, Var, Quote, Call, out-Term}
 use Rattle.ap_term.specs.declared.term.Term.TheOpen.{Term-F}
-use Rattle.ap_term.specs.declared.term.Term.TheVariants.{outs-Call}
+use Rattle.ap_term.specs.declared.term.Term.TheVariants.{outs-Var, outs-Quote, outs-Call}
+use Rattle.ap_term.specs.declared.shape.Shape.{Shape}
+use Rattle.ap_term.specs.declared.shape.Shape.TheVariants as shape
+use Rattle.ap_term.specs.Shapes.{plain_of}
 use Rattle.ap_term.specs.Metered.{after, mapped, first_that}
 use Rattle.ap_world.specs.Meaning.{Defs}
 use Rattle.ap_world.specs.World.{Shown}
@@ -49,3 +52,13 @@ head_takes D f us qs k e = subst (λ n. is_head D f (prim_of f) n ≡ true) (sym
 -- from the term itself
 pub each_from : (w : Shown) (o : Mode) (c : Ctx) (x a : Term) (b : Option Equiv) → x ≡ a → IfSome b (From w o c x) → ForSome b (From w o c a)
 each_from w o c x a b e h = λ q i. from_at w o c x a q e (subst (λ b. IfSome b (From w o c x)) i h)
+
+-- what contracts see as a call, code sees as one
+pub seen_as_call : (s : Shape) (f : Symbol) (us : List Term) → plain_of s ≡ Call f us → ((g : Symbol) (vs : List Term) → s ≡ shape.Call g vs → ⊥) → ⊥
+seen_as_call (shape.Var x) f us is other =
+    let e : Term-F.Var x ≡ Term-F.Call f us = sym (outs-Var x) ∙ ap out-Term is ∙ outs-Call f us in
+    absurd cc
+seen_as_call (shape.Quote v) f us is other =
+    let e : Term-F.Quote v ≡ Term-F.Call f us = sym (outs-Quote v) ∙ ap out-Term is ∙ outs-Call f us in
+    absurd cc
+seen_as_call (shape.Call g vs) f us is other = other g vs refl

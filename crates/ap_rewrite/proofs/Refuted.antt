@@ -5,7 +5,7 @@ use Rattle.ap_list.specs.Lists.{Each, lookup_by}
 use Rattle.ap_value.specs.declared.symbol.Symbol.{Symbol}
 use Rattle.ap_value.specs.Values.{symbol_eq}
 use Rattle.ap_value.proofs.Equals.{symbol_eq-true}
-use Rattle.ap_term.specs.declared.term.Term.{Term, Call}
+use Rattle.ap_term.specs.declared.term.Term.{Term, Call, out-Term}
 use Rattle.ap_term.specs.declared.term.Term.TheVariants.{outs-Call}
 use Rattle.ap_term.specs.Metered.{Got}
 use Rattle.ap_world.specs.declared.entry.Mask.{Mask}
@@ -30,7 +30,7 @@ use Rattle.ap_kernel.specs.declared.objects.Sequent.{Sequent}
 use Rattle.ap_kernel.specs.declared.objects.Equiv.{Equiv}
 use Rattle.ap_kernel.specs.declared.objects.Mode.TheVariants.{Equal}
 use Rattle.ap_kernel.specs.Equations.{equal_of, truth_constant}
-use Rattle.ap_kernel.specs.Linear.{is_comparison, less_of, refuted_made, NeitherLess}
+use Rattle.ap_kernel.specs.Linear.{compares, form_compares, is_comparison, less_of, refuted_made, NeitherLess}
 use Rattle.ap_kernel.specs.Standing.{Stands}
 use Rattle.ap_rewrite.specs.Arithmetic.{is_usable}
 use Rattle.ap_rewrite.specs.Settings.{Setting, Place, Inner}
@@ -39,6 +39,7 @@ use Rattle.ap_rewrite.specs.Linear.{most_polys, bounds, given, with_rules, refut
 use Rattle.ap_rewrite.specs.Refuting.{Refutes, Squeezes, IntegersWithin}
 use Rattle.ap_rewrite.specs.Leading.{said_of}
 use Rattle.ap_rewrite.specs.Answering.{From, used_each}
+use Rattle.ap_rewrite.proofs.Froms.{call_parts}
 use Rattle.ap_rewrite.proofs.Ruled.{after_out, after_some}
 use Rattle.ap_rewrite.proofs.Triggers.{all_triggered}
 use Rattle.ap_rewrite.proofs.LinearUsed.{Triggered, found_all}
@@ -140,6 +141,14 @@ equal_compares a b = rw (outs-Call equal_name (a ∷ b ∷ []), prim_of_equal) r
 
 pub less_known : (D : Defs) (a b : Term) → known D a ≡ true → known D b ≡ true → known D (less_of a b) ≡ true
 less_known D a b ka kb = known_by D less_name (a ∷ b ∷ []) (rw prim_of_less refl) (true_each (known D) (a ∷ b ∷ []) (ka, (kb, tt)))
+
+pub call_compares : (u : Term) (f : Symbol) (us : List Term) → u ≡ Call f us → prim_of f ≡ Some prim.Less → is_comparison u ≡ true
+call_compares u f us e p = ap is_comparison e ∙ ap form_compares (outs-Call f us) ∙ ap compares p
+
+pub sides_known : (D : Defs) (u a b : Term) → known D u ≡ true → u ≡ equal_of a b → (known D a ≡ true) × (known D b ≡ true)
+sides_known D u a b k e =
+    let ks = call_parts D equal_name (a ∷ b ∷ []) (subst (λ x. known D x ≡ true) e k) in
+    (ks.0, ks.1.0)
 
 -- what is answered, by what is refuted
 module _ (S : Setting) (r : Inner) (p : Place) (u : Term) (n m : ℕ) where

@@ -1,6 +1,10 @@
 use Rattle.std.proofs.Common.{Some, ap, sym, ◌∙◌}
-use Rattle.ap_rewrite.proofs.Refuted.{two_of, equation_of}
+use Rattle.ap_rewrite.proofs.Refuted.{two_of, equation_of, call_compares}
 use Rattle.ap_rewrite.proofs.arithmetic.compared.Goals as goal
+
+pub by_less-requires-clause-comparison : goal.by_less-requires-clause-comparison
+by_less-requires-clause-comparison g c =
+    call_compares c.args.t.now c.args.f.now c.args.us.now c.requires.call (sym c.primitive_of.ensures ∙ c.in-Some-Less.is ∙ ap Some c.in-Some-Less.field-0-is)
 
 pub by_equation-requires-clause-equation : goal.by_equation-requires-clause-equation
 by_equation-requires-clause-equation g c =

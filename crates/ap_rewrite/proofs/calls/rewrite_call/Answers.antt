@@ -4,7 +4,7 @@ use Rattle.ap_term.proofs.Seen.{seen}
 use Rattle.ap_world.specs.Sound.{known}
 use Rattle.ap_rewrite.specs.Answering.{defs_in, where_applied, setting_of, inner_of, seen_at, right_of}
 use Rattle.ap_rewrite.proofs.Froms.{call_parts, from_own, from_at, followed_from, right_known}
-use Rattle.ap_rewrite.proofs.Called.{call_is, call_out, arguments_out, head_takes, each_from}
+use Rattle.ap_rewrite.proofs.Called.{call_is, call_out, arguments_out, head_takes, each_from, seen_as_call}
 use Rattle.ap_rewrite.proofs.calls.rewrite_call.Goals as goal
 
 pub rewrite_args-requires-clause-terms : goal.rewrite_args-requires-clause-terms
@@ -34,7 +34,7 @@ pub tried-requires-clause-call : goal.tried-requires-clause-call
 tried-requires-clause-call g c = (seen c.call.view_is c.in-Call.is) ∙ ap (Call c.in-Call.g) (sym c.as_slice.ensures)
 
 pub unreachable-requires : goal.unreachable-requires
-unreachable-requires g c = c.in_default-call.not-Call _ _ (c.rhs-call.ensures ∙ c.in_ok-first.ensures.is)
+unreachable-requires g c = seen_as_call _ _ _ (c.call.view_is ∙ c.rhs-call.ensures ∙ c.in_ok-first.ensures.is) c.in_default-shape.not-Call
 
 pub followed-requires-clause-first : goal.followed-requires-clause-first
 followed-requires-clause-first g c = from_own _ _ _ _ _ c.in_ok-first.ensures.from
