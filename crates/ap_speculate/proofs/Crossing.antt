@@ -1,11 +1,7 @@
 -- That a goal table may be shared among threads, where its tasks may cross: each type from its parts.
 -- Of a word and of a seat of it the caller's proof knows it.
-use Rattle.std.specs.Prelude.{ℕ}
-use mir.Syntax.{of_param}
 use denote.RattleType.{RattleType}
-use denote.Exit.{yes, unseen}
-use denote.Param.{param}
-use denote.Param.Send.{IsSend, IsSync, Quiet-if, sendable}
+use denote.Param.Send.{IsSend, IsSync, sendable}
 use denote.Param.SendFields.{declared_send}
 use Rattle.std.proofs.Crossing.{crosses}
 use Rattle.ap_list.specs.contracts.seq.Seq as seq
@@ -24,10 +20,6 @@ use Rattle.ap_table.specs.contracts.nodes.Nodes as nodes
 use Rattle.ap_table.specs.contracts.state.TableState as state
 use Rattle.ap_table.specs.contracts.table.Held as held
 use Rattle.ap_table.specs.contracts.table.GoalTable as table
-
--- a parameter that crosses under one number does so under another
-pub renumbered_send : (i j : ℕ) (R : RattleType) → IsSend (param i R) → IsSend (param j R)
-renumbered_send i j R s = record { owned = s.owned; leaving = λ k. Quiet-if (k (of_param j)) (R.exit yes) unseen (s.leaving yes) (λ x w. tt) }
 
 seq_send : (R : RattleType) → IsSend R → IsSend (seq.the_row R)
 seq_send R r = search (sendable, crosses) depth 40 fits 100000

@@ -13,19 +13,23 @@ use ap_walk::Step;
 use ap_word::{FamilyWord, WordSeat};
 use std::alloc::Global;
 use std::sync::Wait;
-use std::thread::{Builder, Scope, Threads};
+use std::thread::{Builder, JoinHandle, Scope, Threads};
 
 /// The stack of a worker's thread, whatever the system gives threads. Its pages are taken only where they are reached.
 const WORKER_STACK: usize = 256 * 1024 * 1024;
 
-/// That a type may cross to another thread, as a fact of the caller's proof. Costs nothing.
-fn may_cross<T: Send>()
-    ensures { IsSend T.row }
-{}
-
-/// That a type may be shared among threads, in the same way.
-fn may_be_shared<T: Sync>()
-    ensures { IsSync T.row }
+/// Which of these types may cross to another thread, and which may be shared among threads, as facts of the caller's
+/// proof. Costs nothing.
+fn may_cross<W: Send + Sync, V: Send, H: Send, O: Send, T: Send, S: Sync, G: Sync, R: Sync>()
+    ensures word { IsSend W.row }
+    ensures shared_word { IsSync W.row }
+    ensures seat { IsSend V.row }
+    ensures hands { IsSend H.row }
+    ensures own { IsSend O.row }
+    ensures task { IsSend T.row }
+    ensures step { IsSync S.row }
+    ensures gate { IsSync G.row }
+    ensures handle { IsSync R.row }
 {}
 
 /// What a further worker begins with, where there are more goals than workers, and a deque is spare for it: that gets the
@@ -55,6 +59,19 @@ fn further<S: Step>(
     })
 }
 
+/// The number of a further worker: behind it stand those that the worker who starts it may still begin.
+fn number_after(worker: u32, spare: &Vec<Hand>) -> u32 {
+    let behind = u32::try_from(spare.len()).unwrap_or(u32::MAX);
+    worker.saturating_add(1).saturating_add(behind)
+}
+
+/// Joins threads, in the order in which they were started.
+fn join_all<R: Threads>(rt: &R, threads: Vec<JoinHandle<()>>) {
+    for thread in threads {
+        thread.join(rt);
+    }
+}
+
 /// Works at a table until its root is done or the table is halted. Before each turn the worker starts a thread for a
 /// further one, as long as there are more goals than workers and deques are spare: that gets half of these, by which it
 /// starts threads itself. Where a thread can't be made the workers that are there do the work. Every thread is joined.
@@ -74,23 +91,13 @@ pub(crate) fn work<'s, E, S: Step + Sync, G: Gate + Sync, R: Threads + Wait + Sy
 where
     S::Task: Send,
 {
-    may_cross::<FamilyWord>();
-    may_be_shared::<FamilyWord>();
-    may_cross::<WordSeat>();
-    may_cross::<Hands>();
-    may_cross::<Hand>();
-    may_cross::<S::Task>();
-    may_be_shared::<S>();
-    may_be_shared::<G>();
-    may_be_shared::<R>();
+    may_cross::<FamilyWord, WordSeat, Hands, Hand, S::Task, S, G, R>();
     let mut supply = supply;
     let mut spare = spare;
     let mut threads = Vec::new(alloc);
     for _ in rt.forever() {
         if let Some(begun) = further(alloc, &mut supply, &mut spare, counts) {
-            let number = worker
-                .saturating_add(1)
-                .saturating_add(u32::try_from(spare.len()).unwrap_or(u32::MAX));
+            let number = number_after(worker, &spare);
             if threads.reserve(1).is_ok() {
                 let started = Builder::new().stack_size(WORKER_STACK).spawn_scoped(
                     scope,
@@ -124,7 +131,5 @@ where
             break;
         }
     }
-    for thread in threads {
-        thread.join(rt);
-    }
+    join_all(rt, threads);
 }

@@ -11,8 +11,3 @@ decreases-work g l = vec_len l.spare
 abbrev pub invariant-loop : goal.invariant-loop
 invariant-loop g l =
     (goal.iterator-loop g).can_next l.iterator' × (goal.iterator-loop g).is_finite l.iterator' × (vec_len l.spare ≤ vec_len l.fn.spare)
-
-abbrev pub invariant-loop-thread : goal.invariant-loop-thread
-invariant-loop-thread g l =
-    (goal.iterator-loop-thread g).can_next l.thread-iterator ×
-    (goal.iterator-loop-thread g).is_finite l.thread-iterator
