@@ -27,10 +27,11 @@
 //!
 //! # Workers and threads
 //!
-//! The caller is worker 0 and takes the first turn alone. Before each later turn it starts one thread more where there are
-//! more goals to be worked than workers, up to the number that is asked for and 64 at most; where the system gives no
-//! thread, those that are there do the work. It joins each thread before it answers. Where the root is then not done, as
-//! after a want of memory, the caller makes a new table and works it alone.
+//! The caller is worker 0 and takes the first turn alone. Before each later turn a worker starts one thread more where there
+//! are more goals to be worked than workers, up to the number that is asked for and 64 at most: it gives that half of the
+//! deques that are left to it for workers, so that threads are started wherever a goal splits. Where the system gives no
+//! thread, those that are there do the work. A worker joins each thread that it started. Where the root is then not done,
+//! as after a want of memory, the caller makes a new table and works it alone.
 //!
 //! `ap_attempt` calls [`speculate_from`], with the root's step, which isn't taken again. It has gone down alone before, as
 //! long as each task splits into one at most: so a walk that never splits comes here not at all.
@@ -38,8 +39,8 @@
 //! # What is kept, and by whom
 //!
 //! Nothing from one walk to the next. Within one the table has the nodes and the words; each worker has its side of a
-//! deque (`ap_deal`), the thieves' sides of the others', and the job at hand, with the seats that the table cut for it. One
-//! number is shared besides, of goals that there are to work: threads are started by it and nothing else.
+//! deque (`ap_deal`), the thieves' sides of the others', and the job at hand, with the seats that the table cut for it. Two
+//! numbers are shared besides, of goals and of workers that there are: threads are started by them and nothing else.
 //!
 //! A number in a deque is a hint and no right: it may have been claimed by another who came by serial order, and is then
 //! passed over. A lost number costs nothing but order, since the first free node is found without deques.
@@ -52,11 +53,13 @@
 #![tactic(auto)]
 
 mod board;
+mod counts;
 mod gate;
 mod hands;
 mod job;
 mod looking;
 mod sharing;
+mod starting;
 mod supply;
 mod turn;
 mod visiting;

@@ -1,87 +1,42 @@
 //! Workers that share a goal table.
 ghost use Rattle.std.specs.Prelude.{◌≡◌, IfOk, IfSome};
-ghost use denote.Param.Send.{IsSend, IsSync};
 ghost use Rattle.ap_table.specs.Calls.{IsRootDone};
 
+use crate::counts::Counts;
 use crate::gate::Gate;
-use crate::hands::{Hands, deal_in};
+use crate::hands::{Begun, deal_in};
+use crate::starting::work;
 use crate::supply::Supply;
-use crate::turn::{goes_on, work, work_claimed};
+use crate::turn::{goes_on, work_claimed};
+use ap_deal::Hand;
 use ap_table::{Claim, GoalTable, TableState, begin, first};
 use ap_walk::{NoMemory, Rule, Step, Stepped};
-use ap_word::{FamilyWord, WordSeat};
 use std::alloc::Global;
 use std::sync::Wait;
-use std::sync::atomic::AtomicU64;
-use std::sync::atomic::Ordering::SeqCst;
-use std::thread::{Builder, Threads};
+use std::thread::Threads;
 use std::{mem, thread};
 
 /// The most workers at one table.
 const MOST_WORKERS: u32 = 64;
 
-/// The stack of a worker's thread, whatever the system gives threads. Its pages are taken only where they are reached.
-const WORKER_STACK: usize = 256 * 1024 * 1024;
-
-/// That a type may cross to another thread, as a fact of the caller's proof. Costs nothing.
-fn may_cross<T: Send>()
-    ensures { IsSend T.row }
-{}
-
-/// That a type may be shared among threads, in the same way.
-fn may_be_shared<T: Sync>()
-    ensures { IsSync T.row }
-{}
-
-/// Works at a table with other workers, once the caller took the first turn. There are at most as many workers as goals
-/// were made to be worked: the caller, before each turn, starts a thread for each one that is missing. Where no thread can
-/// be made the workers that are there do the work. Every thread is joined.
+/// Works at a table with other workers, once the caller took the first turn.
 fn work_with_others<S: Step + Sync, G: Gate + Sync, R: Threads + Wait + Sync>(
     rt: &R,
     alloc: Global,
     step: &S,
     table: &GoalTable<S>,
     supply: Supply<S>,
-    spare: Vec<Hands>,
-    goals: &AtomicU64,
+    spare: Vec<Hand>,
+    counts: &Counts,
     gate: &G,
 )
 where
     S::Task: Send,
 {
     thread::scope(thread::scope_env(), rt, |scope| {
-        may_cross::<FamilyWord>();
-        may_be_shared::<FamilyWord>();
-        may_cross::<WordSeat>();
-        may_cross::<Hands>();
-        let mut supply = supply;
-        let mut spare = spare;
-        let mut threads = Vec::new(alloc);
-        let mut next = 1u32;
-        for _ in rt.forever() {
-            if goals.load(SeqCst) > next as u64
-                && let Some(hands) = spare.pop()
-                && threads.reserve(1).is_ok()
-            {
-                let worker = next;
-                let started = Builder::new()
-                    .stack_size(WORKER_STACK)
-                    .spawn_scoped(scope, move || {
-                        work(rt, alloc, step, table, hands, goals, worker, gate)
-                    });
-                if let Ok(thread) = started {
-                    threads.push_reserved(thread);
-                }
-                next = next.saturating_add(1);
-                continue;
-            }
-            if !goes_on(rt, alloc, step, table, &mut supply, goals, None, 0, gate) {
-                break;
-            }
-        }
-        for thread in threads {
-            thread.join(rt);
-        }
+        work(
+            scope, rt, alloc, step, table, supply, spare, counts, 0, gate,
+        )
     })
 }
 
@@ -100,17 +55,13 @@ where
     S::Task: Send,
     requires { IfSome known (λ k. k.1 ≡ S.step_of k.0) }
 {
-    let Ok(mut spare) = deal_in(alloc, workers.clamp(1, MOST_WORKERS)) else {
+    let Ok(Begun { hands, spare }) = deal_in(alloc, workers.clamp(1, MOST_WORKERS)) else {
         return;
     };
-    spare.reverse();
-    let Some(own) = spare.pop() else {
-        return;
-    };
-    let mut supply = Supply::new(alloc, own);
-    let goals = AtomicU64::new(1);
-    if goes_on(rt, alloc, step, table, &mut supply, &goals, known, 0, gate) {
-        work_with_others(rt, alloc, step, table, supply, spare, &goals, gate);
+    let mut supply = Supply::new(alloc, hands);
+    let counts = Counts::new();
+    if goes_on(rt, alloc, step, table, &mut supply, &counts, known, 0, gate) {
+        work_with_others(rt, alloc, step, table, supply, spare, &counts, gate);
     }
 }
 

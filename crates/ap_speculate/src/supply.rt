@@ -5,7 +5,7 @@ ghost use Rattle.ap_table.specs.Steps.{Claims};
 ghost use Rattle.ap_table.specs.declared.stored.Claim.TheVariants as claim;
 ghost use Rattle.ap_speculate.specs.Turns.{WasClaimed};
 
-use crate::hands::Hands;
+use crate::hands::{Hands, sides};
 use ap_deal::{Dealer, Stolen};
 use ap_table::{Claim, GoalTable, Job};
 use ap_walk::{NoMemory, Step};
@@ -152,5 +152,10 @@ impl<S: Step> Supply<S> {
             }
         }
         Ok(())
+    }
+
+    /// A thief's side of each deque, for a further worker. The only error is want of memory.
+    pub(crate) fn sides(&mut self, alloc: Global) -> Result<Vec<Dealer>, NoMemory> {
+        sides(alloc, &mut self.hands.others)
     }
 }

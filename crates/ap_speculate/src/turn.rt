@@ -5,16 +5,14 @@ ghost use Rattle.ap_speculate.specs.Boards.{IsEnded, IsHandedBack};
 ghost use Rattle.ap_speculate.specs.Turns.{IsTurn};
 
 use crate::board::{Board, Shared};
+use crate::counts::Counts;
 use crate::gate::Gate;
-use crate::hands::Hands;
 use crate::job::{JobEnd, look_at_job, run_stepped, step_of};
 use crate::supply::{Children, Supply};
 use ap_table::{GoalTable, Grown, Job};
 use ap_walk::{NoMemory, Out, Step, Stepped};
 use std::alloc::{AllocError, Global};
 use std::sync::Wait;
-use std::sync::atomic::AtomicU64;
-use std::sync::atomic::Ordering::SeqCst;
 
 /// A node with so many families above it isn't expanded.
 const MOST_FAMILIES: usize = 3;
@@ -108,13 +106,6 @@ fn known_step<S: Step>(
     None
 }
 
-/// Adds a node's children to the number of goals that there are to be worked, in place of the node.
-fn add_goals(goals: &AtomicU64, children: Option<Children>) {
-    if let Some(Children { count, .. }) = children {
-        goals.fetch_add((count as u64).saturating_sub(1), SeqCst);
-    }
-}
-
 /// One turn at a table: works the next job, by its task's step where that is known, and deals its children, or waits
 /// until there is more. Answers whether there may be another turn: not where the root is done.
 fn turn<S: Step, G: Gate, R: Wait>(
@@ -123,7 +114,7 @@ fn turn<S: Step, G: Gate, R: Wait>(
     step: &S,
     table: &GoalTable<S>,
     supply: &mut Supply<S>,
-    goals: &AtomicU64,
+    counts: &Counts,
     known: Option<(S::Task, Stepped<S::Task>)>,
     worker: u32,
     gate: &G,
@@ -138,7 +129,7 @@ fn turn<S: Step, G: Gate, R: Wait>(
     let first = known_step(step, known, &job.task);
     let mut board = Shared { rt, table };
     let children = work_claimed(rt, alloc, step, &mut board, job, first, worker, gate)?;
-    add_goals(goals, children);
+    counts.add_goals(children);
     supply.deal(rt, table, children)?;
     Ok(true)
 }
@@ -151,7 +142,7 @@ pub(crate) fn goes_on<S: Step, G: Gate, R: Wait>(
     step: &S,
     table: &GoalTable<S>,
     supply: &mut Supply<S>,
-    goals: &AtomicU64,
+    counts: &Counts,
     known: Option<(S::Task, Stepped<S::Task>)>,
     worker: u32,
     gate: &G,
@@ -161,40 +152,11 @@ pub(crate) fn goes_on<S: Step, G: Gate, R: Wait>(
     if table.halted(rt) {
         return false;
     }
-    match turn(rt, alloc, step, table, supply, goals, known, worker, gate) {
+    match turn(rt, alloc, step, table, supply, counts, known, worker, gate) {
         Ok(more) => more,
         Err(_) => {
             table.halt(rt);
             false
-        }
-    }
-}
-
-/// Takes turns at a table until the root is done or the table is halted.
-pub(crate) fn work<S: Step, G: Gate, R: Wait>(
-    rt: &R,
-    alloc: Global,
-    step: &S,
-    table: &GoalTable<S>,
-    hands: Hands,
-    goals: &AtomicU64,
-    worker: u32,
-    gate: &G,
-) {
-    let mut supply = Supply::new(alloc, hands);
-    for _ in rt.forever() {
-        if !goes_on(
-            rt,
-            alloc,
-            step,
-            table,
-            &mut supply,
-            goals,
-            None,
-            worker,
-            gate,
-        ) {
-            return;
         }
     }
 }

@@ -1,5 +1,5 @@
-//! A gate that counts who passes, one that holds a job until another is done, and one that holds a job until it is to be
-//! dropped.
+//! A gate that counts who passes, one that holds a job until another is done, one that holds a worker until others have
+//! begun as many jobs, and one that holds a job until it is to be dropped.
 
 use ap_speculate::{Gate, Place};
 use std::sync::Wait;
@@ -107,6 +107,85 @@ impl Gate for Holding {
                     self.second_is_done.wake_one();
                 }
             }
+        }
+    }
+}
+
+/// How many jobs a worker begins before it is held, and how many each of the others has to begin until then.
+const MANY: u64 = 16;
+
+const ENOUGH: u64 = 8;
+
+/// Counts the jobs that each of four workers begins, and holds one that began 16 before its next until each began eight,
+/// for 10,000 turns at most. The last two words are 0 until all did, and until turns were used up, and 1 then.
+#[derive(Drop)]
+pub(crate) struct Sharing {
+    first: AtomicU64,
+    second: AtomicU64,
+    third: AtomicU64,
+    fourth: AtomicU64,
+    all_did: AtomicU64,
+    used_up: AtomicU64,
+}
+
+impl Sharing {
+    /// A gate that nobody has passed.
+    pub(crate) fn new() -> Sharing {
+        Sharing {
+            first: AtomicU64::new(0),
+            second: AtomicU64::new(0),
+            third: AtomicU64::new(0),
+            fourth: AtomicU64::new(0),
+            all_did: AtomicU64::new(0),
+            used_up: AtomicU64::new(0),
+        }
+    }
+
+    /// How many jobs each worker began.
+    pub(crate) fn counts(&self) -> (u64, u64, u64, u64) {
+        (
+            self.first.load(SeqCst),
+            self.second.load(SeqCst),
+            self.third.load(SeqCst),
+            self.fourth.load(SeqCst),
+        )
+    }
+
+    /// Whether all turns were used up.
+    pub(crate) fn is_used_up(&self) -> bool {
+        self.used_up.load(SeqCst) == 1
+    }
+
+    /// Counts a job of a worker. Answers how many it had begun before.
+    fn count(&self, worker: u32) -> u64 {
+        let word = match worker {
+            0 => &self.first,
+            1 => &self.second,
+            2 => &self.third,
+            _ => &self.fourth,
+        };
+        word.fetch_add(1, SeqCst)
+    }
+
+    /// Whether each worker began enough.
+    fn have_enough(&self) -> bool {
+        let (a, b, c, d) = self.counts();
+        a >= ENOUGH && b >= ENOUGH && c >= ENOUGH && d >= ENOUGH
+    }
+}
+
+impl Gate for Sharing {
+    fn pass<R: Wait>(&self, rt: &R, worker: u32, _goal: &[u8], place: Place) {
+        let Place::Begin = place else {
+            return;
+        };
+        let before = self.count(worker);
+        if self.have_enough() {
+            self.all_did.store(1, SeqCst);
+            self.all_did.wake_all();
+        }
+        if before >= MANY && !has_come(rt, &self.all_did) {
+            self.used_up.store(1, SeqCst);
         }
     }
 }

@@ -13,6 +13,8 @@ mod refusals;
 #[cfg(test)]
 mod shared;
 #[cfg(test)]
+mod shares;
+#[cfg(test)]
 mod tables;
 mod tree;
 #[cfg(test)]

@@ -1,4 +1,4 @@
-use Rattle.ap_speculate.proofs.sharing.fn.work_with_others.scope.Given as goal
+use Rattle.ap_speculate.proofs.starting.join_all.Given as goal
 
 abbrev pub invariant-loop-thread : goal.invariant-loop-thread
 invariant-loop-thread g l =
