@@ -5,3 +5,4 @@ pub mod Measuring
 pub mod Places
 pub mod Preparing
 pub mod Standing
+pub mod Symbols

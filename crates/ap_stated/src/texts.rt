@@ -12,6 +12,7 @@ use itoa::Buffer;
 use std::alloc::Global;
 
 /// The printed bytes of a symbol.
+#[tactic(auto, using(crate::proofs::Symbols::variable_text))]
 pub fn printed(alloc: Global, symbol: &Symbol) -> Result<Bytes, NoMemory>
     ensures { IfOk result (λ text. text ≡ symbol_text symbol.now) }
 {
