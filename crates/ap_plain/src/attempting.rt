@@ -1,6 +1,8 @@
 //! Attempts on clauses.
 ghost use Rattle.std.specs.Prelude.{◌≡◌, ◌++◌, ◌+◌, ◌<◌, ◌≤◌, ◌^◌, [], IfOk, true};
 ghost use denote.Param.Send.{IsSend, IsSync};
+ghost use Rattle.ap_term.specs.contracts.tree.Term as terms;
+ghost use Rattle.ap_value.specs.contracts.value.Value as values;
 ghost use Rattle.ap_world.specs.Meaning.{Valid};
 ghost use Rattle.ap_world.specs.Sound.{HasFunctions, Sound};
 ghost use Rattle.ap_world.specs.World.{are_distinct};
@@ -92,6 +94,16 @@ fn crosses<T: Send + Sync>()
     ensures sync { IsSync T.row }
 {}
 
+/// That terms and values may cross. Costs nothing.
+fn terms_cross()
+    ensures term_send { IsSend terms.the_row }
+    ensures term_sync { IsSync terms.the_row }
+    ensures value_sync { IsSync values.the_row }
+{
+    crosses::<Term>();
+    crosses::<Value>();
+}
+
 /// Works the attempt that starts from a task, its first walk by this rule. Where it doesn't fail, the task is good.
 #[tactic(auto, unfolding(crate::specs::Attempts::tried_from))]
 fn attempt_from<J: Planned + Send + Sync, R: Threads + Wait + Sync, G: Gate + Sync>(
@@ -104,8 +116,7 @@ fn attempt_from<J: Planned + Send + Sync, R: Threads + Wait + Sync, G: Gate + Sy
     ensures good { IfOk result (λ t. t.verdict ≡ Verdict.Qed → IsGood root.entry) }
     ensures alone { IfOk result (λ t. crew.now.workers ≤ 1 → t.drops ≡ []) }
 {
-    crosses::<Term>();
-    crosses::<Value>();
+    terms_cross();
     let prover = Proving {
         step: Acl2Step::new(root.plan, crew.workers),
     };

@@ -3,7 +3,8 @@
 //! take more stack than those of a built program, so there the first of these tests runs out of it.
 use ap_print::print_term;
 use ap_term::{
-    NoMemory, Seq, Shape, Term, Value, copy_term, copy_terms, owned, same_term, size, term_less,
+    NoMemory, Seq, Shape, Term, Value, copy_term, copy_terms, is_same, owned, same_term, size,
+    term_less,
 };
 use ap_value::acl2;
 use std::alloc::{AllocError, Global};
@@ -60,7 +61,7 @@ type Found = (bool, Option<u64>, usize);
 /// The same of a term, where the copy is dropped.
 fn looked_at(alloc: Global, t: &Term, other: &Term) -> Result<Found, NoMemory> {
     let shared = copy_term(alloc, t)?;
-    let one = same_term(&shared, other) && *t == *other && term_less(t, other) == Some(false);
+    let one = same_term(&shared, other) && is_same(t, other) && term_less(t, other) == Some(false);
     Ok((one, size(t), print_term(alloc, &shared)?.len()))
 }
 

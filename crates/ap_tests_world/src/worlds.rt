@@ -121,17 +121,17 @@ fn is_same_sides(t: &Term) -> bool {
 }
 
 fn are_sevens(terms: &[Term]) -> bool {
-    matches!(
-        terms,
-        [
-            Term {
-                shape: Shape::Quote(Value::Int(7))
-            },
-            Term {
-                shape: Shape::Quote(Value::Int(7))
-            }
-        ]
-    )
+    match terms {
+        [a, b] => is_seven(a) && is_seven(b),
+        _ => false,
+    }
+}
+
+fn is_seven(t: &Term) -> bool {
+    match &t.shape {
+        Shape::Quote(Value::Int(7)) => true,
+        _ => false,
+    }
 }
 
 /// The body of `not`: `(if p nil t)`.
