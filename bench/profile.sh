@@ -68,10 +68,10 @@ function plain(text,   id, rest) { # a name as the account has it, without the k
 function part(f) {
     if (f ~ /^(malloc|free|realloc|calloc|cfree|_int_|sysmalloc|systrim|unlink_chunk|tcache_|alloc_|rattle_(alloc|dealloc|realloc)|__?mem(cpy|move|set))/ ||
         f ~ /^(std_alloc::|ap_list::|indexmap::|core::slice::edits|ap_kernel::lists::|ap_kernel::objects::Equiv::from_copy)/ ||
-        f ~ /^ap_(term|value)::(term|value)::(copy|Term::call|Value::cons)/ || f ~ /::drop$/) return "memory"
-    if (f ~ /^(ap_term::term::same|ap_term::(compare|starts|counts|atoms)::|ap_value::symbol::(same|Symbol)|ap_value::value::same)/ ||
+        f ~ /^ap_(term|value)::(terms|tree|arguments|kept|hashes|value)::(copy|Term::|Arguments::|kept|mixed|symbol_hash|value_hash|Value::cons)/ || f ~ /::drop$/) return "memory"
+    if (f ~ /^(ap_term::terms::same|ap_term::(compare|starts|counts|atoms)::|ap_value::symbol::(same|Symbol)|ap_value::value::same)/ ||
         f ~ /^(core::cmp::|__memcmp|bcmp|ap_poly::parts::is_before)/) return "equality"
-    if (f ~ /^(ap_world::(shapes|primitive|runes|entries|theory)::|ap_term::term::size|ap_value::|ap_translate::names::is_named)/) return "lookup"
+    if (f ~ /^(ap_world::(shapes|primitive|runes|entries|theory)::|ap_term::terms::(size|walked_size)|ap_value::|ap_translate::names::is_named)/) return "lookup"
     if (f ~ /^(ap_types::|ap_kernel::types::|ap_world::recognisers::)/) return "types"
     if (f ~ /^(ap_poly::|ap_linear::|ap_kernel::linear::|ap_rules::shapes::first_atoms|__u(div|mod)ti3)/ ||
         f ~ /^ap_rewrite::(arithmetic|bounding|refuting|linear_rules)::/) return "linear"
@@ -100,8 +100,8 @@ END {
     print "" >shares
     steps = calls["ap_rewrite::rewriting::rewrite_levels"]
     printf "| %s | %d | %.0f | %d | %d | %d | %d | %d | %d | %d | %s |\n", book, steps, steps ? all / steps : 0,
-        calls["ap_types::typing::types_at"], calls["ap_term::term::same_term"], calls["ap_rewrite::arithmetic::refuted"],
-        calls["ap_poly::literal::of_literal"], calls["ap_clausify::splitting::go_on"], calls["ap_term::term::copy_term"],
+        calls["ap_types::typing::types_at"], calls["ap_term::terms::same_term"], calls["ap_rewrite::arithmetic::refuted"],
+        calls["ap_poly::literal::of_literal"], calls["ap_clausify::splitting::go_on"], calls["ap_term::terms::copy_term"],
         calls["rattle_alloc"], theirs >counts
 }
 AWK
