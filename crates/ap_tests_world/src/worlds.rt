@@ -122,12 +122,12 @@ fn is_same_sides(t: &Term) -> bool {
 
 fn are_sevens(terms: &[Term]) -> bool {
     match terms {
-        [a, b] => is_seven(a) && is_seven(b),
+        [a, b] => is_quoted_seven(a) && is_quoted_seven(b),
         _ => false,
     }
 }
 
-fn is_seven(t: &Term) -> bool {
+fn is_quoted_seven(t: &Term) -> bool {
     match &t.shape {
         Shape::Quote(Value::Int(7)) => true,
         _ => false,
