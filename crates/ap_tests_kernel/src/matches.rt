@@ -10,14 +10,10 @@ use std::alloc::{AllocError, Global};
 fn pairs(alloc: Global, parts: &[Term]) -> Result<Subst, NoMemory> {
     let mut left = parts;
     let mut out = Seq::new(alloc);
-    while let [
-        Term {
-            shape: Shape::Var(x),
-        },
-        by,
-        rest @ ..,
-    ] = left
-    {
+    while let [first, by, rest @ ..] = left {
+        let Shape::Var(x) = &first.shape else {
+            break;
+        };
         out.push((copy_symbol(alloc, x)?, copy_term(alloc, by)?))?;
         left = rest;
     }

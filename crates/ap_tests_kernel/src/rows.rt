@@ -119,20 +119,20 @@ const TABLES: &[(&str, usize)] = &[
     (TERMS, 20),
 ];
 
+/// The instances of terms by the pairs that a call's arguments are.
+fn instances_by(alloc: Global, pairs: &Term, ts: &[Term]) -> Result<Bytes, NoMemory> {
+    match &pairs.shape {
+        Shape::Call(_, parts) => matches::instances(alloc, parts.as_slice(), ts),
+        _ => Err(AllocError),
+    }
+}
+
 /// What a row on terms answers.
 fn of_terms(alloc: Global, word: &str, row: &[Term]) -> Result<Bytes, NoMemory> {
     match (word, row) {
         ("flat", [t]) => clauses::flattened(alloc, t),
         ("match", [pattern, t, start @ ..]) => matches::matched(alloc, pattern, t, start),
-        (
-            "instances",
-            [
-                Term {
-                    shape: Shape::Call(_, s),
-                },
-                ts @ ..,
-            ],
-        ) => { matches::instances(alloc, s.as_slice(), ts) }
+        ("instances", [pairs, ts @ ..]) => instances_by(alloc, pairs, ts),
         ("vars", [t]) => matches::variables(alloc, t),
         ("assume", [t]) => kernel::assumed(alloc, t),
         _ => Err(AllocError),

@@ -1,6 +1,8 @@
 //! A world that another thread reads and drops, and a task of the waterfall that another thread walks.
 ghost use Rattle.std.specs.Prelude.{◌≡◌, IfOk};
 ghost use denote.Param.Send.{IsSend, IsSync};
+ghost use Rattle.ap_term.specs.contracts.tree.Term as terms;
+ghost use Rattle.ap_value.specs.contracts.value.Value as values;
 ghost use Rattle.ap_world.specs.Sound.{HasFunctions};
 ghost use Rattle.ap_hints.specs.Known.{KnownHints};
 ghost use Rattle.ap_strategy.specs.Goals.{defs_of};
@@ -31,10 +33,20 @@ fn shown<T: Send + Sync>()
     ensures sync { IsSync T.row }
 {}
 
-/// The number of a world's entries, which another thread counts, and which drops the world.
-fn counted_elsewhere(rt: &impl Threads, w: World) -> Result<usize, NoMemory> {
+/// That terms and values may cross. Costs nothing.
+fn terms_shown()
+    ensures term_send { IsSend terms.the_row }
+    ensures term_sync { IsSync terms.the_row }
+    ensures value_send { IsSend values.the_row }
+    ensures value_sync { IsSync values.the_row }
+{
     shown::<Term>();
     shown::<Value>();
+}
+
+/// The number of a world's entries, which another thread counts, and which drops the world.
+fn counted_elsewhere(rt: &impl Threads, w: World) -> Result<usize, NoMemory> {
+    terms_shown();
     let child = thread::spawn(rt, move || w.count())?;
     Ok(child.join(rt))
 }
@@ -143,8 +155,7 @@ fn waterfall_elsewhere<J: Planned + Send + Sync, R: Threads + Wait + Sync>(
     requires functions { HasFunctions (defs_of plan.now) }
     requires hints { KnownHints plan.now.world.entries plan.now.hints }
 {
-    shown::<Term>();
-    shown::<Value>();
+    terms_shown();
     let task: Task<'_, J> = root(alloc, plan, &conjecture(alloc)?)?;
     visits_elsewhere(rt, alloc, &Acl2Step::new(plan, 2), task)
 }
@@ -167,8 +178,7 @@ fn waterfall_by_two<J: Planned + Send + Sync, R: Threads + Wait + Sync>(
     requires functions { HasFunctions (defs_of plan.now) }
     requires hints { KnownHints plan.now.world.entries plan.now.hints }
 {
-    shown::<Term>();
-    shown::<Value>();
+    terms_shown();
     let step: Acl2Step<'_, J> = Acl2Step::new(plan, 2);
     let task: Task<'_, J> = root(alloc, plan, &conjecture(alloc)?)?;
     let state = speculate(rt, alloc, &step, &task, RULE, 2, gate)?;

@@ -5,8 +5,8 @@ use Rattle.ap_list.specs.Lists.{Each}
 use Rattle.ap_walk.specs.declared.act.Process.{Process}
 use Rattle.ap_walk.specs.declared.act.Out.{Out}
 use Rattle.ap_walk.specs.declared.act.Stepped.{Stepped}
-use Rattle.ap_tests_workers.specs.declared.shares.Cased.{Cased}
-use Rattle.ap_tests_workers.specs.declared.shares.Cased.TheVariants.{Whole, Case}
+use Rattle.ap_tests_workers.specs.declared.tree.Cased.{Cased}
+use Rattle.ap_tests_workers.specs.declared.tree.Cased.TheVariants.{Whole, Case}
 
 abbrev pub cases : Cased → List Cased
 cases Whole = replicate 64 Case

@@ -4,6 +4,7 @@ ghost use Rattle.ap_walk.specs.declared.act.Process.{Process};
 ghost use Rattle.ap_walk.specs.declared.act.Out.{Out};
 
 use crate::gates::Sharing;
+use crate::tree::Cased;
 use crate::walks::initial;
 use ap_names::GoalName;
 use ap_speculate::speculate;
@@ -14,14 +15,6 @@ use std::sync::Wait;
 use std::sync::atomic::AtomicU64;
 use std::sync::atomic::Ordering::SeqCst;
 use std::thread::Threads;
-
-#[derive(Clone, Copy, PartialEq, Debug)]
-enum Cased {
-    /// Splits into 64 cases.
-    Whole,
-    /// Splits into no tasks, by some work.
-    Case,
-}
 
 /// The step of these tasks. What the work comes to is added up, and tells nothing.
 #[derive(Drop)]
@@ -46,7 +39,7 @@ fn work() -> u64 {
 impl Step for Cases {
     ghost use Rattle.std.specs.Prelude.{[], None};
     ghost use Rattle.ap_tests_workers.specs.Cases.{step_of, levels, all_below};
-    ghost use Rattle.ap_tests_workers.specs.declared.shares.Cased.TheVariants.{Whole, Case};
+    ghost use Rattle.ap_tests_workers.specs.declared.tree.Cased.TheVariants.{Whole, Case};
 
     type Task = Cased;
 

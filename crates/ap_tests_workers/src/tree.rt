@@ -16,7 +16,16 @@ pub(crate) struct Task {
     pub(crate) number: u32,
 }
 
-/// The step of these tasks, which counts its calls, and watches those of one kind with one task.
+/// A task with 64 equal cases, or one of these.
+#[derive(Clone, Copy, PartialEq, Debug)]
+pub(crate) enum Cased {
+    /// Splits into 64 cases.
+    Whole,
+    /// Splits into no tasks, by some work.
+    Case,
+}
+
+/// The step of a task by its level and number, which counts its calls, and watches those of one kind with one task.
 #[derive(Drop)]
 pub(crate) struct Counting {
     pub(crate) calls: AtomicU64,

@@ -1,4 +1,3 @@
-use denote.Exit.{yes}
 use denote.Param.Send.{IsSend, sendable}
 use Rattle.std.proofs.Crossing.{crosses}
 use Rattle.ap_term.specs.contracts.tree.Term as term
@@ -9,7 +8,7 @@ use Rattle.ap_tests_threads.proofs.crossing.counted_elsewhere.Goals as goal
 -- the closure owns a world
 pub spawn-requires-send-F : goal.spawn-requires-send-F
 spawn-requires-send-F g c κs within =
-    let t : IsSend term.the_row = record { owned = c.shown.ensures.send.owned; leaving = λ k. c.shown.ensures.send.leaving yes } in
-    let v : IsSend value.the_row = record { owned = c.shown-2.ensures.send.owned; leaving = λ k. c.shown-2.ensures.send.leaving yes } in
+    let t : IsSend term.the_row = c.terms_shown.ensures.term_send in
+    let v : IsSend value.the_row = c.terms_shown.ensures.value_send in
     let w = world_send t v in
     search (sendable, crosses) depth 20

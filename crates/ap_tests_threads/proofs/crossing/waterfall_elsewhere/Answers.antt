@@ -1,4 +1,3 @@
-use denote.Exit.{yes}
 use denote.Param.Send.{IsSend, IsSync, sendable}
 use Rattle.std.proofs.Crossing.{crosses}
 use Rattle.ap_term.specs.contracts.tree.Term as term
@@ -9,15 +8,15 @@ use Rattle.ap_tests_threads.proofs.crossing.waterfall_elsewhere.Goals as goal
 -- a task holds terms, a theory and a plan that it refers to
 pub visits_elsewhere-requires-send-S-Task : goal.visits_elsewhere-requires-send-S-Task
 visits_elsewhere-requires-send-S-Task g c κs within =
-    let t : IsSend term.the_row = record { owned = c.shown.ensures.send.owned; leaving = λ k. c.shown.ensures.send.leaving yes } in
-    let ts : IsSync term.the_row = record { shared = c.shown.ensures.sync.shared } in
-    let vs : IsSync value.the_row = record { shared = c.shown-2.ensures.sync.shared } in
+    let t : IsSend term.the_row = c.terms_shown.ensures.term_send in
+    let ts : IsSync term.the_row = c.terms_shown.ensures.term_sync in
+    let vs : IsSync value.the_row = c.terms_shown.ensures.value_sync in
     search (sendable, task_send) depth 20
 
 -- a step refers to a plan
 pub visits_elsewhere-requires-sync-S : goal.visits_elsewhere-requires-sync-S
 visits_elsewhere-requires-sync-S g c κs within =
-    let ts : IsSync term.the_row = record { shared = c.shown.ensures.sync.shared } in
-    let vs : IsSync value.the_row = record { shared = c.shown-2.ensures.sync.shared } in
+    let ts : IsSync term.the_row = c.terms_shown.ensures.term_sync in
+    let vs : IsSync value.the_row = c.terms_shown.ensures.value_sync in
     let p = plan_sync ts vs in
     search (sendable, crosses) depth 20
