@@ -1,15 +1,16 @@
 -- What looks leave of a seat.
 use Rattle.std.proofs.Common.{◌≡◌, ℕ, ◌+◌, ◌<◌, ◌≤◌, [], ◌∷◌, subst, refl, sym, ◌∙◌, arith, List}
 use Rattle.ap_list.specs.Lists.{Each}
-use Rattle.ap_word.specs.Seats.{seat_view}
+use Rattle.ap_word.specs.Seats.{TableId, seat_table, seat_view}
 use Rattle.ap_table.specs.Seated.{HasLooked}
 use Rattle.ap_table.specs.declared.seats.AncestorSeat.{AncestorSeat}
 use Rattle.ap_speculate.specs.Jobs.{Both, Stays, LookedOn, JobStays}
 use Rattle.ap_table.specs.declared.stored.Job.{Job}
+use Rattle.ap_speculate.specs.Boards.{LooksAt}
 use Rattle.ap_speculate.proofs.Pairs.{both_same}
 
 pub stays_same : (s : AncestorSeat) → Stays s s
-stays_same s = record { family = refl; place = refl; word = refl; known = refl; looks = omega arith; low = omega arith }
+stays_same s = record { family = refl; place = refl; word = refl; table = refl; known = refl; looks = omega arith; low = omega arith }
 
 abbrev pub Looked : AncestorSeat → AncestorSeat → Type 0
 Looked old new = Stays old new × LookedOn 1 old new
@@ -34,6 +35,7 @@ stays_then a b c p q = record {
   family = q.family ∙ p.family;
   place = q.place ∙ p.place;
   word = q.word ∙ p.word;
+  table = q.table ∙ p.table;
   known = q.known ∙ p.known;
   looks = omega arith;
   low = omega arith;
@@ -77,3 +79,18 @@ done_looked many [] [] b = tt
 done_looked many [] (y ∷ ys) b = absurd b
 done_looked many (x ∷ xs) [] b = absurd b
 done_looked many (x ∷ xs) (y ∷ ys) b = let l = b.0.looks in (record { looks = omega arith; low = b.0.low }, done_looked many xs ys b.1)
+
+-- seats that looked are of the words that they were of
+pub still_at : (word : ℕ → TableId → Type 0) (olds news : List AncestorSeat) → Both Stays olds news → Each (LooksAt word) olds → Each (LooksAt word) news
+still_at word [] [] b e = tt
+still_at word [] (y ∷ ys) b e = absurd b
+still_at word (x ∷ xs) [] b e = absurd b
+still_at word (x ∷ xs) (y ∷ ys) b e = (
+  subst (λ (k : ℕ). word k (seat_table y.seat)) (sym b.0.family) (subst (λ (t : TableId). word x.family t) (sym b.0.table) e.0),
+  still_at word xs ys b.1 e.1,
+)
+
+-- words that stay are still those of the seats
+pub at_later : (word later : ℕ → TableId → Type 0) → ((k : ℕ) (t : TableId) → word k t → later k t) → (ss : List AncestorSeat) → Each (LooksAt word) ss → Each (LooksAt later) ss
+at_later word later stay [] e = tt
+at_later word later stay (s ∷ ss) e = (stay s.family (seat_table s.seat) e.0, at_later word later stay ss e.1)

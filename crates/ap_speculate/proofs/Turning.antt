@@ -5,6 +5,7 @@ use Rattle.ap_table.specs.declared.stored.Claim.{Claim}
 use Rattle.ap_table.specs.declared.stored.Claim.TheVariants as claim
 use Rattle.ap_table.specs.declared.stored.Job.{Job}
 use Rattle.ap_table.specs.Locked.{OneStep}
+use Rattle.ap_table.specs.Worded.{FoundWas}
 use Rattle.ap_table.specs.Shown.{Run}
 use Rattle.ap_table.specs.Steps.{Claims, ClaimsAt}
 use Rattle.ap_speculate.specs.Boards.{IsPut, IsPutDrop, IsGrown, IsRefused, IsEnded, IsWalked, IsHandedBack}
@@ -41,12 +42,12 @@ module _ {T B : Type 0} (step : T → Stepped T) (depth : T → ℕ) where
 
 module _ {T : Type 0} (step : T → Stepped T) (depth : T → ℕ) where
   -- the job that a claim found
-  pub found_one : (r : Claim T) (job : Job T) → r ≡ claim.Found job → OneStep step depth (λ old new. Claims step depth old new r) → WasClaimed step depth job
-  found_one r job is h = inl (subst (λ r. OneStep step depth (λ old new. Claims step depth old new r)) is h)
+  pub found_one : (r : Claim T) (job : Job T) → r ≡ claim.Found job → OneStep step depth (λ old new. Claims step depth old new r) → FoundWas step depth r → WasClaimed step depth job
+  found_one r job is h was = (inl (subst (λ r. OneStep step depth (λ old new. Claims step depth old new r)) is h), subst (FoundWas step depth) is was)
 
   -- and one by a node's number
-  pub found_at : (r : Claim T) (job : Job T) (k : ℕ) → r ≡ claim.Found job → OneStep step depth (λ old new. ClaimsAt step depth old new k r) → WasClaimed step depth job
-  found_at r job k is h = inr (k, subst (λ r. OneStep step depth (λ old new. ClaimsAt step depth old new k r)) is h)
+  pub found_at : (r : Claim T) (job : Job T) (k : ℕ) → r ≡ claim.Found job → OneStep step depth (λ old new. ClaimsAt step depth old new k r) → FoundWas step depth r → WasClaimed step depth job
+  found_at r job k is h was = (inr (k, subst (λ r. OneStep step depth (λ old new. ClaimsAt step depth old new k r)) is h), subst (FoundWas step depth) is was)
 
   -- a claim that found no job
   pub none_free : (r : Claim T) → r ≡ claim.Nothing → OneStep step depth (λ old new. Claims step depth old new r) → OneStep step depth (λ old new. Claims step depth old new claim.Nothing)

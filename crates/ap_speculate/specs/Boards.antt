@@ -3,6 +3,8 @@ use Rattle.std.specs.Prelude.{◌≡◌, ◌≤◌, ◌<◌, ◌⊎◌, ℕ, len
 use Rattle.ap_list.specs.Lists.{AnyOf}
 use Rattle.ap_walk.specs.declared.act.Stepped.{Stepped}
 use Rattle.ap_walk.specs.Visits.{out_children}
+use Rattle.ap_word.specs.Seats.{TableId, seat_table}
+use Rattle.ap_table.specs.declared.seats.AncestorSeat.{AncestorSeat}
 use Rattle.ap_table.specs.declared.link.License.{License}
 use Rattle.ap_table.specs.declared.stored.Job.{Job}
 use Rattle.ap_table.specs.declared.stored.Grown.{Grown}
@@ -11,6 +13,10 @@ use Rattle.ap_table.specs.declared.stored.Taken.{Taken}
 use Rattle.ap_table.specs.Shown.{Run}
 use Rattle.ap_table.specs.Steps.{Grows, Puts, Drops}
 use Rattle.ap_speculate.specs.Jobs.{JobStays, ReadBelow}
+
+-- the seat looks at a word that is its family's
+abbrev pub LooksAt : (ℕ → TableId → Type 0) → AncestorSeat → Type 0
+LooksAt word s = word s.family (seat_table s.seat)
 
 module _ {T : Type 0} where
   -- a job whose children the table doesn't take comes back as it was

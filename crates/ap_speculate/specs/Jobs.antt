@@ -4,7 +4,7 @@ use Rattle.ap_list.specs.Lists.{AnyOf}
 use Rattle.ap_walk.specs.declared.act.Stepped.{Stepped}
 use Rattle.ap_walk.specs.declared.rule.Rule.{Rule}
 use Rattle.ap_walk.specs.Walks.{full}
-use Rattle.ap_word.specs.Seats.{seat_view}
+use Rattle.ap_word.specs.Seats.{seat_table, seat_view}
 use Rattle.ap_table.specs.declared.link.License.{License}
 use Rattle.ap_table.specs.declared.seats.AncestorSeat.{AncestorSeat}
 use Rattle.ap_table.specs.declared.stored.Job.{Job}
@@ -23,6 +23,7 @@ pub record Stays (old new : AncestorSeat) : Type 0 where
   pub family : new.family ≡ old.family
   pub place : new.place ≡ old.place
   pub word : new.word ≡ old.word
+  pub table : seat_table new.seat ≡ seat_table old.seat
   pub known : (seat_view new.seat).family ≡ (seat_view old.seat).family
   pub looks : (seat_view old.seat).looks ≤ (seat_view new.seat).looks
   pub low : (seat_view new.seat).low ≤ (seat_view old.seat).low

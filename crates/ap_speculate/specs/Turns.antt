@@ -3,7 +3,9 @@ use Rattle.std.specs.Prelude.{◌≡◌, ◌<◌, ◌⊎◌, ◌↔◌, ℕ, Boo
 use Rattle.ap_walk.specs.declared.act.Stepped.{Stepped}
 use Rattle.ap_table.specs.declared.stored.Job.{Job}
 use Rattle.ap_table.specs.declared.stored.Claim.TheVariants as claim
+use Rattle.ap_list.specs.Lists.{Each}
 use Rattle.ap_table.specs.Locked.{OneStep, OneLook}
+use Rattle.ap_table.specs.Worded.{WasOf}
 use Rattle.ap_table.specs.Shown.{Run}
 use Rattle.ap_table.specs.Steps.{Claims, ClaimsAt}
 use Rattle.ap_speculate.specs.Boards.{IsHandedBack}
@@ -13,9 +15,9 @@ module _ {T : Type 0} (step : T → Stepped T) (depth : T → ℕ) where
   abbrev pub DidShared : Unit {0} → (Run T → Run T → Type 0) → Unit {0} → Type 0
   DidShared old does new = OneStep step depth does
 
-  -- the table handed the job out: that of the first free node, or of a node whose number the worker had
+  -- the table handed the job out: that of the first free node, or of a node whose number the worker had; and its seats look at words that were their families'
   abbrev pub WasClaimed : Job T → Type 0
-  WasClaimed job = OneStep step depth (λ old new. Claims step depth old new (claim.Found job)) ⊎ ((k : ℕ) × OneStep step depth (λ old new. ClaimsAt step depth old new k (claim.Found job)))
+  WasClaimed job = (OneStep step depth (λ old new. Claims step depth old new (claim.Found job)) ⊎ ((k : ℕ) × OneStep step depth (λ old new. ClaimsAt step depth old new k (claim.Found job)))) × Each (WasOf step depth) job.seats
 
   -- a job was claimed, and dropped, expanded or walked
   pub record IsWorked : Type 0 where

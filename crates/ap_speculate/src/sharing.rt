@@ -74,7 +74,7 @@ fn work_alone<S: Step, G: Gate, R: Wait>(
     rule: Rule,
     gate: &G,
 ) -> Result<TableState<S>, NoMemory>
-    ensures { IfOk result (λ s. IsRootDone S.step_of S.depth s task.now rule) }
+    ensures { IfOk result (λ s. IsRootDone S.step_of S.depth s.run task.now rule) }
 {
     let root = step.copy_task(alloc, task)?;
     let mut state = first(alloc, step, root, rule)?;
@@ -103,7 +103,7 @@ fn speculate_by<S: Step + Sync, G: Gate + Sync, R: Threads + Wait + Sync>(
 where
     S::Task: Send,
     requires { IfSome known (λ k. k.1 ≡ S.step_of k.0) }
-    ensures done { IfOk result (λ s. IsRootDone S.step_of S.depth s task.now rule) }
+    ensures done { IfOk result (λ s. IsRootDone S.step_of S.depth s.run task.now rule) }
 {
     let root = step.copy_task(alloc, task)?;
     let table = begin(alloc, step, root, rule)?;
@@ -130,7 +130,7 @@ pub fn speculate<S: Step + Sync, G: Gate + Sync, R: Threads + Wait + Sync>(
 ) -> Result<TableState<S>, NoMemory>
 where
     S::Task: Send,
-    ensures done { IfOk result (λ s. IsRootDone S.step_of S.depth s task.now rule) }
+    ensures done { IfOk result (λ s. IsRootDone S.step_of S.depth s.run task.now rule) }
 {
     speculate_by(rt, alloc, step, task, None, rule, workers, gate)
 }
@@ -149,7 +149,7 @@ pub fn speculate_from<S: Step + Sync, G: Gate + Sync, R: Threads + Wait + Sync>(
 where
     S::Task: Send,
     requires stepped { stepped ≡ S.step_of task.now }
-    ensures done { IfOk result (λ s. IsRootDone S.step_of S.depth s task.now rule) }
+    ensures done { IfOk result (λ s. IsRootDone S.step_of S.depth s.run task.now rule) }
 {
     let root = step.copy_task(alloc, task)?;
     let known = Some((root, stepped));

@@ -1,7 +1,8 @@
 //! A worker's turns.
 ghost use Rattle.std.specs.Prelude.{◌≡◌, ◌≤◌, ◌<◌, ◌↔◌, IsTrue, IfOk, OnOk, IfSome, length};
+ghost use Rattle.ap_list.specs.Lists.{Each};
 ghost use Rattle.ap_walk.specs.Visits.{out_children};
-ghost use Rattle.ap_speculate.specs.Boards.{IsEnded, IsHandedBack};
+ghost use Rattle.ap_speculate.specs.Boards.{LooksAt, IsEnded, IsHandedBack};
 ghost use Rattle.ap_speculate.specs.Turns.{IsTurn};
 
 use crate::board::{Board, Shared};
@@ -47,7 +48,8 @@ fn walk_claimed<S: Step, B: Board<S>, G: Gate, R: Wait>(
     worker: u32,
     gate: &G,
 ) -> Result<Option<Children>, NoMemory>
-    requires { IfSome first (λ s. s ≡ S.step_of job.task) }
+    requires words { Each (LooksAt (B.word board.old)) job.seats }
+    requires first { IfSome first (λ s. s ≡ S.step_of job.task) }
     ensures { OnOk result (IsEnded S.step_of S.depth B.did board.old board.new job) }
 {
     let mut job = job;
@@ -71,7 +73,8 @@ pub(crate) fn work_claimed<S: Step, B: Board<S>, G: Gate, R: Wait>(
     worker: u32,
     gate: &G,
 ) -> Result<Option<Children>, NoMemory>
-    requires { IfSome first (λ s. s ≡ S.step_of job.task) }
+    requires words { Each (LooksAt (B.word board.old)) job.seats }
+    requires first { IfSome first (λ s. s ≡ S.step_of job.task) }
     ensures { OnOk result (IsHandedBack S.step_of S.depth B.did board.old board.new job) }
 {
     let mut job = job;

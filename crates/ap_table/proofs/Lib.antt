@@ -18,7 +18,9 @@ pub mod Sitting
 pub mod Cutting
 pub mod Once
 pub mod Wording
+pub mod Words
 pub mod Carrying
+pub mod Worded
 pub mod Totals
 pub mod Heard
 pub mod Closes

@@ -15,3 +15,4 @@ pub mod Seated
 pub mod Steps
 pub mod Locked
 pub mod Ended
+pub mod Worded

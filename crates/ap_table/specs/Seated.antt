@@ -21,6 +21,7 @@ pub record SameSeat (old new : AncestorSeat) : Type 0 where
   pub family : new.family ≡ old.family
   pub place : new.place ≡ old.place
   pub word : new.word ≡ old.word
+  pub table : seat_table new.seat ≡ seat_table old.seat
 
 -- a seat at this place of a family, just cut from one that is kept: it is of that one's word, and knows what that one does
 pub record IsCut (k : Kept) (l : Link) (s : AncestorSeat) : Type 0 where

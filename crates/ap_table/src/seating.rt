@@ -7,9 +7,10 @@ ghost use Rattle.ap_table.specs.declared.seats.AncestorSeat.{AncestorSeat};
 ghost use Rattle.ap_table.specs.declared.seats.Beside.{Beside};
 ghost use Rattle.ap_table.specs.declared.link.Link.{Link};
 ghost use Rattle.ap_table.specs.Kept.{Kept};
-ghost use Rattle.ap_table.specs.Core.{numbers_of, root, replay_from};
+ghost use Rattle.ap_table.specs.Core.{Node, numbers_of, root, replay_from};
 ghost use Rattle.ap_table.specs.Shown.{turns, nodes_of};
 ghost use Rattle.ap_table.specs.Seated.{IsCut, AreCut, AreRows, HasSeat, Gives, GiveAll, kept_at, amend, without_job, with_kept, with_mark, true_family, AreSeated, IsMark};
+ghost use Rattle.ap_table.specs.Worded.{words_of, AreWorded};
 
 use crate::link::Link;
 use crate::nodes::Nodes;
@@ -230,7 +231,9 @@ pub(crate) fn mark_words<S: Step>(nodes: &Nodes<S>, seats: &mut Vec<Beside>, fro
     requires within { from ≤ length nodes.now.history }
     requires marks { Each IsMark (drop from nodes.now.history) }
     requires seated { AreSeated S.step_of S.depth nodes.now.rule (replay_from S.step_of S.depth nodes.now.rule (root nodes.now.root) (turns (take from nodes.now.history))) seats.old.items }
-    ensures { AreSeated S.step_of S.depth nodes.now.rule (nodes_of S.step_of S.depth nodes.now) seats.new.items }
+    ensures seated { AreSeated S.step_of S.depth nodes.now.rule (nodes_of S.step_of S.depth nodes.now) seats.new.items }
+    ensures words { words_of seats.new.items ≡ words_of seats.old.items }
+    ensures worded { (ns : List (Node S.Task)) → AreWorded ns seats.old.items → AreWorded ns seats.new.items }
 {
     nodes.recall_allowed();
     let history = nodes.history();

@@ -1,5 +1,5 @@
 //! A goal table: the nodes with the list of the steps that were taken, and the seats of the families' words.
-ghost use Rattle.std.specs.Prelude.{◌≡◌, ◌+◌, ◌≤◌, [], length, Some, IfOk, IsTrue, ◌↔◌, vec_capacity};
+ghost use Rattle.std.specs.Prelude.{◌≡◌, ◌+◌, ◌≤◌, [], ◌∷◌, length, Some, None, IfOk, IsTrue, ◌↔◌, vec_capacity};
 ghost use Rattle.std.specs.List.{slice_get};
 ghost use Rattle.ap_word.specs.Words.{made};
 ghost use Rattle.ap_table.specs.Core.{Node};
@@ -27,14 +27,13 @@ pub struct TableState<S: Step> {
 }
 
 impl<S: Step> Model for TableState<S> {
-    ghost use Rattle.ap_table.specs.Shown.{Run, nodes_of};
-    ghost use Rattle.ap_table.specs.Seated.{AreSeated};
+    ghost use Rattle.ap_table.specs.Worded.{Worded, words_of, IsKept};
 
-    ghost Value = { Run S.Task };
+    ghost Value = { Worded S.Task };
 
-    ghost view = { λ s. s.nodes };
+    ghost view = { λ s. record { run = s.nodes; words = words_of s.seats.items } };
 
-    ghost invariant = { λ s. AreSeated S.step_of S.depth s.nodes.rule (nodes_of S.step_of S.depth s.nodes) s.seats.items };
+    ghost invariant = { λ s. IsKept S.step_of S.depth s.nodes s.seats.items };
 }
 
 /// A table of one free node, the root, under a rule. The only error is want of memory.
@@ -44,7 +43,8 @@ pub fn first<S: Step>(
     task: S::Task,
     rule: Rule,
 ) -> Result<TableState<S>, NoMemory>
-    ensures { IfOk result (λ s. s ≡ record { root = task; rule = rule; history = [] }) }
+    ensures run { IfOk result (λ s. s.run ≡ record { root = task; rule = rule; history = [] }) }
+    ensures words { IfOk result (λ s. s.words ≡ None ∷ []) }
 {
     let nodes = first_nodes(alloc, step, task, rule)?;
     let mut seats = Vec::new(alloc);
@@ -123,10 +123,13 @@ impl<S: Step> TableState<S> {
     ghost use Rattle.ap_table.specs.Seated.{HasLooked};
     ghost use Rattle.ap_table.specs.Ended.{HasEnded, Ends};
     ghost use Rattle.ap_table.specs.Locked.{WasAllowed};
+    ghost use Rattle.ap_table.specs.Worded.{IsOf, WordsStay, FoundOf};
 
     /// Claims the first free node in serial order.
     pub fn claim_step(&mut self) -> Claim<S::Task>
-        ensures { Claims S.step_of S.depth self.old self.new result }
+        ensures claims { Claims S.step_of S.depth self.old.run self.new.run result }
+        ensures words { self.new.words ≡ self.old.words }
+        ensures of { FoundOf self.old.words result }
     {
         match self.nodes.claim_step() {
             NodeClaim::Nothing => Claim::Nothing,
@@ -139,7 +142,9 @@ impl<S: Step> TableState<S> {
 
     /// Claims this node, or it isn't there or isn't free. It looks at one node.
     pub fn claim_node_step(&mut self, node: u32) -> Claim<S::Task>
-        ensures { ClaimsAt S.step_of S.depth self.old self.new node result }
+        ensures claims { ClaimsAt S.step_of S.depth self.old.run self.new.run node result }
+        ensures words { self.new.words ≡ self.old.words }
+        ensures of { FoundOf self.old.words result }
     {
         match self.nodes.claim_node_step(node) {
             NodeClaim::Nothing => Claim::Nothing,
@@ -152,28 +157,28 @@ impl<S: Step> TableState<S> {
 
     /// Whether the root is done. It looks at one node.
     pub fn is_done(&self) -> bool
-        ensures { IsTrue result ↔ HasEnded S.step_of S.depth self.now }
+        ensures { IsTrue result ↔ HasEnded S.step_of S.depth self.now.run }
     {
         self.nodes.is_done()
     }
 
     /// Whether the root is done, and its task and the table's rule are these.
     pub fn root_done(&self, step: &S, task: &S::Task, rule: Rule) -> bool
-        ensures { IsTrue result ↔ IsRootDone S.step_of S.depth self.now task.now rule }
+        ensures { IsTrue result ↔ IsRootDone S.step_of S.depth self.now.run task.now rule }
     {
         self.nodes.root_done(step, task, rule)
     }
 
     /// The steps that were taken, in their order.
     pub fn history(&self) -> &[Entry]
-        ensures { result.now ≡ self.now.history }
+        ensures { result.now ≡ self.now.run.history }
     {
         self.nodes.history()
     }
 
     /// Each step that was taken was allowed, which the type keeps.
     pub fn recall_allowed(&self)
-        ensures { WasAllowed S.step_of S.depth self.now }
+        ensures { WasAllowed S.step_of S.depth self.now.run }
     {
         self.nodes.recall_allowed();
     }
@@ -190,7 +195,8 @@ impl<S: Step> TableState<S> {
     ) -> Grown<S::Task>
         requires stepped { stepped ≡ S.step_of job.task }
         requires many { 2 ≤ length (out_children stepped.out) }
-        ensures { Grows S.step_of S.depth self.old self.new job stepped result }
+        ensures grows { Grows S.step_of S.depth self.old.run self.new.run job stepped result }
+        ensures words { WordsStay self.old.words self.new.words }
     {
         if !is_seated(&self.nodes, &job) {
             return Grown::Stranger(job, stepped);
@@ -228,11 +234,9 @@ impl<S: Step> TableState<S> {
         }
     }
 
-    /// Puts the walk of a job's task, once each of the job's seats has made a look for each of the walk's marks
-    /// and has seen no stop before its place. Closes the nodes above that this closes, and marks each family above
-    /// the node that is known to stop then. A stranger is a job that isn't the table's, or one whose node can still
-    /// be expanded.
-    pub fn put_step(
+    /// Puts the walk of a job's task, whichever words its seats looked at: a lock knows them of a table alone that
+    /// was there before.
+    pub(crate) fn keep_walk(
         &mut self,
         step: &S,
         job: Job<S::Task>,
@@ -240,7 +244,8 @@ impl<S: Step> TableState<S> {
     ) -> Taken<S::Task>
         requires walked { walked ≡ full S.step_of S.depth job.rule job.task }
         requires looked { Each (HasLooked (length walked.marks)) job.seats }
-        ensures { Puts S.step_of S.depth self.old self.new job result }
+        ensures puts { Puts S.step_of S.depth self.old.run self.new.run job result }
+        ensures words { self.new.words ≡ self.old.words }
     {
         if !is_seated(&self.nodes, &job) {
             return Taken::Stranger(job);
@@ -256,9 +261,29 @@ impl<S: Step> TableState<S> {
         }
     }
 
+    /// Puts the walk of a job's task, once each of the job's seats has made a look for each of the walk's marks
+    /// at the word that is kept of its family, and has seen no stop before its place. Closes the nodes above that this closes, and marks each family above
+    /// the node that is known to stop then. A stranger is a job that isn't the table's, or one whose node can still
+    /// be expanded.
+    pub fn put_step(
+        &mut self,
+        step: &S,
+        job: Job<S::Task>,
+        walked: Walked<S::Task>,
+    ) -> Taken<S::Task>
+        requires walked { walked ≡ full S.step_of S.depth job.rule job.task }
+        requires words { Each (IsOf self.old.words) job.seats }
+        requires looked { Each (HasLooked (length walked.marks)) job.seats }
+        ensures puts { Puts S.step_of S.depth self.old.run self.new.run job result }
+        ensures words { self.new.words ≡ self.old.words }
+    {
+        self.keep_walk(step, job, walked)
+    }
+
     /// Drops a job's node. A stranger is a job that isn't the table's, or the licence isn't one for its node.
     pub fn drop_step(&mut self, step: &S, job: Job<S::Task>, license: License) -> Taken<S::Task>
-        ensures { Drops S.step_of S.depth self.old self.new job license result }
+        ensures drops { Drops S.step_of S.depth self.old.run self.new.run job license result }
+        ensures words { self.new.words ≡ self.old.words }
     {
         if !is_seated(&self.nodes, &job) {
             return Taken::Stranger(job);
@@ -278,8 +303,8 @@ impl<S: Step> TableState<S> {
         alloc: Global,
         step: &S,
     ) -> Result<(Walked<S::Task>, Seq<DropNote>), NoMemory>
-        requires { HasEnded S.step_of S.depth self }
-        ensures { IfOk result (λ end. Ends S.step_of S.depth S.name self end.0 end.1) }
+        requires { HasEnded S.step_of S.depth self.run }
+        ensures { IfOk result (λ end. Ends S.step_of S.depth S.name self.run end.0 end.1) }
     {
         let TableState { nodes, .. } = self;
         nodes.finish(alloc, step)

@@ -9,6 +9,7 @@ ghost use Rattle.ap_table.specs.Steps.{Claims, ClaimsAt, Grows, Puts, Drops};
 ghost use Rattle.ap_list.specs.Lists.{Each};
 ghost use Rattle.ap_table.specs.Seated.{HasLooked};
 ghost use Rattle.ap_table.specs.Locked.{OneStep, OneLook, Waits, WasAllowed};
+ghost use Rattle.ap_table.specs.Worded.{WasOf, FoundWas};
 
 use crate::link::License;
 use crate::state::{TableState, first};
@@ -76,8 +77,8 @@ impl<S: Step> Held<S> {
 
     /// The history's length, of a table each of whose steps was allowed.
     fn length(&self) -> u64
-        ensures is { result ≡ length self.now.state.history }
-        ensures allowed { WasAllowed S.step_of S.depth self.now.state }
+        ensures is { result ≡ length self.now.state.run.history }
+        ensures allowed { WasAllowed S.step_of S.depth self.now.state.run }
     {
         self.state.recall_allowed();
         self.state.history().len() as u64
@@ -85,7 +86,7 @@ impl<S: Step> Held<S> {
 
     /// Whether a worker that has seen so much of the history waits on. It looks at one node.
     fn waits(&self, seen: u64) -> bool
-        ensures { IsTrue result ↔ Waits S.step_of S.depth seen self.now.state self.now.halted }
+        ensures { IsTrue result ↔ Waits S.step_of S.depth seen self.now.state.run self.now.halted }
     {
         self.length() <= seen && !self.state.is_done() && !self.halted
     }
@@ -94,7 +95,8 @@ impl<S: Step> Held<S> {
 impl<S: Step> GoalTable<S> {
     /// Claims the first free node in serial order, and wakes one who waits; or no node is free.
     pub fn claim(&self, rt: &impl Wait) -> Claim<S::Task>
-        ensures { OneStep S.step_of S.depth (λ old new. Claims S.step_of S.depth old new result) }
+        ensures step { OneStep S.step_of S.depth (λ old new. Claims S.step_of S.depth old new result) }
+        ensures of { FoundWas S.step_of S.depth result }
     {
         let mut guard = self.held.lock(rt);
         let state = &mut guard.state;
@@ -108,7 +110,8 @@ impl<S: Step> GoalTable<S> {
 
     /// Claims this node, and wakes one who waits; or it isn't there or isn't free.
     pub fn claim_node(&self, rt: &impl Wait, node: u32) -> Claim<S::Task>
-        ensures { OneStep S.step_of S.depth (λ old new. ClaimsAt S.step_of S.depth old new node result) }
+        ensures step { OneStep S.step_of S.depth (λ old new. ClaimsAt S.step_of S.depth old new node result) }
+        ensures of { FoundWas S.step_of S.depth result }
     {
         let mut guard = self.held.lock(rt);
         let state = &mut guard.state;
@@ -144,8 +147,8 @@ impl<S: Step> GoalTable<S> {
         grown
     }
 
-    /// Puts the walk of a job's task, once each of the job's seats has made a look for each of the walk's marks
-    /// and has seen no stop before its place; marks each family above it that is known to stop then, and wakes all
+    /// Puts the walk of a job's task, once each of the job's seats has made a look for each of the walk's marks at the
+    /// word of its family, and has seen no stop before its place; marks each family above it that is known to stop then, and wakes all
     /// who wait. A stranger is a job that isn't the table's, or one whose node can still be expanded.
     pub fn put(
         &self,
@@ -155,12 +158,13 @@ impl<S: Step> GoalTable<S> {
         walked: Walked<S::Task>,
     ) -> Taken<S::Task>
         requires walked { walked ≡ full S.step_of S.depth job.rule job.task }
+        requires words { Each (WasOf S.step_of S.depth) job.seats }
         requires looked { Each (HasLooked (length walked.marks)) job.seats }
         ensures { OneStep S.step_of S.depth (λ old new. Puts S.step_of S.depth old new job result) }
     {
         let mut guard = self.held.lock(rt);
         let state = &mut guard.state;
-        let taken = state.put_step(step, job, walked);
+        let taken = state.keep_walk(step, job, walked);
         state.recall_allowed();
         if let Taken::Kept = &taken {
             self.moved.notify_all();
@@ -227,7 +231,7 @@ impl<S: Step> GoalTable<S> {
 
     /// The state, once nobody shares the table any more. Each of its steps was allowed.
     pub fn into_state(self) -> TableState<S>
-        ensures { WasAllowed S.step_of S.depth result }
+        ensures { WasAllowed S.step_of S.depth result.run }
     {
         let GoalTable { held, .. } = self;
         let Held { state, .. } = held.into_inner();

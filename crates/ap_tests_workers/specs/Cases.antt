@@ -1,5 +1,5 @@
 -- A task with 64 equal cases.
-use Rattle.std.specs.Prelude.{ℕ, zero, suc, ◌<◌, true, false, List, [], replicate}
+use Rattle.std.specs.Prelude.{ℕ, zero, suc, ◌<◌, false, List, [], replicate}
 use Rattle.std.proofs.Common.{arith}
 use Rattle.ap_list.specs.Lists.{Each}
 use Rattle.ap_walk.specs.declared.act.Process.{Process}

@@ -1,5 +1,6 @@
 //! One job, on one thread.
-ghost use Rattle.std.specs.Prelude.{◌≤◌, IsTrue, length};
+ghost use Rattle.std.specs.Prelude.{◌≡◌, ◌≤◌, IsTrue, length};
+ghost use Rattle.ap_tests_workers.specs.Held.{SeatsOf};
 ghost use Rattle.ap_walk.specs.Visits.{out_children};
 
 use crate::gates::Passed;
@@ -26,7 +27,10 @@ pub(crate) const STOPPED: Task = Task {
 };
 
 /// The job of the node that is claimed next.
-fn claim(rt: &impl Abort, state: &mut TableState<Counting>, node: u32) -> Job<Task> {
+fn claim(rt: &impl Abort, state: &mut TableState<Counting>, node: u32) -> Job<Task>
+    ensures words { state.new.words ≡ state.old.words }
+    ensures of { SeatsOf state.new.words result }
+{
     let Claim::Found(job) = state.claim_step() else {
         panic!(rt; "no node is free");
     };
@@ -88,7 +92,9 @@ fn put<R: Wait>(
     state: &mut TableState<Counting>,
     job: Job<Task>,
     gate: &Passed,
-) -> Result<bool, NoMemory> {
+) -> Result<bool, NoMemory>
+    requires { SeatsOf state.old.words job }
+{
     let mut job = job;
     let JobEnd::Done(walked) = run_job(rt, alloc, step, &mut job, 0, gate)? else {
         return Ok(false);

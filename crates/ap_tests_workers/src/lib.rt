@@ -5,6 +5,8 @@
 mod deals;
 #[cfg(test)]
 mod drops;
+#[cfg(test)]
+mod found;
 mod gates;
 #[cfg(test)]
 mod jobs;

@@ -1,5 +1,6 @@
 //! The goal table under its lock, on one thread.
 
+use crate::found::Found;
 use crate::tables::{family_of, looked, splits};
 use crate::trees::{Tree, Trees};
 use ap_table::*;
@@ -17,12 +18,12 @@ pub(crate) const RULE: Rule = Rule {
 };
 
 /// The job of the node that is claimed next.
-pub(crate) fn claim(rt: &(impl Abort + Wait), table: &GoalTable<Trees>, node: u32) -> Job<Tree> {
+pub(crate) fn claim(rt: &(impl Abort + Wait), table: &GoalTable<Trees>, node: u32) -> Found<Trees> {
     let Claim::Found(job) = table.claim(rt) else {
         panic!(rt; "no node is free");
     };
     assert_eq!(rt; job.node, node);
-    job
+    Found { job }
 }
 
 /// Expands the root, by its job, into three children.
@@ -30,8 +31,9 @@ pub(crate) fn expand_root(
     rt: &(impl Abort + Wait),
     alloc: Global,
     table: &GoalTable<Trees>,
-    job: Job<Tree>,
+    found: Found<Trees>,
 ) -> Result<(), NoMemory> {
+    let Found { job } = found;
     let stepped = Trees.step(alloc, &job.task)?;
     if !splits(&stepped) {
         panic!(rt; "a task that doesn't split into two or more");
@@ -46,10 +48,12 @@ pub(crate) fn put(
     rt: &(impl Abort + Wait),
     alloc: Global,
     table: &GoalTable<Trees>,
-    job: Job<Tree>,
+    found: Found<Trees>,
 ) -> Result<bool, NoMemory> {
+    let Found { job } = found;
     let walked = serial(alloc, &Trees, &job.task, job.rule)?;
-    let Some(job) = looked(job, walked.marks.len())? else {
+    let seen = looked(job, walked.marks.len())?;
+    let Some(job) = seen else {
         panic!(rt; "the family stops before the job");
     };
     match table.put(rt, &Trees, job, walked) {
@@ -63,9 +67,9 @@ pub(crate) fn put_kept(
     rt: &(impl Abort + Wait),
     alloc: Global,
     table: &GoalTable<Trees>,
-    job: Job<Tree>,
+    found: Found<Trees>,
 ) -> Result<(), NoMemory> {
-    assert!(rt; put(rt, alloc, table, job)?);
+    assert!(rt; put(rt, alloc, table, found)?);
     Ok(())
 }
 
@@ -73,7 +77,7 @@ pub(crate) fn put_kept(
 pub(crate) fn claim_three(
     rt: &(impl Abort + Wait),
     table: &GoalTable<Trees>,
-) -> (Job<Tree>, Job<Tree>, Job<Tree>) {
+) -> (Found<Trees>, Found<Trees>, Found<Trees>) {
     let a = claim(rt, table, 1);
     let b = claim(rt, table, 2);
     let c = claim(rt, table, 3);
@@ -87,8 +91,9 @@ pub(crate) fn claim_three(
 pub(crate) fn drop_refused(
     rt: &(impl Abort + Wait),
     table: &GoalTable<Trees>,
-    job: Job<Tree>,
-) -> Job<Tree> {
+    found: Found<Trees>,
+) -> Found<Trees> {
+    let Found { job } = found;
     let license = License {
         family: 0,
         index: 1,
@@ -96,7 +101,7 @@ pub(crate) fn drop_refused(
     let Taken::Stranger(job) = table.put_drop(rt, &Trees, job, license) else {
         panic!(rt; "it was dropped");
     };
-    job
+    Found { job }
 }
 
 /// What a table ends with, whose root is done.

@@ -1,9 +1,11 @@
 //! The rows of the goal table, on one thread.
-ghost use Rattle.std.specs.Prelude.{◌≡◌, ◌≤◌, IfOk, IfSome, IsTrue, length};
+ghost use Rattle.std.specs.Prelude.{◌≡◌, ◌≤◌, ◌∷◌, ◌++◌, [], Option, List, IfOk, OnOk, IfSome, IsTrue, length};
 ghost use Rattle.ap_list.specs.Lists.{Each};
 ghost use Rattle.ap_walk.specs.Visits.{out_children};
-ghost use Rattle.ap_word.specs.Seats.{seat_view};
+ghost use Rattle.ap_word.specs.Seats.{TableId, seat_table, seat_view};
 ghost use Rattle.ap_table.specs.Seated.{HasLooked};
+ghost use Rattle.ap_table.specs.Worded.{IsOf, WordsStay};
+ghost use Rattle.ap_tests_workers.specs.Held.{SeatsOf, AreHeld, ComesOf, ats};
 
 use crate::trees::{Tree, Trees};
 use ap_table::*;
@@ -36,6 +38,8 @@ enum Act {
     See(u64),
     /// The job is that of this node, and its one seat that of this family and this place.
     Job(u32, u32, u32),
+    /// The last job, which has no seats, is held of the other table.
+    Hand,
     /// The last two jobs exchange their seats.
     Swap,
     /// The last job is the one before it now.
@@ -72,7 +76,7 @@ pub(crate) fn family_of(grown: Grown<Tree>) -> Option<(u32, u32, u32)> {
 pub(crate) fn look(seat: &mut AncestorSeat, times: usize) -> u64
     ensures looks { times ≤ (seat_view seat.new.seat).looks }
     ensures low { (seat_view seat.new.seat).low ≡ result }
-    ensures same { seat.new.place ≡ seat.old.place }
+    ensures same { (seat.new.place ≡ seat.old.place) × (seat.new.family ≡ seat.old.family) × (seat_table seat.new.seat ≡ seat_table seat.old.seat) }
 {
     let mut found = seat.look();
     for i in 0..times {
@@ -84,7 +88,8 @@ pub(crate) fn look(seat: &mut AncestorSeat, times: usize) -> u64
 /// Looks so often at the word of the family above a job's node, if there is one. There is no answer where that
 /// stops before the job's place.
 pub(crate) fn looked(job: Job<Tree>, times: usize) -> Result<Option<Job<Tree>>, NoMemory>
-    ensures { IfOk result (λ o. IfSome o (λ j. (j.task ≡ job.task) × (j.rule ≡ job.rule) × Each (HasLooked times) j.seats)) }
+    ensures looked { IfOk result (λ o. IfSome o (λ j. (j.task ≡ job.task) × (j.rule ≡ job.rule) × Each (HasLooked times) j.seats)) }
+    ensures same { IfOk result (λ o. IfSome o (λ j. ats j.seats ≡ ats job.seats)) }
 {
     let Job {
         task,
@@ -111,7 +116,9 @@ pub(crate) fn looked(job: Job<Tree>, times: usize) -> Result<Option<Job<Tree>>, 
 }
 
 /// Whether a table kept what it was handed. Else the job is held again.
-fn is_kept(jobs: &mut Seq<Job<Tree>>, taken: Taken<Tree>) -> Result<bool, NoMemory> {
+fn is_kept(jobs: &mut Seq<Job<Tree>>, taken: Taken<Tree>) -> Result<bool, NoMemory>
+    ensures { (ws : List (Option TableId)) → ComesOf ws taken → AreHeld ws jobs.old → OnOk result (AreHeld ws jobs.new) }
+{
     match taken {
         Taken::Kept => Ok(true),
         Taken::Stranger(job) => {
@@ -122,10 +129,10 @@ fn is_kept(jobs: &mut Seq<Job<Tree>>, taken: Taken<Tree>) -> Result<bool, NoMemo
 }
 
 /// Claims a node. Answers its number.
-fn claim(
-    table: &mut TableState<Trees>,
-    jobs: &mut Seq<Job<Tree>>,
-) -> Result<Option<u32>, NoMemory> {
+fn claim(table: &mut TableState<Trees>, jobs: &mut Seq<Job<Tree>>) -> Result<Option<u32>, NoMemory>
+    requires { AreHeld table.old.words jobs.old }
+    ensures { OnOk result (AreHeld table.new.words jobs.new) }
+{
     let Claim::Found(job) = table.claim_step() else {
         return Ok(None);
     };
@@ -139,7 +146,9 @@ fn expand(
     alloc: Global,
     table: &mut TableState<Trees>,
     job: Job<Tree>,
-) -> Result<Option<(u32, u32, u32)>, NoMemory> {
+) -> Result<Option<(u32, u32, u32)>, NoMemory>
+    ensures { WordsStay table.old.words table.new.words }
+{
     let stepped = Trees.step(alloc, &job.task)?;
     if !splits(&stepped) {
         return Ok(None);
@@ -152,16 +161,23 @@ fn put(
     alloc: Global,
     table: &mut TableState<Trees>,
     job: Job<Tree>,
-) -> Result<Taken<Tree>, NoMemory> {
+) -> Result<Taken<Tree>, NoMemory>
+    requires { SeatsOf table.old.words job }
+    ensures words { table.new.words ≡ table.old.words }
+    ensures back { IfOk result (ComesOf table.old.words) }
+{
     let walked = serial(alloc, &Trees, &job.task, job.rule)?;
-    let Some(job) = looked(job, walked.marks.len())? else {
+    let found = looked(job, walked.marks.len())?;
+    let Some(job) = found else {
         return Err(AllocError);
     };
     Ok(table.put_step(&Trees, job, walked))
 }
 
 /// What one look by a job's seat answers.
-fn seen(job: &mut Job<Tree>) -> Result<u64, NoMemory> {
+fn seen(job: &mut Job<Tree>) -> Result<u64, NoMemory>
+    ensures { OnOk result (ats job.new.seats ≡ ats job.old.seats) }
+{
     let Some(mut seat) = job.seats.pop() else {
         return Err(AllocError);
     };
@@ -179,12 +195,16 @@ fn is_seated(job: &Job<Tree>, node: u32, family: u32, place: u32) -> bool {
 }
 
 /// The last of the jobs.
-fn last(jobs: &mut Seq<Job<Tree>>) -> Result<Job<Tree>, NoMemory> {
+fn last(jobs: &mut Seq<Job<Tree>>) -> Result<Job<Tree>, NoMemory>
+    ensures { IfOk result (λ job. jobs.old ≡ jobs.new ++ job ∷ []) }
+{
     jobs.pop().ok_or(AllocError)
 }
 
 /// Exchanges two jobs, or their seats alone.
-fn swap(a: &mut Job<Tree>, b: &mut Job<Tree>, are_seats: bool) {
+fn swap(a: &mut Job<Tree>, b: &mut Job<Tree>, are_seats: bool)
+    ensures { (ws : List (Option TableId)) → SeatsOf ws a.old → SeatsOf ws b.old → SeatsOf ws a.new × SeatsOf ws b.new }
+{
     if are_seats {
         mem::swap(&mut a.seats, &mut b.seats);
     } else {
@@ -193,7 +213,9 @@ fn swap(a: &mut Job<Tree>, b: &mut Job<Tree>, are_seats: bool) {
 }
 
 /// Exchanges the last two jobs, or their seats alone.
-fn exchange(jobs: &mut Seq<Job<Tree>>, are_seats: bool) -> Result<(), NoMemory> {
+fn exchange(jobs: &mut Seq<Job<Tree>>, are_seats: bool) -> Result<(), NoMemory>
+    ensures { (ws : List (Option TableId)) → AreHeld ws jobs.old → OnOk result (AreHeld ws jobs.new) }
+{
     let mut b = last(jobs)?;
     let mut a = last(jobs)?;
     swap(&mut a, &mut b, are_seats);
@@ -202,7 +224,9 @@ fn exchange(jobs: &mut Seq<Job<Tree>>, are_seats: bool) -> Result<(), NoMemory> 
 }
 
 /// What one look by the last job's seat answers.
-fn see(jobs: &mut Seq<Job<Tree>>) -> Result<u64, NoMemory> {
+fn see(jobs: &mut Seq<Job<Tree>>) -> Result<u64, NoMemory>
+    ensures { (ws : List (Option TableId)) → AreHeld ws jobs.old → OnOk result (AreHeld ws jobs.new) }
+{
     let mut job = last(jobs)?;
     let found = seen(&mut job)?;
     jobs.push(job)?;
@@ -219,31 +243,72 @@ fn are_entries(found: &[Entry], wanted: &[Entry]) -> bool {
     found.len() == wanted.len()
 }
 
+/// Expands the last job's node into its children.
+fn expand_last(
+    alloc: Global,
+    table: &mut TableState<Trees>,
+    jobs: &mut Seq<Job<Tree>>,
+) -> Result<Option<(u32, u32, u32)>, NoMemory>
+    requires { AreHeld table.old.words jobs.old }
+    ensures { OnOk result (AreHeld table.new.words jobs.new) }
+{
+    let job = last(jobs)?;
+    expand(alloc, table, job)
+}
+
+/// Puts the serial walk of the last job's task. Answers whether it was kept; else the job is held again.
+fn put_last(
+    alloc: Global,
+    table: &mut TableState<Trees>,
+    jobs: &mut Seq<Job<Tree>>,
+) -> Result<bool, NoMemory>
+    requires { AreHeld table.old.words jobs.old }
+    ensures { OnOk result (AreHeld table.new.words jobs.new) }
+{
+    let job = last(jobs)?;
+    let taken = put(alloc, table, job)?;
+    is_kept(jobs, taken)
+}
+
+/// Drops the last job's node. Answers whether that was kept; else the job is held again.
+fn drop_last(
+    table: &mut TableState<Trees>,
+    jobs: &mut Seq<Job<Tree>>,
+    license: License,
+) -> Result<bool, NoMemory>
+    requires { AreHeld table.old.words jobs.old }
+    ensures { OnOk result (AreHeld table.new.words jobs.new) }
+{
+    let job = last(jobs)?;
+    let taken = table.drop_step(&Trees, job, license);
+    is_kept(jobs, taken)
+}
+
 /// Whether what is done comes to what it is to.
 fn goes(
     alloc: Global,
     table: &mut TableState<Trees>,
     jobs: &mut Seq<Job<Tree>>,
     act: Act,
-) -> Result<bool, NoMemory> {
+) -> Result<bool, NoMemory>
+    requires { AreHeld table.old.words jobs.old }
+    ensures { OnOk result (AreHeld table.new.words jobs.new) }
+{
     match act {
         Act::Claim(node) => Ok(claim(table, jobs)? == Some(node)),
         Act::Expand(family, first, count) => {
-            Ok(expand(alloc, table, last(jobs)?)? == Some((family, first, count)))
+            Ok(expand_last(alloc, table, jobs)? == Some((family, first, count)))
         }
-        Act::Put(kept) => {
-            let taken = put(alloc, table, last(jobs)?)?;
-            Ok(is_kept(jobs, taken)? == kept)
-        }
+        Act::Put(kept) => Ok(put_last(alloc, table, jobs)? == kept),
         Act::Drop(index, kept) => {
-            let taken = table.drop_step(&Trees, last(jobs)?, License { family: 0, index });
-            Ok(is_kept(jobs, taken)? == kept)
+            Ok(drop_last(table, jobs, License { family: 0, index })? == kept)
         }
         Act::See(wanted) => Ok(see(jobs)? == wanted),
         Act::Job(node, family, place) => match jobs.as_slice().last() {
             Some(job) => Ok(is_seated(job, node, family, place)),
             None => Ok(false),
         },
+        Act::Hand => Ok(false),
         Act::Swap => {
             exchange(jobs, true)?;
             Ok(true)
@@ -257,6 +322,37 @@ fn goes(
             let done = table.root_done(&Trees, &Tree::Three, RULE);
             Ok(table.history().len() == length && !done)
         }
+    }
+}
+
+/// Holds the last of some jobs among others, where it has no seats.
+fn hand(jobs: &mut Seq<Job<Tree>>, others: &mut Seq<Job<Tree>>) -> Result<bool, NoMemory>
+    ensures from { (ws : List (Option TableId)) → AreHeld ws jobs.old → OnOk result (AreHeld ws jobs.new) }
+    ensures to { (ws : List (Option TableId)) → AreHeld ws others.old → OnOk result (AreHeld ws others.new) }
+{
+    let job = last(jobs)?;
+    if !job.seats.is_empty() {
+        return Ok(false);
+    }
+    others.push(job)?;
+    Ok(true)
+}
+
+/// The same, where the last job may be held of the other table.
+fn goes_by(
+    alloc: Global,
+    table: &mut TableState<Trees>,
+    jobs: &mut Seq<Job<Tree>>,
+    others: &mut Seq<Job<Tree>>,
+    act: Act,
+) -> Result<bool, NoMemory>
+    requires { AreHeld table.old.words jobs.old }
+    ensures jobs { OnOk result (AreHeld table.new.words jobs.new) }
+    ensures others { (ws : List (Option TableId)) → AreHeld ws others.old → OnOk result (AreHeld ws others.new) }
+{
+    match act {
+        Act::Hand => hand(jobs, others),
+        _ => goes(alloc, table, jobs, act),
     }
 }
 
@@ -403,6 +499,7 @@ const ON_THREE: &[Script] = &[
         &[
             (true, Act::History(ONE_PUT)),
             (false, Act::Claim(0)),
+            (false, Act::Hand),
             (true, Act::Claim(2)),
             (true, Act::Job(2, 0, 1)),
             (true, Act::Swap),
@@ -452,8 +549,10 @@ const ALONE: &[Script] = &[
         &[
             (true, Act::Claim(0)),
             (false, Act::Claim(0)),
+            (false, Act::Hand),
             (true, Act::Put(false)),
             (true, Act::Open(1)),
+            (true, Act::Hand),
             (false, Act::Put(true)),
             (true, Act::Put(true)),
         ],
@@ -461,21 +560,43 @@ const ALONE: &[Script] = &[
     ),
 ];
 
+/// Whether what is done, on a table or on the other, comes to what it is to.
+fn one_goes(
+    alloc: Global,
+    table: &mut TableState<Trees>,
+    jobs: &mut Seq<Job<Tree>>,
+    other: &mut TableState<Trees>,
+    others: &mut Seq<Job<Tree>>,
+    is_first: bool,
+    act: Act,
+) -> Result<bool, NoMemory>
+    requires jobs { AreHeld table.old.words jobs.old }
+    requires others { AreHeld other.old.words others.old }
+    ensures jobs { OnOk result (AreHeld table.new.words jobs.new) }
+    ensures others { OnOk result (AreHeld other.new.words others.new) }
+{
+    if is_first {
+        return goes_by(alloc, table, jobs, others, act);
+    }
+    goes_by(alloc, other, others, jobs, act)
+}
+
 /// Whether all that is done, on a table or on the other, comes to what it is to.
 fn all_go(
     alloc: Global,
     table: &mut TableState<Trees>,
-    other: &mut TableState<Trees>,
     jobs: &mut Seq<Job<Tree>>,
+    other: &mut TableState<Trees>,
+    others: &mut Seq<Job<Tree>>,
     acts: &[(bool, Act)],
-) -> Result<bool, NoMemory> {
+) -> Result<bool, NoMemory>
+    requires jobs { AreHeld table.old.words jobs.old }
+    requires others { AreHeld other.old.words others.old }
+    ensures jobs { OnOk result (AreHeld table.new.words jobs.new) }
+    ensures others { OnOk result (AreHeld other.new.words others.new) }
+{
     for (is_first, act) in acts {
-        let went = if *is_first {
-            goes(alloc, table, jobs, *act)?
-        } else {
-            goes(alloc, other, jobs, *act)?
-        };
-        if !went {
+        if !one_goes(alloc, table, jobs, other, others, *is_first, *act)? {
             return Ok(false);
         }
     }
@@ -491,10 +612,11 @@ fn go_behind(
 ) -> Result<bool, NoMemory> {
     let mut other = first(alloc, &Trees, Tree::Left, RULE)?;
     let mut jobs = Seq::new(alloc);
-    Ok(
-        all_go(alloc, table, &mut other, &mut jobs, begun)?
-            && all_go(alloc, table, &mut other, &mut jobs, acts)?,
-    )
+    let mut others = Seq::new(alloc);
+    if !all_go(alloc, table, &mut jobs, &mut other, &mut others, begun)? {
+        return Ok(false);
+    }
+    all_go(alloc, table, &mut jobs, &mut other, &mut others, acts)
 }
 
 /// Whether a script goes as it says.

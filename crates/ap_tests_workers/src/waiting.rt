@@ -1,5 +1,6 @@
 //! Workers that wait for each other at the goal table: the history's length, and what ends a wait.
 
+use crate::found::Found;
 use crate::shared::{RULE, claim, claim_three, drop_refused, expand_root, finished, put, put_kept};
 use crate::trees::{Tree, Trees};
 use ap_table::*;
@@ -113,7 +114,7 @@ fn woken<T: Drop, F: FnOnce() -> T + Drop, R: Threads + Wait + Clock + Sync>(
 fn claim_while_waited<R: Abort + Threads + Wait + Clock + Sync>(
     rt: &R,
     table: &GoalTable<Trees>,
-) -> Result<Job<Tree>, NoMemory> {
+) -> Result<Found<Trees>, NoMemory> {
     let (found, root) = woken(rt, table, 0, || claim(rt, table, 0))?;
     assert_eq!(rt; found, 1);
     Ok(root)
@@ -124,7 +125,7 @@ fn expand_while_waited<R: Abort + Threads + Wait + Clock + Sync>(
     rt: &R,
     alloc: Global,
     table: &GoalTable<Trees>,
-    root: Job<Tree>,
+    root: Found<Trees>,
 ) -> Result<(), NoMemory> {
     let (found, done) = woken(rt, table, 1, || expand_root(rt, alloc, table, root))?;
     done?;
@@ -137,7 +138,7 @@ fn put_while_waited<R: Abort + Threads + Wait + Clock + Sync>(
     rt: &R,
     alloc: Global,
     table: &GoalTable<Trees>,
-    job: Job<Tree>,
+    job: Found<Trees>,
     seen: u64,
     wanted: u64,
 ) -> Result<(), NoMemory> {

@@ -25,3 +25,6 @@ returns g c =
         back = back_shared g.S.Step.step_of g.S.Step.depth _ _ c.in-Some.job c.in_ok-children.ensures;
       },
     )
+
+pub work_claimed-requires-clause-words : goal.work_claimed-requires-clause-words
+work_claimed-requires-clause-words g c = c.in-Some.ensures.found.1

@@ -1,6 +1,7 @@
 -- A job that was claimed is dropped, expanded or walked.
 use Rattle.std.proofs.Common.{refl, inl, inr}
 use Rattle.ap_speculate.proofs.Handing.{came_back, told_false, due_after, is_put_drop, is_grown, is_refused, is_walked}
+use Rattle.ap_speculate.proofs.Seats.{still_at, at_later}
 use Rattle.ap_speculate.proofs.turn.work_claimed.Goals as goal
 
 pub returns-in-Some : goal.returns-in-Some
@@ -25,3 +26,12 @@ returns-in-Stranger g c =
     (inr (is_refused g.S.Step.step_of g.S.Step.depth g.B.Board.did c.args.board.now c.expand.new.self c.args.job c.look_at_job.new.job c.in-Stranger.job c.in_ok-stepped.stepped c.in-Stranger.field-1 c.expand.result
     c.look_at_job.ensures.stays c.in_ok-stepped.ensures (c.expands.ensures.0 c.if-not-expands.false) c.in-Stranger.is c.expand.ensures.back c.expand.ensures.done))
     (came_back c.args.job c.look_at_job.new.job c.in-Stranger.job c.in-Stranger.field-1 c.expand.result c.look_at_job.ensures.stays c.in-Stranger.is c.expand.ensures.back) c.walk_claimed-in-Stranger.ensures
+
+pub walk_claimed-requires-clause-words : goal.walk_claimed-requires-clause-words
+walk_claimed-requires-clause-words g c = still_at (g.B.Board.word c.args.board.now) c.args.job.seats c.look_at_job.new.job.seats c.look_at_job.ensures.stays.seats c.requires.words
+
+pub walk_claimed-requires-in-Stranger-clause-words : goal.walk_claimed-requires-in-Stranger-clause-words
+walk_claimed-requires-in-Stranger-clause-words g c =
+    let back = came_back c.args.job c.look_at_job.new.job c.in-Stranger.job c.in-Stranger.field-1 c.expand.result c.look_at_job.ensures.stays c.in-Stranger.is c.expand.ensures.back in
+    at_later (g.B.Board.word c.args.board.now) (g.B.Board.word c.expand.new.self) c.expand.ensures.words c.in-Stranger.job.seats
+    (still_at (g.B.Board.word c.args.board.now) c.args.job.seats c.in-Stranger.job.seats back.seats c.requires.words)
