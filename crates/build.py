@@ -212,6 +212,9 @@ def prove_libraries(uses, anew, now, record):
                 summary = lines
             elif name in uses and not begins:
                 write_log(name, lines)
+                if name in left:
+                    failed(name)
+                    return False
             elif name in left and made(name) is not None:
                 left.remove(name)
                 entry = {**record["crates"].get(name, {}), "sum": now["sums"][name]}
@@ -227,8 +230,8 @@ def prove_libraries(uses, anew, now, record):
             return True
     finally:
         stop(process)
-    lacking = [it for it in uses if f"{it}: failed" in "".join(summary)] or left
-    failed(lacking[0] if lacking else PROGRAM)
+    told_of = {line.partition(":")[0] for line in summary if ": failed" in line}
+    failed(next((it for it in uses if it in told_of), PROGRAM))
     return False
 
 
