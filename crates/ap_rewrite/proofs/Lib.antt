@@ -14,6 +14,7 @@ pub mod SimplifyingReduces
 pub mod ArithmeticSound
 pub mod InWorldStands
 pub mod Samples
+pub mod ConstantTypes
 pub mod Settled
 pub mod Negated
 pub mod FactsRelieve
@@ -37,6 +38,9 @@ pub mod Simplified
 pub mod Ruled
 pub mod LinearUsed
 pub mod Triggers
+pub mod Begun
+pub mod Told
+pub mod RuleReasons
 pub mod Refuted
 pub mod Advanced
 pub mod InstanceSizes

@@ -44,12 +44,25 @@ fn refuted<O: TypeOracle + LinearOracle, F: Below>(
     arithmetic_is_sound();
     l.r.w.recall_sound();
     l.r.w.recall_distinct_names();
-    let Begun { polys, atoms } = begin(l.r, at.ctx, t, sign)?;
+    let Begun {
+        polys,
+        mut whys,
+        atoms,
+    } = begin(l.r, at.ctx, t, sign)?;
     let places = linear_for(l.r.alloc, l.r.rules, atoms.as_slice())?;
-    let Some(all) = used_each(l, steps, at, places.as_slice(), atoms.as_slice(), polys)? else {
+    let Some(all) = used_each(
+        l,
+        steps,
+        at,
+        places.as_slice(),
+        atoms.as_slice(),
+        polys,
+        &mut whys,
+    )?
+    else {
         return Ok(None);
     };
-    let found = refute(l.r.alloc, l.r.w, l.r.oracle, at.ctx, t, sign, all)?;
+    let found = refute(l.r.alloc, l.r.w, l.r.oracle, at.ctx, t, sign, all, whys)?;
     Ok(Some(from_found(found)))
 }
 
@@ -136,7 +149,7 @@ fn other_order<O: TypeOracle + LinearOracle, F: Below>(
     requires facts { KnownFacts (defs_in l.now.r.now) at.now.ctx.now.0 }
     requires left { IsTrue (known (defs_in l.now.r.now) a.now) }
     requires right { IsTrue (known (defs_in l.now.r.now) b.now) }
-    requires within { IntegersWithin (defs_in l.now.r.now) at.now.ctx.now.0 a.now b.now masks.0 masks.1 }
+    requires within { IntegersWithin l.now.r.now.w.now at.now.ctx.now.0 a.now b.now masks.0 masks.1 }
     requires first { Refutes l.now.r.now.w.now at.now.ctx.now (less_of a.now b.now) true first }
     ensures is { IfOk result (λ o. got_if o steps.new.left ≡ refuted (setting_of l.now.r.now) (inner_of l.now.r.now l.now.levels) (seen_at at.now) (less_of b.now a.now) true steps.old.left) }
     ensures squeezes { IfOk result (λ o. IfSome o (λ q. IfSome (where_applied q) (Squeezes l.now.r.now.w.now at.now.ctx.now a.now b.now))) }
@@ -165,7 +178,7 @@ fn by_orders<O: TypeOracle + LinearOracle, F: Below>(
     requires facts { KnownFacts (defs_in l.now.r.now) at.now.ctx.now.0 }
     requires left { IsTrue (known (defs_in l.now.r.now) a.now) }
     requires right { IsTrue (known (defs_in l.now.r.now) b.now) }
-    requires within { IntegersWithin (defs_in l.now.r.now) at.now.ctx.now.0 a.now b.now masks.0 masks.1 }
+    requires within { IntegersWithin l.now.r.now.w.now at.now.ctx.now.0 a.now b.now masks.0 masks.1 }
     ensures is { IfOk result (λ o. got_if o steps.new.left ≡ by_orders (setting_of l.now.r.now) (inner_of l.now.r.now l.now.levels) (seen_at at.now) a.now b.now steps.old.left) }
     ensures squeezes { IfOk result (λ o. IfSome o (λ q. IfSome (where_applied q) (Squeezes l.now.r.now.w.now at.now.ctx.now a.now b.now))) }
 {
@@ -192,7 +205,7 @@ fn by_equal<O: TypeOracle + LinearOracle, F: Below>(
     requires equation { t.now ≡ equal_of a.now b.now }
     requires left { IsTrue (known (defs_in l.now.r.now) a.now) }
     requires right { IsTrue (known (defs_in l.now.r.now) b.now) }
-    requires within { IntegersWithin (defs_in l.now.r.now) at.now.ctx.now.0 a.now b.now masks.0 masks.1 }
+    requires within { IntegersWithin l.now.r.now.w.now at.now.ctx.now.0 a.now b.now masks.0 masks.1 }
     ensures is { IfOk result (λ o. got_any o steps.new.left ≡ by_equal (setting_of l.now.r.now) (inner_of l.now.r.now l.now.levels) (seen_at at.now) t.now a.now b.now steps.old.left) }
     ensures from { IfOk result (λ o. IfSome o (λ a'. IfSome (where_applied a') (From l.now.r.now.w.now Equal at.now.ctx.now t.now))) }
 {

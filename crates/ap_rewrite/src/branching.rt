@@ -4,7 +4,7 @@ ghost use Rattle.ap_world.specs.Assume.{assume};
 ghost use Rattle.ap_world.specs.Clauses.{not_of};
 ghost use Rattle.ap_world.specs.Facts.{KnownFacts};
 ghost use Rattle.ap_world.specs.Sound.{known};
-ghost use Rattle.ap_kernel.specs.Answers.{if_of};
+ghost use Rattle.ap_kernel.specs.Answers.{if_of, is_unchanged};
 ghost use Rattle.ap_kernel.specs.declared.objects.Mode.TheVariants.{Iff};
 ghost use Rattle.ap_rewrite.specs.Settings.{under};
 ghost use Rattle.ap_rewrite.specs.Rewriting.{truth_of, shaped, negated, both, branches, rewrite_if, rewrite_not};
@@ -55,7 +55,7 @@ fn under<O: TypeOracle, F: Below>(
 
 /// Whether none of an `if`'s parts changed. Takes no memory.
 fn are_unchanged(test: &Equiv, found: &BothBranches) -> bool
-    ensures { result ≡ (test.now.unchanged && (found.now.yes.unchanged && found.now.no.unchanged)) }
+    ensures { result ≡ (is_unchanged test.now && (is_unchanged found.now.yes && is_unchanged found.now.no)) }
 {
     test.is_unchanged() && found.yes.is_unchanged() && found.no.is_unchanged()
 }

@@ -15,7 +15,8 @@ ghost use Rattle.ap_world.specs.Shapes.{is_constant};
 ghost use Rattle.ap_world.specs.Sound.{known};
 ghost use Rattle.ap_rules.specs.Made.{rule_in};
 ghost use Rattle.ap_kernel.specs.Applying.{AllLead};
-ghost use Rattle.ap_kernel.specs.Standing.{Stands};
+ghost use Rattle.ap_world.specs.World.{function_of};
+ghost use Rattle.ap_kernel.specs.Standing.{DefinesNot, Stands};
 ghost use Rattle.ap_kernel.specs.declared.objects.Mode.TheVariants.{Iff};
 ghost use Rattle.ap_rewrite.specs.Leading.{leads_made};
 ghost use Rattle.ap_rewrite.specs.Settings.{relieving};
@@ -79,6 +80,7 @@ fn rewrite_instance<O: TypeOracle, F: Below>(
 /// What a hypothesis's instance leads to, where that is a constant other than `nil`: the pairs, which stay, and on
 /// to `'T`.
 fn where_true(alloc: Global, w: &World, q: Equiv, s: Subst) -> Result<Option<Relieved>, NoMemory>
+    requires ground { DefinesNot (function_of w.now.entries) }
     requires stands { Stands w.now q }
     requires mode { q.says.mode ≡ Iff }
     ensures is { IfOk result (λ o. option_map (λ a. a.pairs.0) o ≡ if_so (is_constant true q.says.rhs) s.0) }

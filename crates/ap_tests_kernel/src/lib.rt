@@ -4,6 +4,8 @@
 #[cfg(test)]
 mod clauses;
 #[cfg(test)]
+mod deep;
+#[cfg(test)]
 mod expect;
 #[cfg(test)]
 mod hints;
