@@ -33,6 +33,11 @@
 //! them, and [`trans`], [`weaken_mode`], [`cong`] and [`branch`] where all that they are handed are such. So who
 //! rewrites a term needn't build again what didn't change.
 //!
+//! Each other object keeps how it was made, as a [`Derivation`]: the row, its arguments, and how the objects were
+//! made that the row was handed. The arguments are kept at a count each; a derivation is moved on from what is
+//! handed in by value, and else shared. Where an equivalence's sides are known to be one term nothing is kept, since
+//! it is [`refl`] of its own parts ([`why_of`]).
+//!
 //! An equivalence owns its sides, so that it can be taken apart and its terms moved into the next one. A row
 //! that is lent a term copies it, and a copy shares the arguments and the names: it costs a count for each,
 //! whatever the term's size. What is handed in by value is moved. Facts are shared and never copied, but
@@ -59,8 +64,9 @@
 //! | [`fertilise`] | the clause with an equation among its hypotheses used in one side of another, and left out | the other literals |
 //! | [`induct`] | the clauses of an induction by a recursive function | what isn't changed |
 //!
-//! A reduction owns both its clause, which is moved, and those that it leads to: so literals that stand in
-//! both are copied once.
+//! A reduction owns those that it leads to, and shares its clause, which is moved, with how it was made: so literals
+//! that stand in both are copied once. [`chain`] and [`then`] keep how each was made that they are handed, and
+//! [`keep`] is kept as [`cases`] of no terms.
 //!
 //! # What isn't a row
 //!

@@ -1,4 +1,4 @@
-use Rattle.std.proofs.Common.{◌≡◌, Some, None, refl, rules}
+use Rattle.std.proofs.Common.{◌≡◌, Some, None, rules}
 use Rattle.ap_world.specs.World.{function_of}
 use Rattle.ap_kernel.specs.Splits.{split_made}
 use Rattle.ap_kernel.proofs.Derived.{reduces_by}
