@@ -22,27 +22,50 @@ make_toolchain() {
     echo "stand-in 1" >"$scratch/kit/KIT-ID"
     cat >"$scratch/kit/bin/rt" <<'RT'
 #!/bin/bash
-# what `rt` leaves: a library with a stamp, or the program with one, of which `rt run` ends by a run
+# what `rt` leaves: libraries with a stamp each by `rt all check`, or the program with one by `rt run`, which ends by running it
 kit=$(dirname "$(readlink -f "$0")")/..
 [ "$1" = version ] && exec cat "$kit/KIT-ID"
-name=$(basename "$PWD")
-sum=$(cat "$kit/KIT-ID" src/* $(sed -n "s/^$name: *//p" ../../crates.txt | tr ' ' '\n' | sed 's|.*|../&/out/rlib/stamp|') 2>/dev/null | sha256sum)
-if [ "$1" = lib ]; then at=out/rlib/stamp; else at=out/acl2p.stamp; fi
-if [ "$sum" != "$(cat $at 2>/dev/null)" ]; then
+# make NAME: proves one crate in its folder; a library, or the program with its stamp where the command is `run`
+make() {
+    local name=$1 at=out/rlib/stamp
+    cd "$crates/$name" || exit 1
+    [ "$verb" = run ] && at=out/acl2p.stamp
+    sum=$(cat "$kit/KIT-ID" src/* $(sed -n "s/^$name: *//p" ../../crates.txt | tr ' ' '\n' | sed 's|.*|../&/out/rlib/stamp|') 2>/dev/null | sha256sum)
+    [ "$sum" = "$(cat $at 2>/dev/null)" ] && return 0
     echo "$name" >>"$CALLS"
     rm -f "$at"
     for _ in $(seq "${SLOW:-1}"); do sleep 0.1; done
-    grep -q wrong src/* && { echo "error: not proved"; exit 1; }
-    if [ "$1" = lib ]; then
+    grep -q wrong src/* && { echo "error: not proved"; return 1; }
+    if [ "$verb" = all ]; then
         mkdir -p "out/rlib/$name.rlib"
     else
         printf '#!/bin/sh\n[ $# = 0 ] && { echo "usage: acl2p BOOK .."; exit 2; }\necho "%s: $*"\n' "$(cat src/main.rt)" >out/acl2p
         chmod +x out/acl2p
     fi
     echo "$sum" >"$at"
+}
+verb=$1 crates=$(cd .. && pwd)
+[ "$(basename "$PWD")" = acl2p ] || exit 1
+if [ "$verb" = run ]; then
+    make acl2p || exit 1
+    exec out/acl2p
 fi
-[ "$1" = run ] || exit 0
-out/acl2p
+[ "$1 $2 $3" = "all check --jobs" ] || exit 1
+summary= failed=
+for name in low mid; do
+    if [ -n "$failed" ]; then
+        summary="$summary$name: not run, since $failed failed
+"
+        continue
+    fi
+    said=$(make $name); status=$?
+    printf '== %s\n%s\n' "$name" "$said"
+    if [ $status = 0 ]; then summary="$summary$name: ok
+"; else failed=$name summary="$summary$name: failed (1)
+"; fi
+done
+printf '== summary\n%s' "$summary"
+[ -z "$failed" ]
 RT
     chmod +x "$scratch/kit/bin/rt"
 }

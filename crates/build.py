@@ -114,13 +114,10 @@ def log_of(name):
     return os.path.join(CRATES, name, "out", "build.log")
 
 
-def start(name):
-    """Starts the proof of one crate, whose lower crates are built, in a group of its own."""
-    folder = os.path.join(CRATES, name)
-    os.makedirs(os.path.join(folder, "out"), exist_ok=True)
-    with open(log_of(name), "w", encoding="utf-8") as log:
-        words = ["rt", "run"] if name == PROGRAM else ["rt", "lib"]
-        return subprocess.Popen(words, cwd=folder, stdin=subprocess.DEVNULL, stdout=log, stderr=log, start_new_session=True)
+def start(words, out):
+    """Starts a command of the toolchain in the program's folder, in a group of its own."""
+    folder = os.path.join(CRATES, PROGRAM)
+    return subprocess.Popen(words, cwd=folder, stdin=subprocess.DEVNULL, stdout=out, stderr=subprocess.STDOUT, start_new_session=True)
 
 
 def made(name):
@@ -129,24 +126,20 @@ def made(name):
     return os.stat(at).st_mtime_ns if os.path.exists(at) else None
 
 
-def has_passed(name, status):
-    """Whether the toolchain built the crate. The program is run once it is built, and without words it has to print its usage."""
-    if made(name) is None:
+def has_passed(status):
+    """Whether the toolchain built the program. It is run once it is built, and without words it has to print its usage."""
+    if made(PROGRAM) is None:
         return False
-    if name != PROGRAM:
-        return status == 0
-    with open(log_of(name), encoding="utf-8", errors="replace") as log:
+    with open(log_of(PROGRAM), encoding="utf-8", errors="replace") as log:
         return status == 2 and "usage: acl2p" in log.read()
 
 
-def stop(running):
-    for process in [it for it, _ in running.values()]:
-        try:
-            os.killpg(process.pid, signal.SIGTERM)
-        except ProcessLookupError:
-            pass
-    for process in [it for it, _ in running.values()]:
-        process.wait()
+def stop(process):
+    try:
+        os.killpg(process.pid, signal.SIGTERM)
+    except ProcessLookupError:
+        pass
+    process.wait()
 
 
 def failed(name):
@@ -177,38 +170,97 @@ def announce(uses, anew, now, record):
         say(f"the last build proved {record['last']['crates']} in {duration(record['last']['seconds'])} by the clock")
 
 
-def prove(uses, anew, now, record):
-    """Proves these crates, each once those below it are. Answers whether all are."""
-    waiting, running, done, most = list(anew), {}, set(uses) - set(anew), jobs()
+def spent_below(process):
+    """Processor time, in seconds, of what the process waited for so far; nothing where the system doesn't tell."""
     try:
-        while waiting or running:
-            for name in [it for it in waiting if done.issuperset(set(uses[it]) & set(uses))]:
-                if len(running) < most:
-                    waiting.remove(name)
-                    running[name] = (start(name), made(name))
-            time.sleep(0.05)
-            for name, (process, before) in list(running.items()):
-                pid, status, usage = os.wait4(process.pid, os.WNOHANG)
-                if not pid:
-                    continue
-                process.returncode = os.waitstatus_to_exitcode(status)
-                del running[name]
-                if not has_passed(name, process.returncode):
-                    failed(name)
-                    return False
-                done.add(name)
+        with open(f"/proc/{process.pid}/stat", "rb") as it:
+            words = it.read().rpartition(b") ")[2].split()
+        return (int(words[13]) + int(words[14])) / os.sysconf("SC_CLK_TCK")
+    except (OSError, ValueError, IndexError):
+        return 0.0
+
+
+def told(process):
+    """What `rt all` says of each crate, once it is done: its name and what was printed. What isn't of a crate comes as the
+    program's."""
+    name, lines = PROGRAM, []
+    for line in process.stdout:
+        text = line.decode("utf-8", errors="replace")
+        if text.startswith("== "):
+            yield name, lines, False
+            name, lines = text[3:].strip(), []
+            yield name, lines, True
+        lines.append(text)
+    yield name, lines, False
+
+
+def write_log(name, lines):
+    os.makedirs(os.path.join(CRATES, name, "out"), exist_ok=True)
+    with open(log_of(name), "w", encoding="utf-8") as log:
+        log.writelines(lines)
+
+
+def prove_libraries(uses, anew, now, record):
+    """Proves what the program stands on, by one command: two of them in one clone wait for each other. Answers whether
+    all is proved."""
+    before = {it: made(it) for it in anew}
+    left, spent, summary = [it for it in anew if it != PROGRAM], 0.0, []
+    process = start(["rt", "all", "check", "--jobs", str(jobs())], subprocess.PIPE)
+    try:
+        for name, lines, begins in told(process):
+            if name == "summary":
+                summary = lines
+            elif name in uses and not begins:
+                write_log(name, lines)
+            elif name in left and made(name) is not None:
+                left.remove(name)
                 entry = {**record["crates"].get(name, {}), "sum": now["sums"][name]}
-                left = len(waiting) + len(running)
-                if made(name) != before:
-                    entry["seconds"] = round(usage.ru_utime + usage.ru_stime, 1)
-                    say(f"{name} proved, {duration(entry['seconds'])} of processor time, {left} left")
+                now_spent = spent_below(process)
+                if made(name) != before[name]:
+                    entry["seconds"], spent = round(now_spent - spent, 1), now_spent
+                    say(f"{name} proved, {duration(entry['seconds'])} of processor time, {len(left) + 1} left")
                 else:
-                    say(f"{name} was proved already, {left} left")
+                    say(f"{name} was proved already, {len(left) + 1} left")
                 record["crates"][name] = entry
                 keep("built.json", json.dumps(record, indent=1))
-        return True
+        if process.wait() == 0 and not left:
+            return True
     finally:
-        stop(running)
+        stop(process)
+    lacking = [it for it in uses if f"{it}: failed" in "".join(summary)] or left
+    failed(lacking[0] if lacking else PROGRAM)
+    return False
+
+
+def prove_program(now, record):
+    """Proves and builds the program, whose libraries are built. Answers whether it is."""
+    before = made(PROGRAM)
+    os.makedirs(os.path.dirname(log_of(PROGRAM)), exist_ok=True)
+    with open(log_of(PROGRAM), "w", encoding="utf-8") as log:
+        process = start(["rt", "run"], log)
+    try:
+        _, status, usage = os.wait4(process.pid, 0)
+        process.returncode = os.waitstatus_to_exitcode(status)
+    finally:
+        if process.returncode is None:
+            stop(process)
+    if not has_passed(process.returncode):
+        failed(PROGRAM)
+        return False
+    entry = {**record["crates"].get(PROGRAM, {}), "sum": now["sums"][PROGRAM]}
+    if made(PROGRAM) != before:
+        entry["seconds"] = round(usage.ru_utime + usage.ru_stime, 1)
+        say(f"{PROGRAM} proved and built, {duration(entry['seconds'])} of processor time")
+    record["crates"][PROGRAM] = entry
+    keep("built.json", json.dumps(record, indent=1))
+    return True
+
+
+def prove(uses, anew, now, record):
+    """Proves these crates and builds the program. Answers whether all are proved."""
+    if anew != [PROGRAM] and not prove_libraries(uses, anew, now, record):
+        return False
+    return prove_program(now, record)
 
 
 def install():
