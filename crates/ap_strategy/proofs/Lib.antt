@@ -4,4 +4,4 @@ pub mod Counted
 pub mod Grounded
 pub mod Kept
 pub mod Made
-pub mod Reducing
+pub mod StepLeads

@@ -1,15 +1,14 @@
 -- What a goal's clause is reduced to by its step: from what each part of the step is reduced to.
-use Rattle.std.proofs.Common.{◌≡◌, ℕ, Bool, true, false, cond, nat_lt, ◌&&◌, List, [], ◌∷◌, ◌++◌, map, length, Option, Some, None, IfSome, option_map, is_some, slice_get, refl, ap, sym, ◌∙◌, subst}
+use Rattle.std.proofs.Common.{◌≡◌, ℕ, Bool, true, false, cond, nat_lt, ◌&&◌, List, [], ◌∷◌, ◌++◌, map, length, Option, Some, None, IfSome, option_map, slice_get, refl, ap, sym, ◌∙◌, subst}
 use Rattle.ap_list.specs.Lists.{Each}
 use Rattle.ap_value.specs.declared.symbol.Symbol.{Symbol}
 use Rattle.ap_term.specs.declared.term.Term.{Term, out-Term}
 use Rattle.ap_term.specs.declared.term.Subst.{Subst}
 use Rattle.ap_term.specs.declared.term.Clause.{Clause}
 use Rattle.ap_world.specs.declared.entry.Entry.{Entry}
-use Rattle.ap_world.specs.declared.entry.Theorem.{Theorem}
 use Rattle.ap_world.specs.Shapes.{shape_of}
 use Rattle.ap_world.specs.Theories.{ShownTheory}
-use Rattle.ap_world.specs.World.{Shown, theorem_of}
+use Rattle.ap_world.specs.World.{Shown}
 use Rattle.ap_names.specs.Names.{Name}
 use Rattle.ap_hints.specs.declared.hint.Hint.{Hint}
 use Rattle.ap_walk.specs.declared.act.Out.{Out}
@@ -21,7 +20,8 @@ use Rattle.ap_kernel.specs.Eliminating.{eliminated}
 use Rattle.ap_kernel.specs.Fertilising.{negated_sides, literal_fertilised, fertilised, fertilised_by, fertilise_made}
 use Rattle.ap_kernel.specs.Generalising.{generalised}
 use Rattle.ap_kernel.specs.Splits.{and_then}
-use Rattle.ap_kernel.specs.Hinting.{used}
+use Rattle.ap_kernel.specs.Tidying.{tidied, holds_by_itself, tidy_made}
+use Rattle.ap_rewrite.specs.Settings.{Setting}
 use Rattle.ap_kernel.specs.Reductions.{Reduces, to_one, all_from, all_to}
 use Rattle.ap_kernel.proofs.Splitting.{then_some}
 use Rattle.ap_elim.specs.Naming.{new_name}
@@ -32,7 +32,7 @@ use Rattle.ap_weaken.specs.Irrelevance.{some_irrelevant, some_relevant, left_out
 use Rattle.ap_strategy.specs.Goals.{Goal, hint_for, hinted}
 use Rattle.ap_strategy.specs.Laws.{scheme_for}
 use Rattle.ap_strategy.specs.Leads.{once, said_once, clauses_of, to_children, LeadsFrom, made_of, once_made, used_from}
-use Rattle.ap_strategy.specs.Steps.{setting_of, is_repeated, unrepeated, reduced, simplified, is_alone, counted_down, child, children, done, stop_step, later, seen_below, missed_step, simplify_step, open_step, used_in, used_all, makes_goals, hint_goals, pushed_or_open, hint_step, scheme_step, induct_step, reduced_to}
+use Rattle.ap_strategy.specs.Steps.{setting_of, tidied_clause, first_solved, opened, is_repeated, unrepeated, reduced, simplified, is_alone, counted_down, child, children, done, stop_step, later, seen_below, missed_step, simplify_step, open_step, used_all, makes_goals, hint_goals, pushed_or_open, hint_step, scheme_step, induct_step, reduced_to}
 
 -- the clauses of children are those that they are made of
 counted_clauses : (g : Goal) (name : Name) (ds : List Clause) → clauses_of (map (child g) (counted_down name ds)) ≡ ds
@@ -128,7 +128,7 @@ open_split g es e others =
     ∙ ap (λ cs. Some (once (reduced_to g.clause cs))) (children_clauses g (unrepeated [] es)) ∙ ap (λ cs. Some (record { from = g.clause; to = cs })) (once_twice es)
 
 -- by what the code sees: a goal that is this one, a copy of its clause, and what that is reduced to
-record Seen (g : Goal) (c : Clause) (m : Option Reduction) : Type 0 where
+pub record Seen (g : Goal) (c : Clause) (m : Option Reduction) : Type 0 where
   pub copied : c ≡ g.clause
   pub made : option_map (λ (r : Reduction). r.says) m ≡ option_map (reduced_to c) (reduced (setting_of g) g.plan.step_limit c)
 
@@ -154,6 +154,25 @@ some_reduced c x (Some ds) e =
   where
     is : ◌≡◌ {A = Option Inference} (Some x) (Some (reduced_to c ds)) → x ≡ reduced_to c ds
     is q = cc
+
+pub reduce_says : (S : Setting) (n : ℕ) (c k d : Clause) (t a : Inference) (x : Option Reduction) (r : Reduction) → t ≡ tidy_made c → t.to ≡ d ∷ [] → k ≡ d
+    → option_map (λ (r : Reduction). r.says) x ≡ option_map (reduced_to k) (opened S n k (first_solved k 0 k.0)) → x ≡ Some r → a ≡ record { from = t.from; to = r.says.to }
+    → Some a ≡ option_map (reduced_to c) (reduced S n c)
+reduce_says S n c k d t a x r tidy one copied made some after = go (holds_by_itself (tidied c.0)) (sym one ∙ ap (λ (i : Inference). i.to) tidy)
+  where
+    no : (d : Clause) → ◌≡◌ {A = List Clause} (d ∷ []) [] → ⊥
+    no d e = cc
+
+    first : (d e : Clause) → d ∷ [] ≡ e ∷ [] → d ≡ e
+    first d e q = cc
+
+    go : (b : Bool) → d ∷ [] ≡ cond b [] (tidied_clause c ∷ []) → Some a ≡ option_map (reduced_to c) (cond b (Some []) (opened S n (tidied_clause c) (first_solved (tidied_clause c) 0 (tidied c.0))))
+    go true q = absurd (no d q)
+    go false q =
+        let is : k ≡ tidied_clause c = copied ∙ first d (tidied_clause c) q in
+        let left = some_reduced k r.says (opened S n k (first_solved k 0 k.0)) (sym (ap (option_map (λ (r : Reduction). r.says)) some) ∙ made) in
+        ap (λ (i : Inference). Some i) (after ∙ ap (λ (i : Inference). record { from = i.from; to = r.says.to }) tidy)
+        ∙ sym (ap (option_map (reduced_to c)) (ap (λ (e : Clause). opened S n e (first_solved e 0 e.0)) (sym is) ∙ left.0))
 
 pub opening_none : (g : Goal) (c : Clause) (m : Option Reduction) → Seen g c m → m ≡ None → to_children g.clause (open_step g).out ≡ option_map (once_made g.clause) (later g)
 opening_none g c m s none =
@@ -185,25 +204,7 @@ induct_to g p few found from =
     ap (λ c. Some (once (reduced_to c p.1.to))) from ∙ sym (ap (λ b. to_children g.clause (cond b (stop_step false Reason.InductionDepth) (scheme_step g (scheme_for g))).out) few
     ∙ ap (λ o. to_children g.clause (scheme_step g o).out) found ∙ ap (λ cs. Some (once (reduced_to g.clause cs))) (counted_clauses g g.name p.1.to))
 
--- the instances of theorems that a hint uses
-pub used_says : (W : List Entry) (x : Symbol) (s : Subst) (c : Clause) (i : Inference) → is_some (theorem_of W x) ≡ true → IfSome (theorem_of W x) (λ (u : Theorem). i ≡ used c u.term s.0)
-    → i ≡ reduced_to c (used_in (theorem_of W x) s c ∷ [])
-used_says W x s c i = go (theorem_of W x)
-  where
-    go : (o : Option Theorem) → is_some o ≡ true → IfSome o (λ (u : Theorem). i ≡ used c u.term s.0) → i ≡ reduced_to c (used_in o s c ∷ [])
-    go None h e = cc
-    go (Some u) h e = e
-
--- one clause after another
-same_clause : (c d : Clause) → c ∷ [] ≡ d ∷ [] → c ≡ d
-same_clause c d e = cc
-
-pub used_then : (o : Option Theorem) (s : Subst) (r n a : Inference) (c k d : Clause) → r.to ≡ c ∷ [] → k ≡ c → n ≡ reduced_to k (used_in o s k ∷ []) → a ≡ record { from = r.from; to = n.to } → r.to ≡ d ∷ []
-    → a ≡ reduced_to r.from (used_in o s d ∷ [])
-used_then o s r n a c k d one copied next after as =
-    let same : k ≡ d = copied ∙ same_clause c d (sym one ∙ as) in
-    after ∙ ap (λ (i : Inference). record { from = r.from; to = i.to }) next ∙ ap (λ e. reduced_to r.from (used_in o s e ∷ [])) same
-
+-- each case of a hint
 from_used : (W : List Entry) (us : List (Symbol × Subst)) (cs : List Clause) → all_from (map (used_from W us) cs) ≡ cs
 from_used W us [] = refl
 from_used W us (c ∷ cs) = ap (λ ds. c ∷ ds) (from_used W us cs)

@@ -127,7 +127,10 @@ fn by_generalize<J: Planned>(alloc: Global, task: &Task<'_, J>) -> Result<Option
 }
 
 /// The dropping of what is irrelevant, unless it is skipped.
-fn by_irrelevance<J: Planned>(alloc: Global, task: &Task<'_, J>) -> Result<Option<Applied>, NoMemory>
+fn by_irrelevance<J: Planned>(
+    alloc: Global,
+    task: &Task<'_, J>,
+) -> Result<Option<Applied>, NoMemory>
     ensures made { IfOk result (λ o. option_map made_of o ≡ by_irrelevance task.now) }
     ensures leads { IfOk result (λ o. IfSome o (λ p. LeadsFrom task.now p.1)) }
 {

@@ -30,10 +30,7 @@ fn clauses_once(alloc: Global, r: &Reduction) -> Result<Seq<Clause>, NoMemory>
 }
 
 /// By the first process behind simplification that applies.
-fn by_later<J: Planned>(
-    alloc: Global,
-    task: &Task<'_, J>,
-) -> Result<Option<Reduction>, NoMemory>
+fn by_later<J: Planned>(alloc: Global, task: &Task<'_, J>) -> Result<Option<Reduction>, NoMemory>
     ensures made { IfOk result (λ o. option_map said_once o ≡ option_map (once_made task.now.clause) (later task.now)) }
     ensures stands { IfOk result (λ o. IfSome o (Reduces task.now.plan.world)) }
 {

@@ -1,7 +1,7 @@
 use Rattle.std.proofs.Common.{◌∙◌, ap}
 use Rattle.ap_strategy.specs.Goals.{Goal}
 use Rattle.ap_strategy.proofs.Grounded.{ground_lent}
-use Rattle.ap_strategy.proofs.Reducing.{fertilize_from, leads_by}
+use Rattle.ap_strategy.proofs.StepLeads.{fertilize_from, leads_by}
 use Rattle.ap_strategy.proofs.later.by_fertilize.Goals as goal
 
 pub fertilize-requires-clause-ground : goal.fertilize-requires-clause-ground

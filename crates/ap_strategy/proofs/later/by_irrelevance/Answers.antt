@@ -1,7 +1,7 @@
 use Rattle.std.proofs.Common.{◌∙◌, ap}
 use Rattle.ap_strategy.specs.Goals.{Goal}
 use Rattle.ap_strategy.proofs.Grounded.{ground_lent}
-use Rattle.ap_strategy.proofs.Reducing.{irrelevance_from, leads_by}
+use Rattle.ap_strategy.proofs.StepLeads.{irrelevance_from, leads_by}
 use Rattle.ap_strategy.proofs.later.by_irrelevance.Goals as goal
 
 pub irrelevance-requires-clause-ground : goal.irrelevance-requires-clause-ground
