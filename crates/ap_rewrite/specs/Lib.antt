@@ -11,5 +11,8 @@ pub mod Leading
 pub mod Relieved
 pub mod SoundSettings
 pub mod Laws
+pub mod Keys
+pub mod Shown
 pub mod Answering
+pub mod Remembering
 pub mod Simplifying

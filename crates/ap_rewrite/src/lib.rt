@@ -1,6 +1,6 @@
 //! Conditional rewriting: what a term becomes by rules, definitions, types and facts, each step counted, as a
 //! definition (`specs/Rewriting.antt`), and its laws ([`laws`]). [`literal`] rewrites a term under facts, and
-//! [`simplify`] the literals of a clause in turn, and splits what is left. See the manual's topics `rewrite`,
+//! [`simplify`] the literals of a clause in turn, with one [`Memo`] of what terms became, and splits what is left. See the manual's topics `rewrite`,
 //! `introduction-to-the-theorem-prover` and "The Rewriter" in "Computer-Aided Reasoning" (2000).
 #![tactic(auto)]
 
@@ -11,9 +11,11 @@ mod calls;
 mod engines;
 mod equating;
 mod facts;
+mod known;
 pub mod laws;
 mod linear_rules;
 mod literals;
+mod memo;
 mod opening;
 mod ordering;
 mod refuting;
@@ -27,7 +29,8 @@ mod shaping;
 mod simplifying;
 mod sizes;
 
-pub use literals::literal;
-pub use rewriter::{Place, Rewriter};
+pub use literals::{literal, literal_kept};
+pub use memo::{Memo, memo};
+pub use rewriter::{Place, Rewriter, Run};
 pub use rewriting::rewrite;
 pub use simplifying::simplify;
