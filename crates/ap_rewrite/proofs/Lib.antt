@@ -21,6 +21,7 @@ pub mod FactsRelieve
 pub mod Bounded
 pub mod Leading
 pub mod Levels
+pub mod Seats
 pub mod Froms
 pub mod Arguments
 pub mod Walked

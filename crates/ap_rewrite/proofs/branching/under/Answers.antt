@@ -1,4 +1,4 @@
-use Rattle.std.proofs.Common.{IfSome, subst}
+use Rattle.std.proofs.Common.{IfOk, IfSome, subst}
 use Rattle.ap_kernel.specs.declared.objects.Ctx.{Ctx}
 use Rattle.ap_rewrite.specs.Answering.{From, defs_in}
 use Rattle.ap_rewrite.proofs.Froms.{ctx_is, assumed_known}
@@ -9,8 +9,8 @@ deeper-requires-clause-facts g c =
     assumed_known (defs_in c.args.l.now.r.now) c.args.at.now.ctx.now.0 c.args.a.now c.args.sign _ c.in_ok-ctx.ensures c.requires.facts c.requires.test
 
 pub returns-clause-is : goal.returns-clause-is
-returns-clause-is g c = rw (← c.in_ok-ctx.ensures) c.in_ok-found.ensures.is
+returns-clause-is g c = rw (← c.in_ok-ctx.ensures) c.deeper.ensures.is
 
 pub returns-clause-from : goal.returns-clause-from
 returns-clause-from g c =
-    subst (λ (x : Ctx). IfSome c.in_ok-found.found (From c.args.l.now.r.now.w.now c.args.mode x c.args.t.now)) (ctx_is c.in_ok-ctx.ctx _ c.in_ok-ctx.ensures) c.in_ok-found.ensures.from
+    subst (λ (x : Ctx). IfOk c.deeper.result (λ o. IfSome o (From c.args.l.now.r.now.w.now c.args.mode x c.args.t.now))) (ctx_is c.in_ok-ctx.ctx _ c.in_ok-ctx.ensures) c.deeper.ensures.from
