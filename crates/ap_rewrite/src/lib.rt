@@ -5,6 +5,7 @@
 #![tactic(auto)]
 
 mod arithmetic;
+mod beginning;
 mod bounding;
 mod branching;
 mod calls;
@@ -15,7 +16,7 @@ mod known;
 pub mod laws;
 mod linear_rules;
 mod literals;
-mod memo;
+mod memos;
 mod opening;
 mod ordering;
 mod refuting;
@@ -29,8 +30,9 @@ mod shaping;
 mod simplifying;
 mod sizes;
 
+pub use beginning::memo;
 pub use literals::{literal, literal_kept};
-pub use memo::{Memo, memo};
+pub use memos::Memo;
 pub use rewriter::{Place, Rewriter, Run};
 pub use rewriting::rewrite;
 pub use simplifying::simplify;

@@ -10,7 +10,7 @@ ghost use Rattle.ap_rewrite.specs.InWorld.{world_setting};
 ghost use Rattle.ap_rewrite.specs.Rewriting.{rewrite_of};
 ghost use Rattle.ap_rewrite.specs.Answering.{defs_in, Ready, setting_of, seen_at, got, steps_after, From, IsFor};
 
-use crate::memo::Memo;
+use crate::memos::Memo;
 use crate::rewriter::{Place, Rewriter, Run};
 use crate::rewriting::rewrite;
 use ap_kernel::{Ctx, Equiv, LinearOracle, Mode, NoMemory, Seq, Term, TypeOracle, World};

@@ -3,7 +3,7 @@ ghost use Rattle.ap_world.specs.Facts.{KnownFacts};
 ghost use Rattle.ap_world.specs.Sound.{known};
 ghost use Rattle.ap_rewrite.specs.Answering.{defs_in, where_applied, inner_of, seen_at, got, From, Here, IsLevel};
 
-use crate::memo::Memo;
+use crate::memos::Memo;
 use ap_kernel::{Ctx, Equiv, Mode, NoMemory, Seq, Symbol, Term, TypeOracle, World};
 use ap_rules::RuleIndex;
 use ap_world::Theory;

@@ -13,7 +13,7 @@ ghost use Rattle.ap_rewrite.specs.Answering.{defs_in, Ready, setting_of, got, Is
 ghost use Rattle.ap_rewrite.specs.Simplifying.{got_reduced, literals_left, HasPlace, FitsLiteral, LeavesTrue};
 
 use crate::literals::literal_kept;
-use crate::memo::Memo;
+use crate::memos::Memo;
 use crate::rewriter::Rewriter;
 use ap_clausify::split;
 use ap_kernel::{

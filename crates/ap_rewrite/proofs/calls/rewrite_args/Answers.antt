@@ -10,8 +10,8 @@ loop-u-init g c = (args_begin _ _ _ _ _ (search rules), refl)
 pub loop-u-preserved : goal.loop-u-preserved
 loop-u-preserved g c = (
   argument_done _ _ (setting_of c.args.l.now.r.now) (inner_of c.args.l.now.r.now c.args.l.now.levels) (seen_at c.args.at.now) _ _ _ _ _ _ _ _ _ c.in-Some.q
-    (from_place c.args.us.now c.loop-u.u-index _ (omega arith) c.u-item.is) c.loop-u.invariant.0
-    (rw c.in-Some.is at c.in_ok-q.ensures.is) (rw c.in-Some.is at c.in_ok-q.ensures.from) c.in_ok-push.ensures.ok,
+      (from_place c.args.us.now c.loop-u.u-index _ (omega arith) c.u-item.is) c.loop-u.invariant.0
+      (rw c.in-Some.is at c.in_ok-q.ensures.is) (rw c.in-Some.is at c.in_ok-q.ensures.from) c.in_ok-push.ensures.ok,
   c.deeper.ensures.kept ∙ c.loop-u.invariant.1,
 )
 

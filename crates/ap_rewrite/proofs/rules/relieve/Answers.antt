@@ -20,11 +20,10 @@ relieve_one-requires-clause-hyp g c =
 
 pub loop-h-preserved : goal.loop-h-preserved
 loop-h-preserved g c =
-    let there : c.in_ok-relieve_one.field-0 ≡ Some (Applied c.in-Some-Applied.found) = c.in-Some-Applied.is ∙ ap Some c.in-Some-Applied.field-0-is in
-    (
+    let there : c.in_ok-relieve_one.field-0 ≡ Some (Applied c.in-Some-Applied.found) = c.in-Some-Applied.is ∙ ap Some c.in-Some-Applied.field-0-is in (
       relief_done _ _ (inner_of c.args.l.now.r.now c.args.l.now.levels) (seen_at c.args.at.now) _ _ _ _ _ _ _ _ _ c.relieve_one.new.steps.left
-    (from_place c.args.hs.now c.loop-h.h-index c.h-item.result (omega arith) c.h-item.is) c.loop-h.invariant.0 c.in-Some-Applied.found c.push.new.self (few_around c.args.at.now.chain c.if-at-ge10.false)
-    (rw there at c.in_ok-relieve_one.ensures.is) (rw there at c.in_ok-relieve_one.ensures.shown) c.in_ok-push-in-Some-Applied.ensures.ok,
+          (from_place c.args.hs.now c.loop-h.h-index c.h-item.result (omega arith) c.h-item.is) c.loop-h.invariant.0 c.in-Some-Applied.found c.push.new.self (few_around c.args.at.now.chain c.if-at-ge10.false)
+          (rw there at c.in_ok-relieve_one.ensures.is) (rw there at c.in_ok-relieve_one.ensures.shown) c.in_ok-push-in-Some-Applied.ensures.ok,
       c.relieve_one.ensures.kept ∙ c.loop-h.invariant.1,
     )
 

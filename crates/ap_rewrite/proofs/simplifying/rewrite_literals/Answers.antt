@@ -40,10 +40,9 @@ returns-then-is_proved-clause-is g c =
 
 pub loop-place-preserved : goal.loop-place-preserved
 loop-place-preserved g c =
-    let fits : c.loop-place.place < length c.args.c.0 = omega arith in
-    (
+    let fits : c.loop-place.place < length c.args.c.0 = omega arith in (
       turned_stage _ _ _ _ _ _ _
-    (stage_turned _ _ _ _ _ _ _ fits c.loop-place.invariant.0 c.in-Some.next c.advance.new.steps.left (rw c.in-Some.is at c.in_ok-next.ensures.is) (rw c.in-Some.is at c.in_ok-next.ensures.stands))
-    c.is_proved.result c.is_proved.ensures c.if-is_proved.false,
+          (stage_turned _ _ _ _ _ _ _ fits c.loop-place.invariant.0 c.in-Some.next c.advance.new.steps.left (rw c.in-Some.is at c.in_ok-next.ensures.is) (rw c.in-Some.is at c.in_ok-next.ensures.stands))
+          c.is_proved.result c.is_proved.ensures c.if-is_proved.false,
       c.advance.ensures.kept ∙ c.loop-place.invariant.1,
     )

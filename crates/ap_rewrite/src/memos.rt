@@ -1,5 +1,5 @@
 // STUB of helper B's file: nothing is kept, and no place is numbered. NOT what lands.
-ghost use Rattle.std.specs.Prelude.{◌≡◌, ◌∷◌, [], ◌×◌, List, Option, Some, None, IfOk, OnOk, OnErr};
+ghost use Rattle.std.specs.Prelude.{◌≡◌, ◌∷◌, [], List, Option, Some, None, IfOk, OnOk, OnErr};
 ghost use Rattle.ap_term.specs.declared.term.Term.{Term};
 ghost use Rattle.ap_rewrite.specs.InWorld.{world_setting};
 ghost use Rattle.ap_rewrite.specs.Rewriting.{rewrite_to};
@@ -127,16 +127,4 @@ impl<'a> Memo<'a> {
     {
         unreachable!()
     }
-}
-
-/// A memo of nothing, for a world, a theory and the calls that are opened.
-pub fn memo<'a>(
-    alloc: Global,
-    w: &'a World,
-    theory: &'a Theory,
-    expand: &'a Seq<Term>,
-) -> Result<Memo<'a>, NoMemory>
-    ensures { IfOk result (λ m. m ≡ record { world = w.now; theory = theory.now; expand = expand.now; place = None; around = [] }) }
-{
-    Ok(Memo::new(alloc, w, theory, expand))
 }
