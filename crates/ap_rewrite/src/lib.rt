@@ -1,7 +1,8 @@
 //! Conditional rewriting: what a term becomes by rules, definitions, types and facts, each step counted, as a
 //! definition (`specs/Rewriting.antt`), and its laws ([`laws`]). [`literal`] rewrites a term under facts, and
-//! [`simplify`] the literals of a clause in turn, with one [`Memo`] of what terms became, and splits what is left. See the manual's topics `rewrite`,
-//! `introduction-to-the-theorem-prover` and "The Rewriter" in "Computer-Aided Reasoning" (2000).
+//! [`simplify`] the literals of a clause in turn, with one [`Memo`] of what terms became, and splits what is left. See
+//! the manual's topics `rewrite`, `introduction-to-the-theorem-prover` and "The Rewriter" in "Computer-Aided Reasoning"
+//! (2000).
 #![tactic(auto)]
 
 mod arithmetic;
