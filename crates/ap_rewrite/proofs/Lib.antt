@@ -45,3 +45,9 @@ pub mod Refuted
 pub mod Advanced
 pub mod InstanceSizes
 pub mod Tested
+pub mod Exact
+pub mod Twins
+pub mod RelievingTwins
+pub mod LinearTwins
+pub mod RewritingTwins
+pub mod CheapStands

@@ -3,6 +3,7 @@ pub mod Arithmetic
 pub mod Refuting
 pub mod Settings
 pub mod Relieving
+pub mod ByCost
 pub mod Linear
 pub mod Rewriting
 pub mod Literals
