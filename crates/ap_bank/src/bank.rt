@@ -138,6 +138,14 @@ impl Bank {
         known_id(&self.known, whole)
     }
 
+    /// The number of a term that was numbered before, by one look-up.
+    pub fn find(&self, alloc: Global, t: &Term) -> Result<Option<TermId>, NoMemory>
+        ensures { IfOk result (λ o. IfSome o (λ i. term_at self.now i ≡ Some t.now)) }
+    {
+        let whole = whole_of(alloc, t)?;
+        Ok(self.number_of(&whole))
+    }
+
     /// The number of the term that a node stands for, which is found by the term's hash from now on.
     fn put_whole(&mut self, alloc: Global, held: Held, whole: Whole) -> Result<TermId, NoMemory>
         requires { held_term self.old held ≡ Some whole.term }

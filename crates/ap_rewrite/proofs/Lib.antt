@@ -51,3 +51,5 @@ pub mod RelievingTwins
 pub mod LinearTwins
 pub mod RewritingTwins
 pub mod CheapStands
+pub mod KeysTold
+pub mod Remembered

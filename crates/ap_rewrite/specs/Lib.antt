@@ -8,9 +8,14 @@ pub mod Linear
 pub mod Rewriting
 pub mod Literals
 pub mod InWorld
+pub mod Keys
+pub mod Shown
+pub mod Remembers
+pub mod Serving
 pub mod Leading
 pub mod Relieved
 pub mod SoundSettings
 pub mod Laws
 pub mod Answering
 pub mod Simplifying
+pub mod Remembering

@@ -5,15 +5,18 @@
 #![tactic(auto)]
 
 mod arithmetic;
+mod beginning;
 mod bounding;
 mod branching;
 mod calls;
 mod engines;
 mod equating;
 mod facts;
+mod known;
 pub mod laws;
 mod linear_rules;
 mod literals;
+mod memos;
 mod opening;
 mod ordering;
 mod refuting;
@@ -26,8 +29,11 @@ mod settling;
 mod shaping;
 mod simplifying;
 mod sizes;
+mod table;
 
+pub use beginning::memo;
 pub use literals::literal;
+pub use memos::Memo;
 pub use rewriter::{Place, Rewriter};
 pub use rewriting::rewrite;
 pub use simplifying::simplify;
