@@ -1,5 +1,5 @@
-ghost use Rattle.std.specs.Prelude.{◌≡◌, [], ◌∷◌, ◌<◌, length, Some, IfOk, OnOk, OnErr, IfSome};
-ghost use Rattle.ap_term.specs.declared.term.Term.{Term, Call};
+ghost use Rattle.std.specs.Prelude.{◌≡◌, [], ◌<◌, length, Some, IfOk, OnOk, OnErr, IfSome};
+ghost use Rattle.ap_term.specs.declared.term.Term.{Term};
 ghost use Rattle.std.specs.Map.{lookup};
 ghost use Rattle.indexmap.specs.IndexMap.{insert_entry};
 ghost use Rattle.ap_bank.specs.Whole.{whole_eq};
@@ -9,7 +9,7 @@ use crate::node::{Held, Node, TermId};
 use crate::whole::Whole;
 use ap_list::{NoMemory, Seq, SharedSeq};
 use ap_term::{Shape, Term, copy_term};
-use ap_value::{Symbol, copy, copy_symbol};
+use ap_value::{copy, copy_symbol};
 use indexmap::{IndexMap, IndexSet};
 use std::alloc::{AllocError, Global};
 use std::marker::Model;
@@ -138,14 +138,6 @@ impl Bank {
         known_id(&self.known, whole)
     }
 
-    /// The number of a term that was numbered before, by one look-up.
-    pub fn find(&self, alloc: Global, t: &Term) -> Result<Option<TermId>, NoMemory>
-        ensures { IfOk result (λ o. IfSome o (λ i. term_at self.now i ≡ Some t.now)) }
-    {
-        let whole = whole_of(alloc, t)?;
-        Ok(self.number_of(&whole))
-    }
-
     /// The number of the term that a node stands for, which is found by the term's hash from now on.
     fn put_whole(&mut self, alloc: Global, held: Held, whole: Whole) -> Result<TermId, NoMemory>
         requires { held_term self.old held ≡ Some whole.term }
@@ -195,37 +187,6 @@ impl Bank {
         }
         Ok(ids)
     }
-
-    /// The number of the call of a function on two terms of the bank, which is added where it isn't there.
-    pub fn pair(
-        &mut self,
-        alloc: Global,
-        head: Symbol,
-        first: TermId,
-        second: TermId,
-    ) -> Result<TermId, NoMemory>
-        requires first { first.0 < length self.old }
-        requires second { second.0 < length self.old }
-        ensures is { IfOk result (λ i. (x y : Term) → term_at self.old first ≡ Some x → term_at self.old second ≡ Some y → term_at self.new i ≡ Some (Call head (x ∷ y ∷ []))) }
-        ensures begins { Begins self.old self.new }
-    {
-        let ids = Vec::from_array(alloc, [first, second])?;
-        let ids = SharedSeq::new(alloc, Seq::from_vec(ids))?;
-        let name = copy_symbol(alloc, &head)?;
-        let terms = two(alloc, self.lent(first), self.lent(second))?;
-        let term = Term::call(alloc, name, terms)?;
-        self.put(Held::Call(head, ids), term)
-    }
-}
-
-/// Copies of two terms.
-fn two(alloc: Global, a: &Term, b: &Term) -> Result<Seq<Term>, NoMemory>
-    ensures { IfOk result (λ ts. ts ≡ a.now ∷ b.now ∷ []) }
-{
-    let a = copy_term(alloc, a)?;
-    let b = copy_term(alloc, b)?;
-    let items = Vec::from_array(alloc, [a, b])?;
-    Ok(Seq::from_vec(items))
 }
 
 /// A copy of a term, by which it is looked up.

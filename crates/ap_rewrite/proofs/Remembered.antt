@@ -110,7 +110,7 @@ module _ (w : Shown) (h : Theory) (us : List Term) where
   puts_is (Some t) None n k e r f = elim e [ ]
   puts_is (Some t) (Some u) n k e r f =
       subst (λ (z : Ctx). Each (λ x. IsKnown w h us z.0 u.closed x.1) u.entries.entries) (sym e.0)
-        (subst (λ z. Each (λ x. IsKnown w h us t.ctx.0 z x.1) u.entries.entries) (sym e.1) (go e.2))
+      (subst (λ z. Each (λ x. IsKnown w h us t.ctx.0 z x.1) u.entries.entries) (sym e.1) (go e.2))
     where
       go : (u.entries.entries ≡ insert_entry nat_eq t.entries.entries n k) ⊎ (u.entries.entries ≡ t.entries.entries) → Each (λ x. IsKnown w h us t.ctx.0 t.closed x.1) u.entries.entries
       go (inl q) = subst (Each (λ x. IsKnown w h us t.ctx.0 t.closed x.1)) (sym q) (each_put (IsKnown w h us t.ctx.0 t.closed) n k (f t refl) t.entries.entries r)
@@ -123,10 +123,10 @@ module _ (w : Shown) (h : Theory) (us : List Term) where
     ctx = ap (λ (z : Ctx). z.0) l.ctx;
     stands = l.stands;
     exact = λ f b m fit j.
-      subst (λ (z : Mode). rewrite_to (world_setting w h us) f z (record { facts = p.ctx.now.0; closed = p.closed.now; chain = b }) k.answer.says.lhs j ≡ charged k.answer.says.rhs k.cost j) (sym l.mode)
+        subst (λ (z : Mode). rewrite_to (world_setting w h us) f z (record { facts = p.ctx.now.0; closed = p.closed.now; chain = b }) k.answer.says.lhs j ≡ charged k.answer.says.rhs k.cost j) (sym l.mode)
         (subst (λ (z : Term). rewrite_to (world_setting w h us) f o (record { facts = p.ctx.now.0; closed = p.closed.now; chain = b }) z j ≡ charged k.answer.says.rhs k.cost j) (sym l.lhs)
-          (cheap_exact (world_setting w h us) d f o (seen_at p) b u before k.answer.says.rhs after r (subst (λ z. z ≤ d) cost le) (subst (λ z. z ≤ f) cost m) (subst (λ z. Fits (before - after) z b) c (subst (λ z. Fits z k.chain b) cost fit)) j
-           ∙ ap (λ z. charged k.answer.says.rhs z j) (sym cost)));
+        (cheap_exact (world_setting w h us) d f o (seen_at p) b u before k.answer.says.rhs after r (subst (λ z. z ≤ d) cost le) (subst (λ z. z ≤ f) cost m) (subst (λ z. Fits (before - after) z b) c (subst (λ z. Fits z k.chain b) cost fit)) j
+        ∙ ap (λ z. charged k.answer.says.rhs z j) (sym cost)));
   }
 
   -- the table at which rewriting stands is of that place
@@ -145,10 +145,10 @@ module _ (w : Shown) (h : Theory) (us : List Term) where
       let i : rewrite_to (world_setting w h us) d o (seen_at p) u before ≡ Some (a.says.rhs, after) = subst (λ (z : MemoShown). rewrite_to (world_setting z.world z.theory z.expand) d o (seen_at p) u before ≡ Some (a.says.rhs, after)) (sym e) is in
       let l : From w o p.ctx.now u a = subst (λ (z : MemoShown). From z.world o p.ctx.now u a) (sym e) leads in
       let made : IsKnown w h us p.ctx.now.0 p.closed.now k =
-        subst (IsKnown w h us p.ctx.now.0 p.closed.now) (sym known) (known_made (record { answer = a; cost = cost; chain = p.chain }) o p u l refl d before after i c le) in
+      subst (IsKnown w h us p.ctx.now.0 p.closed.now) (sym known) (known_made (record { answer = a; cost = cost; chain = p.chain }) o p u l refl d before after i c le) in
       record {
         now = puts_is here here' n k puts rem.now (λ x s. let q = stood x here outer m p e at s in
-          subst (λ z. IsKnown w h us z x.closed k) (sym q.0) (subst (λ z. IsKnown w h us p.ctx.now.0 z k) (sym q.1) made));
+            subst (λ z. IsKnown w h us z x.closed k) (sym q.0) (subst (λ z. IsKnown w h us p.ctx.now.0 z k) (sym q.1) made));
         around = rem.around;
         last = rem.last;
       }
@@ -163,10 +163,10 @@ module _ (w : Shown) (h : Theory) (us : List Term) where
       → (j : ℕ) → rewrite_to (world_setting w h us) d o (seen_at p) u j ≡ charged k.answer.says.rhs k.cost j
   said fs cl o p u d k ef ec i s j =
       subst (λ (z : Mode). rewrite_to (world_setting w h us) d z (seen_at p) u j ≡ charged k.answer.says.rhs k.cost j) s.mode
-        (subst (λ (z : Term). rewrite_to (world_setting w h us) d k.answer.says.mode (seen_at p) z j ≡ charged k.answer.says.rhs k.cost j) s.lhs
-          (subst (λ (z : List Symbol). rewrite_to (world_setting w h us) d k.answer.says.mode (record { facts = p.ctx.now.0; closed = z; chain = p.chain }) k.answer.says.lhs j ≡ charged k.answer.says.rhs k.cost j) ec
-            (subst (λ (z : Facts). rewrite_to (world_setting w h us) d k.answer.says.mode (record { facts = z; closed = cl; chain = p.chain }) k.answer.says.lhs j ≡ charged k.answer.says.rhs k.cost j) ef
-              (i.exact d p.chain s.cost s.fits j))))
+      (subst (λ (z : Term). rewrite_to (world_setting w h us) d k.answer.says.mode (seen_at p) z j ≡ charged k.answer.says.rhs k.cost j) s.lhs
+      (subst (λ (z : List Symbol). rewrite_to (world_setting w h us) d k.answer.says.mode (record { facts = p.ctx.now.0; closed = z; chain = p.chain }) k.answer.says.lhs j ≡ charged k.answer.says.rhs k.cost j) ec
+      (subst (λ (z : Facts). rewrite_to (world_setting w h us) d k.answer.says.mode (record { facts = z; closed = cl; chain = p.chain }) k.answer.says.lhs j ≡ charged k.answer.says.rhs k.cost j) ef
+      (i.exact d p.chain s.cost s.fits j))))
 
   -- what is served is the definition's
   serves_is : (fs : Facts) (cl : List Symbol) (o : Mode) (p : Place) (u : Term) (d left : ℕ) (x : Option Known) (r : Recalled) (place : Option Term) (around : List (Option Term))
@@ -190,8 +190,8 @@ module _ (w : Shown) (h : Theory) (us : List Term) where
   find_is here outer past m o p u d left key x r rem e at t is got s =
       let q = stood t here outer m p e at is in
       subst (λ z. RecalledIs z d o p u left r) e
-        (serves_is t.ctx.0 t.closed o p u d left x r (place_in here) (reverse (map place_in outer)) q.0 q.1
-          (λ k y. each_found (IsKnown w h us t.ctx.0 t.closed) t.entries.entries (subst (IsTable w h us) is rem.now) key k (sym got ∙ y)) s)
+      (serves_is t.ctx.0 t.closed o p u d left x r (place_in here) (reverse (map place_in outer)) q.0 q.1
+      (λ k y. each_found (IsKnown w h us t.ctx.0 t.closed) t.entries.entries (subst (IsTable w h us) is rem.now) key k (sym got ∙ y)) s)
 
   -- a table that is empty, or was left last
   for_is : (c : Ctx) (cl : List Symbol) (past : Option Table) (t : Table) → IsFor c cl past t → IsTable w h us past → IsTable w h us (Some t)
@@ -229,7 +229,7 @@ module _ (w : Shown) (h : Theory) (us : List Term) where
       → OnOk r (shown w h us here' outer' ≡ record m { place = Some (place_term c.0 cl); around = m.place ∷ m.around })
   enter_ok (Ok a) here here' outer outer' past c cl t m e f y =
       let p : place_in here' ≡ Some (place_term c.0 cl) =
-        ap place_in y.0 ∙ ap (λ (z : Ctx). Some (place_term z.0 t.closed)) f.ctx ∙ ap (λ z. Some (place_term c.0 z)) f.closed in
+      ap place_in y.0 ∙ ap (λ (z : Ctx). Some (place_term z.0 t.closed)) f.ctx ∙ ap (λ z. Some (place_term c.0 z)) f.closed in
       let a : reverse (map place_in outer') ≡ place_in here ∷ reverse (map place_in outer) = ap (λ z. reverse (map place_in z)) y.1 ∙ turned outer here in
       (λ i. record { world = w; theory = h; expand = us; place = p i; around = a i }) ∙ ap (λ (z : MemoShown). record z { place = Some (place_term c.0 cl); around = z.place ∷ z.around }) e
   enter_ok (Err a) here here' outer outer' past c cl t m e f y = tt

@@ -75,9 +75,7 @@ fn is_of(table: &Table, at: &Place<'_>) -> bool
     ensures ctx { IsTrue result → table.now.ctx ≡ at.now.ctx.now }
     ensures closed { IsTrue result → table.now.closed ≡ at.now.closed.now }
 {
-    table.closed.is_empty()
-        && at.closed.is_empty()
-        && same_facts(table.ctx.facts(), at.ctx.facts())
+    table.closed.is_empty() && at.closed.is_empty() && same_facts(table.ctx.facts(), at.ctx.facts())
 }
 
 /// An empty table of a place.

@@ -29,11 +29,7 @@ fn kept(alloc: Global, bank: &mut Bank, t: &Term) -> Result<(u32, bool, usize), 
 }
 
 /// The same of a term that is written.
-fn written(
-    alloc: Global,
-    bank: &mut Bank,
-    text: &str,
-) -> Result<(u32, bool, usize), NoMemory> {
+fn written(alloc: Global, bank: &mut Bank, text: &str) -> Result<(u32, bool, usize), NoMemory> {
     let t = term(alloc, text)?;
     kept(alloc, bank, &t)
 }
