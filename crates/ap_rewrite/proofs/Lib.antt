@@ -46,3 +46,11 @@ pub mod Refuted
 pub mod Advanced
 pub mod InstanceSizes
 pub mod Tested
+pub mod Exact
+pub mod Twins
+pub mod RelievingTwins
+pub mod LinearTwins
+pub mod RewritingTwins
+pub mod CheapStands
+pub mod KeysTold
+pub mod Remembered

@@ -3,10 +3,15 @@ pub mod Arithmetic
 pub mod Refuting
 pub mod Settings
 pub mod Relieving
+pub mod ByCost
 pub mod Linear
 pub mod Rewriting
 pub mod Literals
 pub mod InWorld
+pub mod Keys
+pub mod Shown
+pub mod Remembers
+pub mod Serving
 pub mod Leading
 pub mod Relieved
 pub mod SoundSettings
@@ -16,3 +21,4 @@ pub mod Shown
 pub mod Answering
 pub mod Remembering
 pub mod Simplifying
+pub mod Remembering

@@ -1,4 +1,3 @@
-// STUB of helper B's file: a new memo.
 ghost use Rattle.std.specs.Prelude.{◌≡◌, [], None, IfOk};
 
 use crate::memos::Memo;

@@ -30,6 +30,7 @@ mod settling;
 mod shaping;
 mod simplifying;
 mod sizes;
+mod table;
 
 pub use beginning::memo;
 pub use literals::{literal, literal_kept};
