@@ -2,6 +2,9 @@
 use Rattle.std.proofs.Common.{◌≡◌, ℕ, List, ◌∷◌, Option, Some, None, refl, sym, ap, ◌∙◌, subst}
 use Rattle.ap_term.specs.declared.term.Term.{Term}
 use Rattle.ap_term.specs.Metered.{Got}
+use Rattle.ap_value.specs.declared.symbol.Symbol.{Symbol}
+use Rattle.ap_world.specs.declared.theory.Theory.{Theory}
+use Rattle.ap_world.specs.Facts.{Facts}
 use Rattle.ap_world.specs.World.{Shown}
 use Rattle.ap_kernel.specs.declared.objects.Mode.{Mode}
 use Rattle.ap_kernel.specs.declared.objects.Equiv.{Equiv}
@@ -17,8 +20,12 @@ use Rattle.ap_rewrite.specs.Remembering.{RecalledIs}
 use Rattle.ap_rewrite.specs.Answering.{Seat, seat_of, seat_at, Here, IsFor, setting_of, inner_of, seen_at, From}
 
 -- a memo that stands within a place which it has entered
-abbrev pub entered : MemoShown → Place → MemoShown
-entered m q = record m { place = Some (place_term q.ctx.now.0 q.closed.now); around = m.place ∷ m.around }
+abbrev pub entered : MemoShown → Facts → List Symbol → MemoShown
+entered m fs cl = record m { place = Some (place_term fs cl); around = m.place ∷ m.around }
+
+seat_parts : (w v : Shown) (h k : Theory) (us ts : List Term) (o : Option Term) → w ≡ v → h ≡ k → us ≡ ts
+    → ◌≡◌ {A = Seat} (record { world = w; theory = h; expand = us; place = o }) (record { world = v; theory = k; expand = ts; place = o })
+seat_parts w v h k us ts o e f g = rw (e, f, g) refl
 
 module _ {O : Type 0} (r : Rewriter O) where
   pub setting_is : (p : Place) (m : MemoShown) → Here r p m → world_setting m.world m.theory m.expand ≡ setting_of r
@@ -34,13 +41,15 @@ module _ {O : Type 0} (r : Rewriter O) where
   place_is p m h = ap (λ (s : Seat). s.place) h
 
   -- once a place is entered
-  pub entered_here : (p q : Place) (m n : MemoShown) → Here r p m → n ≡ entered m q → Here r q n
+  pub entered_here : (p : Place) (fs : Facts) (cl : List Symbol) (m n : MemoShown) → Here r p m → n ≡ entered m fs cl
+      → seat_of n ≡ record { world = r.w.now; theory = r.theory.now; expand = r.expand.now; place = Some (place_term fs cl) }
   unfolding seat_of
-  entered_here p q m n h e = ap seat_of e ∙ ap (λ (s : Seat). record s { place = Some (place_term q.ctx.now.0 q.closed.now) }) h
+  entered_here p fs cl m n h e = ap seat_of e ∙ ap (λ (s : Seat). record s { place = Some (place_term fs cl) }) h
 
-  pub entered_for : (q : Place) (m n : MemoShown) → IsFor r m → n ≡ entered m q → Here r q n
+  pub entered_for : (fs : Facts) (cl : List Symbol) (m n : MemoShown) → IsFor r m → n ≡ entered m fs cl
+      → seat_of n ≡ record { world = r.w.now; theory = r.theory.now; expand = r.expand.now; place = Some (place_term fs cl) }
   unfolding seat_of
-  entered_for q m n (w, (h, us)) e = rw (ap seat_of e, w, h, us) refl
+  entered_for fs cl m n (w, (h, us)) e = ap seat_of e ∙ seat_parts m.world r.w.now m.theory r.theory.now m.expand r.expand.now (Some (place_term fs cl)) w h us
 
   -- what is known is what the definition gives
   pub known_is : (p : Place) (m : MemoShown) (d : ℕ) (o : Mode) (u : Term) (n : ℕ) (q : Equiv) (left : ℕ) → Here r p m
@@ -64,9 +73,9 @@ module _ {O : Type 0} (r : Rewriter O) where
   kept_from p m o u q h k = subst (λ (w : Shown). From w o p.ctx.now u q) (sym (world_is p m h)) k
 
 -- a place that was entered can be left, and then the memo stands where it stood
-module _ (m n k : MemoShown) (q : Place) (e : n ≡ entered m q) (f : k ≡ n) where
-  pub can_leave : (p : Option Term) × (rest : List (Option Term)) × (k.around ≡ p ∷ rest)
-  can_leave = (m.place, (m.around, ap (λ (x : MemoShown). x.around) (f ∙ e)))
+module _ (m n k : MemoShown) (fs : Facts) (cl : List Symbol) (e : n ≡ entered m fs cl) (f : k ≡ n) where
+  pub may_leave : (p : Option Term) × (rest : List (Option Term)) × (k.around ≡ p ∷ rest)
+  may_leave = (m.place, (m.around, ap (λ (x : MemoShown). x.around) (f ∙ e)))
 
   pub has_left : (l : MemoShown) → ((p : Option Term) (rest : List (Option Term)) → k.around ≡ p ∷ rest → l ≡ record k { place = p; around = rest }) → l ≡ m
   has_left l h = h m.place m.around (ap (λ (x : MemoShown). x.around) (f ∙ e)) ∙ ap (λ (x : MemoShown). record x { place = m.place; around = m.around }) (f ∙ e)

@@ -16,9 +16,6 @@ pub mod Leading
 pub mod Relieved
 pub mod SoundSettings
 pub mod Laws
-pub mod Keys
-pub mod Shown
 pub mod Answering
 pub mod Remembering
 pub mod Simplifying
-pub mod Remembering

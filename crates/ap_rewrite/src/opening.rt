@@ -125,6 +125,34 @@ fn walk_on<O: TypeOracle, F: Below>(
     }
 }
 
+/// Both branches of an `if` whose test has become no constant, as it stands within.
+fn both_within<O: TypeOracle, F: Below>(
+    l: &Level<'_, '_, O, F>,
+    steps: &mut Run<'_>,
+    way: &Way<'_>,
+    t: &Term,
+    test: Equiv,
+    b: &Term,
+    c: &Term,
+) -> Result<Option<Equiv>, NoMemory>
+    requires level { IsLevel (F.may l.now.below.now) (F.gives l.now.below.now) l.now.r.now l.now.levels }
+    requires facts { KnownFacts (defs_in l.now.r.now) way.now.inner.now.ctx.now.0 }
+    requires term { t.now ≡ if_of test.says.lhs b.now c.now }
+    requires test { From l.now.r.now.w.now Iff way.now.inner.now.ctx.now test.says.lhs test }
+    requires open { truth_of test.says.rhs ≡ None }
+    requires yes { IsTrue (known (defs_in l.now.r.now) b.now) }
+    requires no { IsTrue (known (defs_in l.now.r.now) c.now) }
+    requires here { Here l.now.r.now way.now.at.now steps.old.memo }
+    ensures is { IfOk result (λ o. got o steps.new.left ≡ both (setting_of l.now.r.now) (inner_of l.now.r.now l.now.levels) way.now.mode (seen_at way.now.inner.now) test.says.rhs b.now c.now steps.old.left) }
+    ensures from { IfOk result (λ o. IfSome o (From l.now.r.now.w.now way.now.mode way.now.inner.now.ctx.now (if_of test.says.lhs b.now c.now))) }
+    ensures kept { steps.new.memo ≡ steps.old.memo }
+{
+    steps.memo.enter(l.r.alloc, way.inner)?;
+    let found = both(l, steps, way.mode, way.inner, t, test, b, c);
+    steps.memo.leave();
+    found
+}
+
 /// Both branches of the `if` at which the walk ends.
 fn follow_both<O: TypeOracle, F: Below>(
     l: &Level<'_, '_, O, F>,
@@ -149,10 +177,7 @@ fn follow_both<O: TypeOracle, F: Below>(
         (λ a. IfSome (where_applied a) (From l.now.r.now.w.now way.now.mode way.now.inner.now.ctx.now sofar.says.lhs))) }
     ensures kept { steps.new.memo ≡ steps.old.memo }
 {
-    steps.memo.enter(l.r.alloc, way.inner)?;
-    let found = both(l, steps, way.mode, way.inner, sofar.rhs(), test, b, c);
-    steps.memo.leave();
-    let Some(more) = found? else {
+    let Some(more) = both_within(l, steps, way, sofar.rhs(), test, b, c)? else {
         return Ok(None);
     };
     let q = follow(l.r, way.inner.ctx, way.mode, sofar, more)?;
@@ -270,6 +295,29 @@ fn walk_stops<O: TypeOracle, F: Below>(
     Ok(answered(found))
 }
 
+/// On from where an equivalence leads: that term is rewritten in its turn, as it stands within.
+fn go_on_within<O: TypeOracle, F: Below>(
+    l: &Level<'_, '_, O, F>,
+    steps: &mut Run<'_>,
+    mode: Mode,
+    at: &Place<'_>,
+    inner: &Place<'_>,
+    first: Equiv,
+) -> Result<Option<Equiv>, NoMemory>
+    requires level { IsLevel (F.may l.now.below.now) (F.gives l.now.below.now) l.now.r.now l.now.levels }
+    requires facts { KnownFacts (defs_in l.now.r.now) inner.now.ctx.now.0 }
+    requires first { From l.now.r.now.w.now mode inner.now.ctx.now first.says.lhs first }
+    requires here { Here l.now.r.now at.now steps.old.memo }
+    ensures is { IfOk result (λ o. got o steps.new.left ≡ inner_of l.now.r.now l.now.levels mode (seen_at inner.now) first.says.rhs steps.old.left) }
+    ensures from { IfOk result (λ o. IfSome o (From l.now.r.now.w.now mode inner.now.ctx.now first.says.lhs)) }
+    ensures kept { steps.new.memo ≡ steps.old.memo }
+{
+    steps.memo.enter(l.r.alloc, inner)?;
+    let found = go_on(l, steps, mode, inner, first);
+    steps.memo.leave();
+    found
+}
+
 /// The instance of the body of a function that recurs: of a call that is to be opened it is rewritten as it stands
 /// within, else it is walked down.
 fn open_within<O: TypeOracle, F: Below>(
@@ -293,10 +341,8 @@ fn open_within<O: TypeOracle, F: Below>(
     ensures kept { steps.new.memo ≡ steps.old.memo }
 {
     if is_term_among(first.lhs(), l.r.expand.as_slice()) {
-        steps.memo.enter(l.r.alloc, inner)?;
-        let found = go_on(l, steps, mode, inner, first);
-        steps.memo.leave();
-        return Ok(answered(found?));
+        let found = go_on_within(l, steps, mode, at, inner, first)?;
+        return Ok(answered(found));
     }
     let way = Way {
         mode,

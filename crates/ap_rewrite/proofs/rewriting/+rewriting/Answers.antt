@@ -34,3 +34,16 @@ rewrite_anew-below-rewrite_levels-requires g t c = λ κs within. (search rules,
 
 pub rewrite_anew-below-returns : goal.rewrite_anew-below-returns
 rewrite_anew-below-returns g t c = record { is = c.rewrite_levels.ensures.is; from = c.rewrite_levels.ensures.from; kept = c.rewrite_levels.ensures.kept }
+
+-- a term by what is known of it
+pub rewrite_levels-recall-requires : goal.rewrite_levels-recall-requires
+rewrite_levels-recall-requires g t c = place_is _ _ _ c.requires.here
+
+pub rewrite_levels-returns-in-Known-clause-is : goal.rewrite_levels-returns-in-Known-clause-is
+rewrite_levels-returns-in-Known-clause-is g t c = known_is _ _ _ _ _ _ _ _ _ c.requires.here (rw c.in-Known.is at c.in_ok-recall.ensures.is)
+
+pub rewrite_levels-returns-in-Known-clause-from : goal.rewrite_levels-returns-in-Known-clause-from
+rewrite_levels-returns-in-Known-clause-from g t c = known_from _ _ _ _ _ _ _ _ _ c.requires.here (rw c.in-Known.is at c.in_ok-recall.ensures.is)
+
+pub rewrite_levels-returns-in-Out-clause-is : goal.rewrite_levels-returns-in-Out-clause-is
+rewrite_levels-returns-in-Out-clause-is g t c = out_is _ _ _ _ _ _ _ c.requires.here (rw c.in-Out.is at c.in_ok-recall.ensures.is)
