@@ -17,7 +17,7 @@ returns-clause-from g c =
     subst (λ (x : Ctx). IfOk c.deeper.result (λ o. IfSome o (From c.args.l.now.r.now.w.now c.args.mode x c.args.t.now))) (ctx_is c.in_ok-ctx.ctx _ c.in_ok-ctx.ensures) c.deeper.ensures.from
 
 pub deeper-requires-clause-here : goal.deeper-requires-clause-here
-deeper-requires-clause-here g c = entered_here _ _ _ _ _ _ c.requires.here c.in_ok-enter.ensures.ok
+deeper-requires-clause-here g c = entered_here c.args.l.now.r.now c.args.at.now _ _ _ _ c.requires.here c.in_ok-enter.ensures.ok
 
 pub leave-requires-clause-entered : goal.leave-requires-clause-entered
 leave-requires-clause-entered g c = may_leave _ _ _ _ _ c.in_ok-enter.ensures.ok c.deeper.ensures.kept

@@ -2,7 +2,7 @@ use Rattle.ap_rewrite.proofs.Seats.{entered_for, may_leave, has_left}
 use Rattle.ap_rewrite.proofs.literals.rewrite_there.Goals as goal
 
 pub rewrite-requires-clause-here : goal.rewrite-requires-clause-here
-rewrite-requires-clause-here g c = entered_for _ _ _ _ _ c.requires.same c.in_ok-enter.ensures.ok
+rewrite-requires-clause-here g c = entered_for c.args.r.now _ _ _ _ c.requires.same c.in_ok-enter.ensures.ok
 
 pub leave-requires-clause-entered : goal.leave-requires-clause-entered
 leave-requires-clause-entered g c = may_leave _ _ _ _ _ c.in_ok-enter.ensures.ok c.rewrite.ensures.kept

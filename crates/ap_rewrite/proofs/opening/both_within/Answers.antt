@@ -2,7 +2,7 @@ use Rattle.ap_rewrite.proofs.Seats.{entered_here, may_leave, has_left}
 use Rattle.ap_rewrite.proofs.opening.both_within.Goals as goal
 
 pub both-requires-clause-here : goal.both-requires-clause-here
-both-requires-clause-here g c = entered_here _ _ _ _ _ _ c.requires.here c.in_ok-enter.ensures.ok
+both-requires-clause-here g c = entered_here c.args.l.now.r.now c.args.way.now.at.now _ _ _ _ c.requires.here c.in_ok-enter.ensures.ok
 
 pub leave-requires-clause-entered : goal.leave-requires-clause-entered
 leave-requires-clause-entered g c = may_leave _ _ _ _ _ c.in_ok-enter.ensures.ok c.both.ensures.kept
