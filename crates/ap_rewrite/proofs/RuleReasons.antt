@@ -89,7 +89,8 @@ module _ (w : Shown) (c : Ctx) (u : Term) (s : Bool) where
       → AllGiven w c u s ps ys → AllGiven w c u s more new
   with_rule g told a q h ps more ys new pe ye k =
       subst (λ (zs : List Why). AllGiven w c u s more zs) (sym ye)
-      (subst (λ (qs : List Polynomial). AllGiven w c u s qs _) (sym pe) (given_both w c u s ps _ ys _ k (rule_given g told a q h)))
+      (subst (λ (qs : List Polynomial). AllGiven w c u s qs (ys ++ replicate (length (of_literal (subst_of q.pairs.0 g.concl) g.sign)) (why.Theorem g.theorem q.pairs q.shown))) (sym pe)
+      (given_both w c u s ps _ ys _ k (rule_given g told a q h)))
 
   -- the polynomials of the comparison come first
   pub begun_given : (ps : List Polynomial) (ys zs : List Why) → ps ≡ of_literal u s → ys ≡ [] → zs ≡ ys ++ replicate (length ps) why.Literal → AllGiven w c u s ps zs

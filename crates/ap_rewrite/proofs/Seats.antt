@@ -49,7 +49,7 @@ module _ {O : Type 0} (r : Rewriter O) where
   pub entered_for : (fs : Facts) (cl : List Symbol) (m n : MemoShown) → IsFor r m → n ≡ entered m fs cl
       → seat_of n ≡ record { world = r.w.now; theory = r.theory.now; expand = r.expand.now; place = Some (place_term fs cl) }
   unfolding seat_of
-  entered_for fs cl m n (w, (h, us)) e = ap seat_of e ∙ seat_parts m.world r.w.now m.theory r.theory.now m.expand r.expand.now (Some (place_term fs cl)) w h us
+  entered_for fs cl m n h e = ap seat_of e ∙ seat_parts m.world r.w.now m.theory r.theory.now m.expand r.expand.now (Some (place_term fs cl)) h.0 h.1 h.2
 
   -- what is known is what the definition gives
   pub known_is : (p : Place) (m : MemoShown) (d : ℕ) (o : Mode) (u : Term) (n : ℕ) (q : Equiv) (left : ℕ) → Here r p m
@@ -75,7 +75,7 @@ module _ {O : Type 0} (r : Rewriter O) where
 -- a place that was entered can be left, and then the memo stands where it stood
 module _ (m n k : MemoShown) (fs : Facts) (cl : List Symbol) (e : n ≡ entered m fs cl) (f : k ≡ n) where
   pub may_leave : (p : Option Term) × (rest : List (Option Term)) × (k.around ≡ p ∷ rest)
-  may_leave = (m.place, (m.around, ap (λ (x : MemoShown). x.around) (f ∙ e)))
+  may_leave = (m.place, m.around, ap (λ (x : MemoShown). x.around) (f ∙ e))
 
   pub has_left : (l : MemoShown) → ((p : Option Term) (rest : List (Option Term)) → k.around ≡ p ∷ rest → l ≡ record k { place = p; around = rest }) → l ≡ m
   has_left l h = h m.place m.around (ap (λ (x : MemoShown). x.around) (f ∙ e)) ∙ ap (λ (x : MemoShown). record x { place = m.place; around = m.around }) (f ∙ e)

@@ -217,7 +217,7 @@ pub record Seat : Type 0 where
   pub expand : List Term
   pub place : Option Term
 
-pub seat_of : MemoShown → Seat
+unfoldable pub seat_of : MemoShown → Seat
 seat_of m = record { world = m.world; theory = m.theory; expand = m.expand; place = m.place }
 
 -- where one rewrites there: for the rewriter's world, theory and calls that are opened, at the place

@@ -1,8 +1,8 @@
 use Rattle.std.proofs.Common.{◌+◌, ◌*◌}
 use Rattle.ap_rewrite.proofs.rewriting.+rewriting.Given as goal
 
-abbrev pub decreases-below : goal.decreases-below
-decreases-below g l = 4 * l.less + 3
+abbrev pub decreases-rewrite_anew-below : goal.decreases-rewrite_anew-below
+decreases-rewrite_anew-below g l = 4 * l.less + 3
 
 abbrev pub decreases-rewrite_anew : goal.decreases-rewrite_anew
 decreases-rewrite_anew g l = 4 * l.levels

@@ -16,7 +16,7 @@ refl-requires-clause-term c = constant_known (function_of c.args.w.now.entries) 
 
 pub returns-then-same-clause-made : goal.returns-then-same-clause-made
 returns-then-same-clause-made c =
-    c.in_ok-q.ensures.made ∙ ap (leads_made c.args.ctx.now Iff c.args.t.now) (term_eq-true c.args.t.now _ (sym c.is_same-same.ensures ∙ c.if-same.true) ∙ c.t_term.ensures)
+    c.in_ok-q.ensures.made ∙ ap (leads_made c.args.ctx.now Iff c.args.t.now) (term_eq-true c.args.t.now _ (sym c.is_same-same.ensures ∙ c.if-same.true) ∙ c.t_term-truth.ensures)
 
 pub types_of-requires-clause-term : goal.types_of-requires-clause-term
 types_of-requires-clause-term c = constant_known (function_of c.args.w.now.entries) c.args.t.now c.requires.constant
