@@ -21,6 +21,7 @@ pub mod FactsRelieve
 pub mod Bounded
 pub mod Leading
 pub mod Levels
+pub mod Seats
 pub mod Froms
 pub mod Arguments
 pub mod Walked
@@ -45,3 +46,11 @@ pub mod Refuted
 pub mod Advanced
 pub mod InstanceSizes
 pub mod Tested
+pub mod Exact
+pub mod Twins
+pub mod RelievingTwins
+pub mod LinearTwins
+pub mod RewritingTwins
+pub mod CheapStands
+pub mod KeysTold
+pub mod Remembered

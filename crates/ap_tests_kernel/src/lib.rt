@@ -10,6 +10,8 @@ mod expect;
 #[cfg(test)]
 mod hints;
 #[cfg(test)]
+mod kept;
+#[cfg(test)]
 mod kernel;
 #[cfg(test)]
 mod known;

@@ -19,6 +19,7 @@ loop-x-preserved g c = (
   atom_next (setting_of c.args.l.now.r.now) (inner_of c.args.l.now.r.now c.args.l.now.levels) (seen_at c.args.at.now) c.args.g.now _ _ _ _ _ _ c.at_atom.new.steps.left (from_place c.args.atoms.now c.loop-x.x-index c.x-item.result (omega arith) c.x-item.is) c.loop-x.invariant.0 (sym c.is_full.ensures ∙ c.if-is_full.false) c.in-Some.more
       (rw c.in-Some.is at c.in_ok-more.ensures.is),
   λ u s h. (rw c.in-Some.is at c.in_ok-more.ensures.reasons u s (c.loop-x.invariant.1 u s h)),
+  c.at_atom.ensures.kept ∙ c.loop-x.invariant.2,
 )
 
 pub returns-then-is_full-clause-is : goal.returns-then-is_full-clause-is
