@@ -17,10 +17,10 @@ returns-clause-from g c =
     subst (λ (x : Ctx). IfOk c.deeper-found.result (λ o. IfSome o (From c.args.l.now.r.now.w.now c.args.mode x c.args.t.now))) (ctx_is c.in_ok-ctx.ctx _ c.in_ok-ctx.ensures) c.deeper-found.ensures.from
 
 pub deeper-found-requires-clause-here : goal.deeper-found-requires-clause-here
-deeper-found-requires-clause-here g c = entered_here c.args.l.now.r.now c.args.at.now _ _ _ _ c.requires.here c.in_ok-enter.ensures.ok
+deeper-found-requires-clause-here g c = entered_here c.args.l.now.r.now c.args.at.now c.in_ok-ctx.ctx.0 c.args.at.now.closed.now _ _ c.requires.here c.in_ok-enter.ensures.ok
 
 pub leave-requires : goal.leave-requires
-leave-requires g c = may_leave _ _ _ _ _ c.in_ok-enter.ensures.ok c.deeper-found.ensures.kept
+leave-requires g c = record { entered = may_leave _ _ _ c.in_ok-ctx.ctx.0 c.args.at.now.closed.now c.in_ok-enter.ensures.ok c.deeper-found.ensures.kept }
 
 pub returns-clause-kept : goal.returns-clause-kept
-returns-clause-kept g c = has_left _ _ _ _ _ c.in_ok-enter.ensures.ok c.deeper-found.ensures.kept _ c.leave.ensures.left
+returns-clause-kept g c = has_left _ _ _ c.in_ok-ctx.ctx.0 c.args.at.now.closed.now c.in_ok-enter.ensures.ok c.deeper-found.ensures.kept _ c.leave.ensures.left

@@ -37,16 +37,16 @@ rewrite_anew-below-returns g t c = record { is = c.rewrite_levels.ensures.is; fr
 
 -- a term by what is known of it
 pub rewrite_levels-recall-requires : goal.rewrite_levels-recall-requires
-rewrite_levels-recall-requires g t c = place_is c.args.r.now c.args.at.now _ c.requires.here
+rewrite_levels-recall-requires g t c = record { here = place_is c.args.r.now c.args.at.now _ c.requires.here }
 
 pub rewrite_levels-returns-in-Known-clause-is : goal.rewrite_levels-returns-in-Known-clause-is
-rewrite_levels-returns-in-Known-clause-is g t c = known_is c.args.r.now c.args.at.now _ _ _ _ _ _ _ c.requires.here (rw c.in-Known.is at c.in_ok-recall.ensures.is)
+rewrite_levels-returns-in-Known-clause-is g t c = known_is c.args.r.now c.args.at.now _ _ _ _ _ _ _ c.requires.here (rw c.in-Known.is at c.in_ok-q.ensures.is)
 
 pub rewrite_levels-returns-in-Known-clause-from : goal.rewrite_levels-returns-in-Known-clause-from
-rewrite_levels-returns-in-Known-clause-from g t c = known_from c.args.r.now c.args.at.now _ _ _ _ _ _ _ c.requires.here (rw c.in-Known.is at c.in_ok-recall.ensures.is)
+rewrite_levels-returns-in-Known-clause-from g t c = known_from c.args.r.now c.args.at.now _ _ _ _ _ _ _ c.requires.here (rw c.in-Known.is at c.in_ok-q.ensures.is)
 
 pub rewrite_levels-returns-in-Out-clause-is : goal.rewrite_levels-returns-in-Out-clause-is
-rewrite_levels-returns-in-Out-clause-is g t c = out_is c.args.r.now c.args.at.now _ _ _ _ _ c.requires.here (rw c.in-Out.is at c.in_ok-recall.ensures.is)
+rewrite_levels-returns-in-Out-clause-is g t c = out_is c.args.r.now c.args.at.now _ _ _ _ _ c.requires.here (rw c.in-Out.is at c.in_ok-q.ensures.is)
 
 -- what a term became is kept
 pub rewrite_and_keep-keep-requires-clause-here : goal.rewrite_and_keep-keep-requires-clause-here
