@@ -46,14 +46,21 @@ fn fits(cost: u32, kept: u32, here: u32) -> bool
     cost + u64::from(kept) < 10 && cost + u64::from(here) < 10
 }
 
-/// What steps cost, where some were left that were there.
+/// The fewest steps that an answer costs which is kept: a cheaper one is sooner found anew than kept and let go.
+const LEAST_COST: u32 = 5;
+
+/// What steps cost, where some were left that were there, and it is enough that the answer is kept.
 pub(crate) fn cost_of(before: u32, after: u32) -> Option<u32>
     ensures { IfSome result (λ c. c ≡ before - after) }
 {
     if before < after {
         return None;
     }
-    Some(before - after)
+    let cost = before - after;
+    if cost < LEAST_COST {
+        return None;
+    }
+    Some(cost)
 }
 
 /// What is kept of an answer.

@@ -107,6 +107,9 @@ impl<'a> Memo<'a> {
         let Some(table) = &self.here else {
             return Ok(Recalled::Unknown);
         };
+        if table.entries.is_empty() {
+            return Ok(Recalled::Unknown);
+        }
         let found = entry_of(table, key_of(mode, t));
         recall_from(alloc, found, levels, mode, at.chain, t, left)
     }
@@ -132,7 +135,7 @@ impl<'a> Memo<'a> {
         Ok(found)
     }
 
-    /// Keeps what a term became here, where it cost no more steps than there were levels, and room is left.
+    /// Keeps what a term became here, where it cost enough steps and no more than there were levels, and room is left.
     pub(crate) fn keep(
         &mut self,
         alloc: Global,
