@@ -4,8 +4,9 @@ use Rattle.std.proofs.Math.Nat.{mul-one, one-mul, mul_assoc}
 use Rattle.std.proofs.lemmas.Nat.{mul-le}
 use Rattle.std.proofs.lemmas.Bool.{cases_lt}
 use Rattle.ap_term.specs.declared.term.Term.{Term}
+use Rattle.ap_term.proofs.LeavesCapped.{leaves_some}
 use Rattle.ap_clausify.specs.Leaves.{product, leaves, capped}
-use Rattle.ap_clausify.proofs.LeavesCounted.{leaves_some, all_some_leaves}
+use Rattle.ap_clausify.proofs.LeavesCounted.{all_some_leaves}
 
 -- products of what is capped
 pub capped_product : (limit a b : ℕ) → 1 ≤ limit → 1 ≤ a → 1 ≤ b → capped limit (capped limit a * capped limit b) ≡ capped limit (a * b)

@@ -10,6 +10,7 @@ use Rattle.ap_term.specs.declared.term.Term.{Term, Var, Quote, Call}
 use Rattle.ap_term.specs.declared.term.Term.TheOpen.{Term-F}
 use Rattle.ap_term.specs.declared.term.Term.TheVariants.{outs-Var, outs-Quote, outs-Call}
 use Rattle.ap_term.proofs.Induction.{term_ind, fold_var, fold_quote, fold_call}
+use Rattle.ap_term.proofs.LeavesCapped.{leaves_some}
 use Rattle.ap_world.specs.Names.{if_name, not_name, equal_name, cons_name}
 use Rattle.ap_world.specs.Clauses.{if_parts, negated_part, negate}
 use Rattle.ap_world.specs.Shapes.{head_by, head_of, call_shape}
@@ -39,38 +40,9 @@ leaves_call f ts = fold_call leaves_step f ts ∙ go (symbol_eq f if_name) ts
     go x ts = refl
 
 -- there is a leaf
-pub some_product : (a b : ℕ) → 1 ≤ a → 1 ≤ b → 1 ≤ a * b
-some_product a b h k = mul-le 1 1 a b h k
-
-product_some : (ts : List Term) → Each (λ u. 1 ≤ leaves u) ts → 1 ≤ product (map leaves ts)
-product_some [] es = omega arith
-product_some (t ∷ ts) es = some_product (leaves t) (product (map leaves ts)) es.0 (product_some ts es.1)
-
-pub leaves_some : (u : Term) → 1 ≤ leaves u
-leaves_some = term_ind Goal variable quoted call
-  where
-    Goal : Term → Type 0
-    Goal u = 1 ≤ leaves u
-
-    variable : (x : Symbol) → Goal (Var x)
-    variable x = let e = leaves_var x in omega arith
-
-    quoted : (v : Value) → Goal (Quote v)
-    quoted v = let e = leaves_quote v in omega arith
-
-    either : (b c : ℕ) → 1 ≤ b → 1 ≤ b + c
-    either b c h = omega arith
-
-    go : (x : Bool) (ts : List Term) → Each Goal ts → 1 ≤ leaves_at x ts
-    go true (a ∷ b ∷ c ∷ []) es = some_product (leaves a) (leaves b + leaves c) es.0 (either (leaves b) (leaves c) es.1.0)
-    go x ts es = product_some ts es
-
-    call : (f : Symbol) (ts : List Term) → Each Goal ts → Goal (Call f ts)
-    call f ts es = subst (λ n. 1 ≤ n) (sym (leaves_call f ts)) (go (symbol_eq f if_name) ts es)
-
 pub all_some_leaves : (ts : List Term) → 1 ≤ product (map leaves ts)
 all_some_leaves [] = omega arith
-all_some_leaves (t ∷ ts) = some_product (leaves t) (product (map leaves ts)) (leaves_some t) (all_some_leaves ts)
+all_some_leaves (t ∷ ts) = mul-le 1 1 (leaves t) (product (map leaves ts)) (leaves_some t) (all_some_leaves ts)
 
 -- one where there is no `if`
 one_more : (n m : ℕ) → n ≡ 1 → m ≡ 1 → n * m ≡ 1

@@ -40,7 +40,7 @@ pub(crate) struct RuleRow {
 fn calls(alloc: Global, rows: &[&[&[Word]]]) -> Result<Seq<Seq<Term>>, NoMemory>
     ensures { IfOk result (λ uss. uss ≡ map (λ c. map (λ ws. term_of ws.now) c.now) rows.now) }
 {
-    let mut arguments = Seq::new(alloc);
+    let mut arguments = Seq::with_capacity(alloc, rows.len())?;
     for call in rows {
         arguments.push(terms(alloc, call)?)?;
     }
@@ -60,7 +60,7 @@ fn case(alloc: Global, row: &CaseRow) -> Result<Case, NoMemory>
 fn cases(alloc: Global, rows: &[CaseRow]) -> Result<Seq<Case>, NoMemory>
     ensures { IfOk result (λ ks. ks ≡ map case_made rows.now) }
 {
-    let mut out = Seq::new(alloc);
+    let mut out = Seq::with_capacity(alloc, rows.len())?;
     for row in rows {
         out.push(case(alloc, row)?)?;
     }
@@ -102,7 +102,7 @@ fn function(alloc: Global, row: &Row) -> Result<Function, NoMemory>
 pub(crate) fn functions(alloc: Global, rows: &[Row]) -> Result<Seq<Function>, NoMemory>
     ensures { IfOk result (λ fs. fs ≡ map function_made rows.now) }
 {
-    let mut out = Seq::new(alloc);
+    let mut out = Seq::with_capacity(alloc, rows.len())?;
     for row in rows {
         out.push(function(alloc, row)?)?;
     }
@@ -115,7 +115,7 @@ fn rule(alloc: Global, row: &RuleRow) -> Result<Theorem, NoMemory>
 {
     let name = symbol(alloc, row.name)?;
     let term = term(alloc, row.term)?;
-    let mut classes = Seq::new(alloc);
+    let mut classes = Seq::with_capacity(alloc, 1)?;
     classes.push(row.class)?;
     Ok(Theorem {
         name,
@@ -128,7 +128,7 @@ fn rule(alloc: Global, row: &RuleRow) -> Result<Theorem, NoMemory>
 pub(crate) fn rules(alloc: Global, rows: &[RuleRow]) -> Result<Seq<Theorem>, NoMemory>
     ensures { IfOk result (λ us. us ≡ map rule_made rows.now) }
 {
-    let mut out = Seq::new(alloc);
+    let mut out = Seq::with_capacity(alloc, rows.len())?;
     for row in rows {
         out.push(rule(alloc, row)?)?;
     }

@@ -30,7 +30,7 @@ pub(crate) fn symbol(alloc: Global, name: &[u8]) -> Result<Symbol, NoMemory>
 pub(crate) fn symbols(alloc: Global, names: &[&'static [u8]]) -> Result<Seq<Symbol>, NoMemory>
     ensures { IfOk result (λ ss. ss ≡ map (λ n. acl2 n.now) names.now) }
 {
-    let mut out = Seq::new(alloc);
+    let mut out = Seq::with_capacity(alloc, names.len())?;
     for name in names {
         out.push(symbol(alloc, name)?)?;
     }
@@ -52,21 +52,23 @@ fn take(stack: &mut Seq<Term>) -> Term
 fn made(alloc: Global, stack: &mut Seq<Term>, word: &Word) -> Result<Term, NoMemory>
     ensures { IfOk result (λ u. u ∷ reverse stack.new ≡ with_word word.now (reverse stack.old)) }
 {
-    let mut arguments = Seq::new(alloc);
     match word {
         Word::Var(name) => Ok(Term::var(symbol(alloc, name)?)),
         Word::Int(n) => Ok(Term::quote(Value::Int(*n))),
         Word::Sym(name) => Ok(Term::quote(Value::Sym(symbol(alloc, name)?))),
         Word::One(head) => {
+            let mut arguments = Seq::with_capacity(alloc, 1)?;
             arguments.push(take(stack))?;
             Term::call(alloc, symbol(alloc, head)?, arguments)
         }
         Word::Two(head) => {
+            let mut arguments = Seq::with_capacity(alloc, 2)?;
             arguments.push(take(stack))?;
             arguments.push(take(stack))?;
             Term::call(alloc, symbol(alloc, head)?, arguments)
         }
         Word::Three(head) => {
+            let mut arguments = Seq::with_capacity(alloc, 3)?;
             arguments.push(take(stack))?;
             arguments.push(take(stack))?;
             arguments.push(take(stack))?;
@@ -93,7 +95,7 @@ pub(crate) fn term(alloc: Global, words: &[Word]) -> Result<Term, NoMemory>
 pub(crate) fn terms(alloc: Global, list: &[&[Word]]) -> Result<Seq<Term>, NoMemory>
     ensures { IfOk result (λ us. us ≡ map (λ ws. term_of ws.now) list.now) }
 {
-    let mut out = Seq::new(alloc);
+    let mut out = Seq::with_capacity(alloc, list.len())?;
     for words in list {
         out.push(term(alloc, words)?)?;
     }

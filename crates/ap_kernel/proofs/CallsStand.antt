@@ -26,7 +26,7 @@ use Rattle.ap_world.specs.World.{Shown, function_of}
 use Rattle.ap_kernel.specs.declared.objects.Sequent.{Sequent}
 use Rattle.ap_kernel.specs.declared.objects.Equiv.{Equiv}
 use Rattle.ap_kernel.specs.Standing.{DefinesNot, Same, Holds, SameSides}
-use Rattle.ap_kernel.specs.Answers.{if_of, refl_made, branch_made, chosen_made, ModeFits, IsArgument, ArgumentHolds, said, lefts, rights, are_unchanged, cong_made}
+use Rattle.ap_kernel.specs.Answers.{if_of, refl_made, branch_made, chosen_made, ModeFits, IsArgument, ArgumentHolds, said, lefts, rights, is_unchanged, are_unchanged, cong_made}
 use Rattle.ap_kernel.proofs.Standing.{same_refl, agree, stand}
 
 -- values that are the same are both nil or both not
@@ -76,11 +76,11 @@ branch_stands D total ground m test on off s p q on_mode off_mode on_facts off_f
         subst (λ x. Same m x (val A (if_of test.rhs on.rhs off.rhs) e)) (sym l) (subst (λ y. Same m (cond (value_eq (val A test.lhs e) nil) (val A off.lhs e) (val A on.lhs e)) y) (sym r) same)
 
 -- the parts of an `if` are unchanged, and so is the `if`
-pub branch_same : (m : Mode) (test on off : Equiv) → SameSides test → SameSides on → SameSides off → (test.unchanged && (on.unchanged && off.unchanged)) ≡ true
+pub branch_same : (m : Mode) (test on off : Equiv) → SameSides test → SameSides on → SameSides off → (is_unchanged test && (is_unchanged on && is_unchanged off)) ≡ true
     → (branch_made m test.says on.says off.says).lhs ≡ (branch_made m test.says on.says off.says).rhs
 branch_same m test on off a b c k =
-    let h = both test.unchanged (on.unchanged && off.unchanged) k in
-    let i = both on.unchanged off.unchanged h.1 in
+    let h = both (is_unchanged test) (is_unchanged on && is_unchanged off) k in
+    let i = both (is_unchanged on) (is_unchanged off) h.1 in
     rw (a h.0, b i.0, c i.1) refl
 
 -- an `if` whose test leads to a constant is the branch that this chooses
@@ -171,7 +171,7 @@ cong_stands D total ground c f qs facts head es =
 pub sides_same : (qs : List Equiv) → Each SameSides qs → are_unchanged qs ≡ true → lefts (said qs) ≡ rights (said qs)
 sides_same [] es k = refl
 sides_same (q ∷ qs) es k =
-    let h = both q.unchanged (are_unchanged qs) k in
+    let h = both (is_unchanged q) (are_unchanged qs) k in
     rw (es.0 h.0, sides_same qs es.1 h.1) refl
 
 arguments_same : (w : Shown) (c : Ctx) (f : Symbol) (qs : List Equiv) → Each (IsArgument w c f) qs → Each SameSides qs

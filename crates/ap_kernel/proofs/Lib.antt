@@ -31,3 +31,9 @@ pub mod Listed
 pub mod PlainForm
 pub mod Closing
 pub mod Walked
+pub mod Derived
+pub mod DerivedEquivs
+pub mod DerivedClauses
+pub mod Certificates
+pub mod Reasoned
+pub mod LetGo

@@ -1,5 +1,5 @@
 -- Clauses with one literal replaced, and reductions of one after another.
-use Rattle.std.proofs.Common.{◌≡◌, ◌≢◌, ℕ, zero, suc, ◌+◌, Bool, true, false, List, [], ◌∷◌, ◌++◌, take, drop, Some, None, slice_get, ◌⊎◌, inl, inr, refl, ap, sym, ◌∙◌, subst, append_assoc, append-nil}
+use Rattle.std.proofs.Common.{◌≡◌, ◌≢◌, ℕ, zero, suc, ◌+◌, Bool, true, false, List, [], ◌∷◌, ◌++◌, map, take, drop, Some, None, slice_get, ◌⊎◌, inl, inr, refl, ap, sym, ◌∙◌, subst, append_assoc, append-nil}
 use Rattle.ap_list.specs.Lists.{Each, AnyOf}
 use Rattle.ap_value.specs.Values.{value_eq}
 use Rattle.ap_term.specs.declared.term.Term.{Term}
@@ -16,6 +16,7 @@ use Rattle.ap_world.specs.World.{Shown, function_of}
 use Rattle.ap_world.proofs.Assumed.{both_each, assumed_known, assumed_holds}
 use Rattle.ap_kernel.specs.declared.objects.Sequent.{Sequent}
 use Rattle.ap_kernel.specs.declared.reductions.Inference.{Inference}
+use Rattle.ap_kernel.specs.declared.derivations.Derivation.{Derivation}
 use Rattle.ap_kernel.specs.declared.reductions.Reduction.{Reduction}
 use Rattle.ap_kernel.specs.Standing.{DefinesNot, Holds}
 use Rattle.ap_kernel.specs.Reductions.{KnownClause, Follows, Reduces, put_at, others, all_false, to_one, dropped, rewritten, claims, all_from, all_to, chained}
@@ -179,16 +180,23 @@ chained_reduces D a rs s es e = record {
         let p = each_parts (λ (c : Clause). Valid D c.0) r.to (all_to rs) h in
         (es.0.valid p.0, all_valid rs es.1 p.1)
 
--- a reduction stands where what it says is known to follow
-pub reduces_by : (w : Shown) (r : Reduction) (i : Inference) → r.says ≡ i → Follows (function_of w.entries) i → Reduces w r
-reduces_by w r i e h = record { says = subst (Follows (function_of w.entries)) (sym e) h }
-
 -- what each of a list says follows
 pub all_follow : (w : Shown) (rs : List Reduction) → Each (Reduces w) rs → Each (Follows (function_of w.entries)) (claims rs)
 all_follow w [] es = tt
 all_follow w (r ∷ rs) es = (es.0.says, all_follow w rs es.1)
 
+-- of one
+pub then_reduces : (D : Defs) (a b : Inference) → Follows D a → Follows D b → a.to ≡ b.from ∷ [] → Follows D (record { from = a.from; to = b.to })
+then_reduces D a b h k e = subst (λ cs. Follows D (record { from = a.from; to = cs })) (append-nil b.to) (chained_reduces D a (b ∷ []) h (k, tt) (sym e))
+
 -- one reduction more
 pub all_to_end : (rs : List Reduction) (r : Reduction) → all_to (claims (rs ++ r ∷ [])) ≡ all_to (claims rs) ++ r.says.to
 all_to_end [] r = append-nil r.says.to
 all_to_end (x ∷ rs) r = ap (λ cs. x.says.to ++ cs) (all_to_end rs r) ∙ sym (append_assoc x.says.to (all_to (claims rs)) r.says.to)
+
+pub whys_end : (d : Derivation) (rs : List Reduction) (r : Reduction) → d ∷ map (λ (r : Reduction). r.why) (rs ++ r ∷ []) ≡ (d ∷ map (λ (r : Reduction). r.why) rs) ++ r.why ∷ []
+whys_end d rs r = ap (λ ds. d ∷ ds) (go rs)
+  where
+    go : (rs : List Reduction) → map (λ (r : Reduction). r.why) (rs ++ r ∷ []) ≡ map (λ (r : Reduction). r.why) rs ++ r.why ∷ []
+    go [] = refl
+    go (x ∷ rs) = ap (λ ds. x.why ∷ ds) (go rs)

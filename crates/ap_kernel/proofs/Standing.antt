@@ -52,25 +52,11 @@ stand D A m q facts left right h = record {
   same = λ e k. (val A q.lhs e, val A q.rhs e, val_is D A m q.lhs left e, val_is D A m q.rhs right e, h e k);
 }
 
--- an equivalence stands where what it says is known to hold, and its sides are one term where they are known to be
-pub stands_same : (w : Shown) (q : Equiv) (s : Sequent) → q.says ≡ s → (q.unchanged ≡ true → s.lhs ≡ s.rhs) → Holds (function_of w.entries) s → Stands w q
-stands_same w q s e same h = record {
-  says = subst (Holds (function_of w.entries)) (sym e) h;
-  same = λ k. subst (λ (x : Sequent). x.lhs ≡ x.rhs) (sym e) (same k);
-}
-
--- where nothing is known of its sides
-pub stands_by : (w : Shown) (q : Equiv) (s : Sequent) → q.says ≡ s → q.unchanged ≡ false → Holds (function_of w.entries) s → Stands w q
-stands_by w q s e f h = stands_same w q s e (λ k. absurd (false≢true (sym f ∙ k))) h
-
 pub refl_stands : (D : Defs) → Total D → (c : Ctx) (m : Mode) (u : Term) → KnownFacts D c.0 → IsTrue (known D u)
     → Holds D (refl_made c m u)
 refl_stands D total c m u facts k =
     let (A, models) = models D total in
     stand D A models (refl_made c m u) facts k k (λ e h. same_refl m (val A u e))
-
-pub trans_same : (a b : Equiv) → SameSides a → SameSides b → a.says.rhs ≡ b.says.lhs → (a.unchanged && b.unchanged) ≡ true → a.says.lhs ≡ b.says.rhs
-trans_same a b p q middle k = let h = both a.unchanged b.unchanged k in p h.0 ∙ middle ∙ q h.1
 
 pub trans_stands : (D : Defs) → Total D → (a b : Sequent) → Holds D a → Holds D b → a.ctx ≡ b.ctx → a.mode ≡ b.mode → a.rhs ≡ b.lhs
     → Holds D (trans_made a b)

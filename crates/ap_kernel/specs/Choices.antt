@@ -17,7 +17,7 @@ use Rattle.ap_kernel.specs.declared.objects.Mode.TheVariants.{Equal, Iff}
 use Rattle.ap_kernel.specs.declared.objects.Sequent.{Sequent}
 use Rattle.ap_kernel.specs.declared.choices.Chosen.{Chosen}
 use Rattle.ap_kernel.specs.declared.choices.Chosen.TheVariants as lent
-use Rattle.ap_kernel.specs.Answers.{if_of}
+use Rattle.ap_kernel.specs.Saying.{if_of}
 
 -- a term without the calls of `not` around it, and whether their number is odd
 abbrev pub bare_by : Term → Shape (Term × (Term × Bool)) → Term × Bool

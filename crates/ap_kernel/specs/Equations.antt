@@ -16,7 +16,7 @@ use Rattle.ap_kernel.specs.declared.equations.Parts.{Parts}
 use Rattle.ap_kernel.specs.declared.equations.Parts.TheVariants as part
 use Rattle.ap_kernel.specs.declared.equations.Leads.{Leads}
 use Rattle.ap_kernel.specs.declared.equations.Leads.TheVariants as lead
-use Rattle.ap_kernel.specs.Answers.{if_of}
+use Rattle.ap_kernel.specs.Saying.{if_of}
 
 -- (equal a b)
 abbrev pub equal_of : Term → Term → Term

@@ -5,7 +5,7 @@ use Rattle.ap_term.specs.declared.term.Clause.{Clause}
 use Rattle.ap_world.specs.Shapes.{Shape, constant, negation, equation, shape_of}
 use Rattle.ap_kernel.specs.declared.reductions.Inference.{Inference}
 use Rattle.ap_kernel.specs.Equations.{equal_of}
-use Rattle.ap_kernel.specs.Reductions.{put_at, others, to_one}
+use Rattle.ap_kernel.specs.Inferences.{put_at, others, to_one}
 use Rattle.ap_kernel.specs.Splits.{and_then}
 use Rattle.ap_kernel.specs.Swapping.{swapped, is_part}
 

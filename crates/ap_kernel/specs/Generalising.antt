@@ -10,7 +10,7 @@ use Rattle.ap_world.specs.Names.{consp_name, integerp_name, symbolp_name, string
 use Rattle.ap_world.specs.Types.{zero_bit, positive_bit, negative_bit, nil_bit, t_bit, symbol_bit, proper_bit, improper_bit, string_bit, character_bit}
 use Rattle.ap_kernel.specs.declared.reductions.Inference.{Inference}
 use Rattle.ap_kernel.specs.Eliminating.{call_on}
-use Rattle.ap_kernel.specs.Reductions.{to_one}
+use Rattle.ap_kernel.specs.Inferences.{to_one}
 use Rattle.ap_kernel.specs.Swapping.{swapped}
 
 -- each type of the first mask is one of the second

@@ -6,7 +6,7 @@ use Rattle.ap_term.specs.Terms.{subst_of}
 use Rattle.ap_term.specs.Matching.{Pairs}
 use Rattle.ap_world.specs.Clauses.{negate}
 use Rattle.ap_kernel.specs.declared.reductions.Inference.{Inference}
-use Rattle.ap_kernel.specs.Reductions.{to_one}
+use Rattle.ap_kernel.specs.Inferences.{to_one}
 
 -- the clauses in which the literals have one term before them
 abbrev pub negated_cases : List Term → List Term → List Clause

@@ -19,7 +19,7 @@ use Rattle.ap_world.specs.Recursion.{mentions, is_changed}
 use Rattle.ap_world.specs.Sound.{known, HasFunctions, Sound}
 use Rattle.ap_world.specs.World.{function_of}
 use Rattle.ap_kernel.specs.declared.reductions.Inference.{Inference}
-use Rattle.ap_kernel.specs.Reductions.{KnownClause, Follows}
+use Rattle.ap_kernel.specs.Inferences.{KnownClause, Follows}
 use Rattle.ap_kernel.specs.Splits.{and_then}
 pub use Rattle.ap_kernel.specs.Solving.{any_true, occurs}
 pub use Rattle.ap_kernel.specs.declared.places.Place.{Place}

@@ -9,7 +9,7 @@ use Rattle.ap_term.specs.Terms.{subst_of}
 pub use Rattle.ap_term.specs.Leaves.{any_true}
 use Rattle.ap_world.specs.Shapes.{Shape, negation, equation, shape_of}
 use Rattle.ap_kernel.specs.declared.reductions.Inference.{Inference}
-use Rattle.ap_kernel.specs.Reductions.{others, to_one}
+use Rattle.ap_kernel.specs.Inferences.{others, to_one}
 use Rattle.ap_kernel.specs.Splits.{and_then}
 
 -- a variable occurs in a term

@@ -6,7 +6,7 @@ use Rattle.ap_term.specs.declared.term.Clause.{Clause}
 use Rattle.ap_world.specs.Clauses.{negate}
 use Rattle.ap_world.specs.Shapes.{Shape, choice, shape_of}
 use Rattle.ap_kernel.specs.declared.reductions.Inference.{Inference}
-use Rattle.ap_kernel.specs.Reductions.{put_at}
+use Rattle.ap_kernel.specs.Inferences.{put_at}
 
 -- what there is, handed on
 abbrev pub and_then : {A B : Type 0} → Option A → (A → Option B) → Option B

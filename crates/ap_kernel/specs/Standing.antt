@@ -12,6 +12,8 @@ use Rattle.ap_kernel.specs.declared.objects.Mode.{Mode}
 use Rattle.ap_kernel.specs.declared.objects.Mode.TheVariants.{Equal, Iff}
 use Rattle.ap_kernel.specs.declared.objects.Sequent.{Sequent}
 use Rattle.ap_kernel.specs.declared.objects.Equiv.{Equiv}
+use Rattle.ap_kernel.specs.Deriving.{equiv, why_of, said_of}
+use Rattle.ap_kernel.specs.Saying.{is_unchanged}
 
 -- the world has `not`, as it is given: the one function of the ground world that rows speak of
 abbrev pub DefinesNot : Defs → Type 0
@@ -35,9 +37,11 @@ pub record Holds (D : Defs) (s : Sequent) : Type 0 where
 
 -- what is known of its sides is so: they are one term
 abbrev pub SameSides : Equiv → Type 0
-SameSides q = q.unchanged ≡ true → q.says.lhs ≡ q.says.rhs
+SameSides q = is_unchanged q ≡ true → q.says.lhs ≡ q.says.rhs
 
--- an equivalence stands in a world where what it says holds there, and what is known of its sides is so
+-- an equivalence stands in a world where what it says holds there, and what is known of its sides is so, and
+-- the rows of its derivation give what it says there
 pub record Stands (w : Shown) (q : Equiv) : Type 0 where
   pub says : Holds (function_of w.entries) q.says
   pub same : SameSides q
+  pub derived : said_of w (why_of q) ≡ Some (equiv q.says)

@@ -1,17 +1,20 @@
-ghost use Rattle.std.specs.Prelude.{◌≡◌, IfOk, IfSome, is_some};
+ghost use Rattle.std.specs.Prelude.{◌≡◌, IfOk, IfSome, is_some, map};
 ghost use Rattle.std.specs.Option.{option_copied};
 ghost use Rattle.ap_list.specs.Lists.{Each};
 ghost use Rattle.ap_world.specs.Holding.{KnownPairs, part_of};
 ghost use Rattle.ap_world.specs.World.{function_of, theorem_of};
 ghost use Rattle.ap_world.specs.Facts.{KnownFacts};
 ghost use Rattle.ap_kernel.specs.Standing.{DefinesNot, Stands};
+ghost use Rattle.ap_kernel.specs.Deriving.{listed, why_of};
+ghost use Rattle.ap_kernel.specs.declared.derivations.Row.TheVariants.{ApplyTheorem};
 ghost use Rattle.ap_kernel.specs.Applying.{conjunct_at, applied_made, PartRelieved};
 
+use crate::derivations::{Derivation, Row, copy_subst, whys_of};
 use crate::objects::{Ctx, Equiv};
 use crate::parts::{conclusion_part, instances};
-use ap_list::{NoMemory, Seq};
+use ap_list::{NoMemory, Seq, Shared};
 use ap_term::{Subst, Term};
-use ap_value::Symbol;
+use ap_value::{Symbol, copy_symbol};
 use ap_world::World;
 use std::alloc::Global;
 
@@ -30,6 +33,25 @@ pub fn has_part(w: &World, name: &Symbol, part: u32) -> bool
     ensures { result ≡ is_some (part_of w.now.entries name.now part) }
 {
     conjunct_of(w, name, part).is_some()
+}
+
+/// How a theorem's part is applied.
+fn apply_why(
+    alloc: Global,
+    ctx: &Ctx,
+    name: &Symbol,
+    part: u32,
+    s: &Subst,
+    hyps: &[Equiv],
+) -> Result<Shared<Derivation>, NoMemory>
+    ensures { IfOk result (λ d. d ≡ listed (ApplyTheorem ctx.now name.now part s.now) (map why_of hyps.now)) }
+{
+    let from = whys_of(alloc, hyps)?;
+    let ctx = ctx.share()?;
+    let name = copy_symbol(alloc, name)?;
+    let s = copy_subst(alloc, s)?;
+    let answer = Derivation::of_list(alloc, Row::ApplyTheorem(ctx, name, part, s), from)?;
+    Ok(answer)
 }
 
 /// From the instance of the left side of a theorem's part to that of its right side, where the instance of
@@ -55,7 +77,8 @@ pub fn apply_theorem(
     let Some(conjunct) = conjunct_of(w, name, part) else {
         unreachable!()
     };
+    let why = apply_why(alloc, ctx, name, part, s, hyps.as_slice())?;
     let ctx = ctx.share()?;
     let (mode, lhs, rhs) = instances(alloc, conjunct, s)?;
-    Ok(Equiv::made(ctx, mode, lhs, rhs))
+    Ok(Equiv::made(ctx, mode, lhs, rhs, Some(why)))
 }

@@ -1,4 +1,4 @@
-ghost use Rattle.std.specs.Prelude.{◌≡◌, ◌&&◌, IsTrue, IfOk, true, false, cond, length, [], ◌∷◌};
+ghost use Rattle.std.specs.Prelude.{◌≡◌, ◌&&◌, IsTrue, IfOk, true, false, cond, length, map, [], ◌∷◌};
 ghost use Rattle.ap_list.specs.Lists.{Each};
 ghost use Rattle.ap_term.specs.declared.term.Term.TheVariants.{Call};
 ghost use Rattle.ap_world.specs.Primitives.{prim_of};
@@ -8,12 +8,15 @@ ghost use Rattle.ap_world.specs.Facts.{KnownFacts};
 ghost use Rattle.ap_world.specs.Assume.{assume};
 ghost use Rattle.ap_world.specs.Shapes.{is_constant};
 ghost use Rattle.ap_kernel.specs.Standing.{DefinesNot, Stands};
-ghost use Rattle.ap_kernel.specs.Answers.{if_of, branch_made, chosen_made, IsArgument, said, lefts, rights, cong_made};
+ghost use Rattle.ap_kernel.specs.Answers.{if_of, branch_made, chosen_made, IsArgument, said, lefts, rights, is_unchanged, cong_made};
+ghost use Rattle.ap_kernel.specs.Deriving.{node, listed, why_of, branch_why};
+ghost use Rattle.ap_kernel.specs.declared.derivations.Row.TheVariants.{Cong, Branch, ChooseBranch};
 
 use crate::choices::copied_if;
+use crate::derivations::{Derivation, Row, why_of, whys_of};
 use crate::lists::three;
 use crate::objects::{Ctx, Equiv, Mode};
-use ap_list::{NoMemory, Seq};
+use ap_list::{NoMemory, Seq, Shared};
 use ap_term::{Term, copy_term};
 use ap_value::{Symbol, copy_symbol};
 use ap_world::{World, if_symbol};
@@ -59,6 +62,22 @@ fn right_call(alloc: Global, f: &Symbol, args: &[Equiv]) -> Result<Term, NoMemor
     Term::call(alloc, head, parts)
 }
 
+/// How the call of `f` on what its arguments lead to is made.
+fn cong_why(
+    alloc: Global,
+    ctx: &Ctx,
+    f: &Symbol,
+    args: &[Equiv],
+) -> Result<Shared<Derivation>, NoMemory>
+    ensures { IfOk result (λ d. d ≡ listed (Cong ctx.now f.now) (map why_of args.now)) }
+{
+    let from = whys_of(alloc, args)?;
+    let ctx = ctx.share()?;
+    let f = copy_symbol(alloc, f)?;
+    let answer = Derivation::of_list(alloc, Row::Cong(ctx, f), from)?;
+    Ok(answer)
+}
+
 /// From a call of `f` to the call on what its arguments lead to, under equality. Each argument leads under
 /// the facts `ctx` and under equality, or, where `f` is `not`, under either mode. It copies `f`, once for each
 /// side, and the sides of the arguments, of which each copy costs a count. Where all arguments are unchanged
@@ -85,7 +104,8 @@ pub fn cong(
         return Ok(answer);
     }
     let rhs = right_call(alloc, f, args)?;
-    Ok(Equiv::made(ctx, Mode::Equal, lhs, rhs))
+    let why = cong_why(alloc, &ctx, f, args)?;
+    Ok(Equiv::made(ctx, Mode::Equal, lhs, rhs, Some(why)))
 }
 
 /// `(if a b c)`
@@ -148,9 +168,29 @@ fn if_parts(test: Equiv, yes: Equiv, no: Equiv) -> (Ctx, IfParts, IfParts)
 
 /// Whether of an `if`'s parts the two sides are known to be one term. Takes no memory.
 fn are_parts_unchanged(test: &Equiv, yes: &Equiv, no: &Equiv) -> bool
-    ensures { result ≡ (test.now.unchanged && (yes.now.unchanged && no.now.unchanged)) }
+    ensures { result ≡ (is_unchanged test.now && (is_unchanged yes.now && is_unchanged no.now)) }
 {
     test.is_unchanged() && yes.is_unchanged() && no.is_unchanged()
+}
+
+/// How an `if` of what its parts lead to is made; where all parts are unchanged, nothing is kept of it.
+fn branch_why(
+    alloc: Global,
+    mode: Mode,
+    test: &Equiv,
+    yes: &Equiv,
+    no: &Equiv,
+) -> Result<Option<Shared<Derivation>>, NoMemory>
+    ensures { IfOk result (λ o. o ≡ branch_why mode test.now yes.now no.now) }
+{
+    if are_parts_unchanged(test, yes, no) {
+        return Ok(None);
+    }
+    let first = why_of(alloc, test)?;
+    let second = why_of(alloc, yes)?;
+    let third = why_of(alloc, no)?;
+    let answer = Derivation::of_three(alloc, Row::Branch(mode), first, second, third)?;
+    Ok(Some(answer))
 }
 
 /// From an `if` to the `if` of what its parts lead to. The branches lead under what the new test's truth
@@ -176,11 +216,11 @@ pub fn branch(
     ensures made { IfOk result (λ q. q.says ≡ branch_made mode test.says yes.says no.says) }
 {
     w.recall_sound();
-    let unchanged = are_parts_unchanged(&test, &yes, &no);
+    let why = branch_why(alloc, mode, &test, &yes, &no)?;
     let (ctx, left, right) = if_parts(test, yes, no);
     let lhs = left.into_term(alloc)?;
     let rhs = right.into_term(alloc)?;
-    Ok(Equiv::made(ctx, mode, lhs, rhs).marked(unchanged))
+    Ok(Equiv::made(ctx, mode, lhs, rhs, why))
 }
 
 /// The branch of a sign, lent. Takes no memory.
@@ -188,6 +228,23 @@ fn branch_of<'a>(sign: bool, b: &'a Term, c: &'a Term) -> &'a Term
     ensures { result.now ≡ cond sign b.now c.now }
 {
     if sign { b } else { c }
+}
+
+/// How the branch is chosen that a constant chooses.
+fn choose_why(
+    alloc: Global,
+    mode: Mode,
+    first: Shared<Derivation>,
+    sign: bool,
+    b: &Term,
+    c: &Term,
+) -> Result<Shared<Derivation>, NoMemory>
+    ensures { IfOk result (λ d. d ≡ node (ChooseBranch mode sign b.now c.now) (first ∷ [])) }
+{
+    let b = copy_term(alloc, b)?;
+    let c = copy_term(alloc, c)?;
+    let answer = Derivation::of_one(alloc, Row::ChooseBranch(mode, sign, b, c), first)?;
+    Ok(answer)
 }
 
 /// From an `if` to the branch that the constant chooses to which its test leads: the sign is true where that
@@ -211,8 +268,9 @@ pub fn choose_branch(
     ensures made { IfOk result (λ q. q.says ≡ chosen_made mode test.says sign b.now c.now) }
 {
     w.recall_sound();
-    let ctx = test.ctx().share()?;
-    let lhs = copied_if(alloc, test.lhs(), b, c)?;
+    let (test, first) = test.into_made(alloc)?;
+    let why = choose_why(alloc, mode, first, sign, b, c)?;
+    let lhs = copied_if(alloc, &test.lhs, b, c)?;
     let rhs = copy_term(alloc, branch_of(sign, b, c))?;
-    Ok(Equiv::made(ctx, mode, lhs, rhs))
+    Ok(Equiv::made(test.ctx, mode, lhs, rhs, Some(why)))
 }

@@ -1,24 +1,41 @@
-ghost use Rattle.std.specs.Prelude.{◌≡◌, [], ◌∷◌, IfOk};
+ghost use Rattle.std.specs.Prelude.{◌≡◌, [], ◌∷◌, IfOk, map};
+ghost use Rattle.ap_kernel.specs.declared.reductions.Reduction.{Reduction};
 ghost use Rattle.ap_list.specs.Lists.{Each};
 ghost use Rattle.ap_world.specs.World.{function_of};
 ghost use Rattle.ap_kernel.specs.Reductions.{Reduces, claims, all_from, all_to, chained};
 
+use crate::derivations::{Derivation, Row};
 use crate::reductions::Reduction;
-use ap_list::{NoMemory, Seq};
+use ap_list::{NoMemory, Seq, Shared};
 use ap_term::Clause;
 use ap_world::World;
 use std::alloc::Global;
 
-/// The clauses of all, in order. The clauses are moved.
-fn all_goals(alloc: Global, list: Seq<Reduction>) -> Result<Seq<Clause>, NoMemory>
-    ensures { IfOk result (λ out. out ≡ all_to (claims list)) }
+/// What is gathered of reductions: how they were made, and the clauses to which they lead, in order.
+#[derive(Drop)]
+struct Gains {
+    whys: Seq<Shared<Derivation>>,
+    goals: Seq<Clause>,
+}
+
+/// How one reduction and those of its clauses were made, in order, and the clauses of these. All is moved.
+fn gathered(
+    alloc: Global,
+    first: Shared<Derivation>,
+    list: Seq<Reduction>,
+) -> Result<Gains, NoMemory>
+    ensures whys { IfOk result (λ g. g.whys ≡ first ∷ map (λ (r : Reduction). r.why) list) }
+    ensures goals { IfOk result (λ g. g.goals ≡ all_to (claims list)) }
 {
-    let mut out = Seq::new(alloc);
+    let mut whys = Seq::with_capacity(alloc, list.len().saturating_add(1))?;
+    whys.push(first)?;
+    let mut goals = Seq::new(alloc);
     for r in list.into_vec() {
-        let (_, to) = r.into_parts();
-        out.append(to)?;
+        let (says, why) = r.into_made();
+        whys.push(why)?;
+        goals.append(says.to)?;
     }
-    Ok(out)
+    Ok(Gains { whys, goals })
 }
 
 /// From a clause to the clauses that those it is reduced to are reduced to in their turn, in their order.
@@ -36,9 +53,10 @@ pub fn chain(
     ensures made { IfOk result (λ r. r.says ≡ chained a.says (claims b)) }
 {
     w.recall_sound();
-    let (from, _) = a.into_parts();
-    let to = all_goals(alloc, b)?;
-    Ok(Reduction::made(from, to))
+    let (says, first) = a.into_made();
+    let Gains { whys, goals } = gathered(alloc, first, b)?;
+    let why = Derivation::of_list(alloc, Row::Chain, whys)?;
+    Ok(Reduction::made(says.from, goals, why))
 }
 
 /// From a clause to what the one clause that it is reduced to is reduced to in its turn. It copies nothing.
@@ -54,8 +72,9 @@ pub fn then(
     ensures stands { IfOk result (λ r. Reduces w.now r) }
     ensures made { IfOk result (λ r. r.says ≡ record { from = first.says.from; to = next.says.to }) }
 {
-    let mut rest = Seq::new(alloc);
-    rest.push(next)?;
-    let both = chain(alloc, w, first, rest)?;
-    Ok(both)
+    w.recall_sound();
+    let (says, why) = first.into_made();
+    let (then, second) = next.into_made();
+    let why = Derivation::of_two(alloc, Row::Chain, why, second)?;
+    Ok(Reduction::made(says.from, then.to, why))
 }

@@ -1,19 +1,23 @@
-ghost use Rattle.std.specs.Prelude.{◌≡◌, IsTrue, IfOk};
+ghost use Rattle.std.specs.Prelude.{◌≡◌, [], IsTrue, IfOk};
 ghost use Rattle.ap_world.specs.Meaning.{Defs};
 ghost use Rattle.ap_world.specs.Sound.{known};
 ghost use Rattle.ap_world.specs.World.{function_of};
 ghost use Rattle.ap_world.specs.Clauses.{not_of};
 ghost use Rattle.ap_world.specs.Facts.{KnownFacts};
 ghost use Rattle.ap_world.specs.Shapes.{shape_of};
+ghost use Rattle.ap_world.specs.Typing.{types};
 ghost use Rattle.ap_kernel.specs.Standing.{DefinesNot, Stands};
 ghost use Rattle.ap_kernel.specs.Masks.{MaskHolds};
 ghost use Rattle.ap_kernel.specs.Answers.{if_of};
 ghost use Rattle.ap_kernel.specs.Choices.{bare, bare_test, is_t_constant, is_truth, by_branches, if_shape, by_constant, choice_leads, is_choice, choice_made, seen_chosen};
+ghost use Rattle.ap_kernel.specs.Deriving.{node};
+ghost use Rattle.ap_kernel.specs.declared.derivations.Row.TheVariants.{IfShape};
 
 use crate::assuming::is_constant;
+use crate::derivations::{Derivation, Row};
 use crate::lists::one;
 use crate::objects::{Ctx, Equiv, Mode};
-use ap_list::{NoMemory, Seq};
+use ap_list::{NoMemory, Seq, Shared};
 use ap_term::{Term, copy_term, is_same};
 use ap_world::{Mask, ShapeRef, World, if_symbol, is_nil, is_t, masks, not_symbol, shape_of};
 use std::alloc::Global;
@@ -157,11 +161,28 @@ fn own_chosen(alloc: Global, chosen: Chosen<'_>) -> Result<Term, NoMemory>
     }
 }
 
+/// How an `if` is led to its shape.
+fn shape_why(
+    alloc: Global,
+    ctx: &Ctx,
+    mode: Mode,
+    t: &Term,
+    mask: Mask,
+) -> Result<Shared<Derivation>, NoMemory>
+    ensures { IfOk result (λ d. d ≡ node (IfShape ctx.now mode t.now mask) []) }
+{
+    let ctx = ctx.share()?;
+    let t = copy_term(alloc, t)?;
+    let answer = Derivation::leaf(alloc, Row::IfShape(ctx, mode, t, mask))?;
+    Ok(answer)
+}
+
 /// From an `if`, under the mode that is asked for: to the branch that a constant test chooses. Else, where
 /// both branches are one term, to that; calls of `not` around the test are taken off, each exchanging the
 /// branches; and then to the test where the branches are `'T` and `'NIL`, under `iff` or where the mask has
 /// no value but `t` and `nil`; to the test's negation where they are `'NIL` and `'T`; and to an `if` of
-/// what is left. The mask is that of the test without the calls of `not` around it. It copies the `if`,
+/// what is left. The mask is that of the test without the calls of `not` around it, as the definition of types
+/// gives it. It copies the `if`,
 /// since an equivalence owns its sides, and once more what of it the right side has, since the left side
 /// keeps its own.
 pub fn if_shape(
@@ -177,11 +198,13 @@ pub fn if_shape(
     requires term { IsTrue (known (function_of w.now.entries) t.now) }
     requires choice { IsTrue (is_choice (shape_of t.now)) }
     requires mask { MaskHolds (function_of w.now.entries) ctx.now.0 (bare_test t.now) mask }
+    requires exact { mask.0 ≡ types w.now ctx.now.0 (bare_test t.now) }
     ensures stands { IfOk result (λ q. Stands w.now q) }
     ensures made { IfOk result (λ q. q.says ≡ choice_made ctx.now mode t.now mask) }
 {
     w.recall_sound();
     let rhs = own_chosen(alloc, choice_of(is_truth(mode, mask), t))?;
-    let answer = Equiv::from_copy(alloc, ctx, mode, t, rhs)?;
+    let why = shape_why(alloc, ctx, mode, t, mask)?;
+    let answer = Equiv::from_copy(alloc, ctx, mode, t, rhs, why)?;
     Ok(answer)
 }

@@ -7,15 +7,18 @@ ghost use Rattle.ap_world.specs.World.{function_of};
 ghost use Rattle.ap_kernel.specs.Standing.{DefinesNot};
 ghost use Rattle.ap_kernel.specs.Reductions.{KnownClause, Reduces};
 ghost use Rattle.ap_kernel.specs.Solving.{occurs_in};
+ghost use Rattle.ap_kernel.specs.Deriving.{node};
+ghost use Rattle.ap_kernel.specs.declared.derivations.Row.TheVariants.{Eliminate};
 ghost use Rattle.ap_kernel.specs.Eliminating.{call_on, consp_term, taken_apart, reduced, without_first, elim_goals, eliminated};
 
 use crate::choices::not_term;
+use crate::derivations::{Derivation, Row};
 use crate::generalising::call_on;
 use crate::hints::before;
 use crate::lists::{one_clause, two, two_clauses};
 use crate::reductions::Reduction;
 use crate::swapping::swapped_all;
-use ap_list::{NoMemory, Seq};
+use ap_list::{NoMemory, Seq, Shared};
 use ap_term::{Clause, Term, copy_term, copy_terms, is_same};
 use ap_value::{Symbol, acl2, copy_symbol};
 use ap_world::World;
@@ -174,6 +177,22 @@ fn elim_goals(
     }
 }
 
+/// How a variable is taken apart.
+fn eliminate_why(
+    alloc: Global,
+    c: &Shared<Clause>,
+    v: &Symbol,
+    a: Symbol,
+    b: Symbol,
+) -> Result<Shared<Derivation>, NoMemory>
+    ensures { IfOk result (λ d. d ≡ node (Eliminate c.now v.now a b) []) }
+{
+    let c = c.share()?;
+    let v = copy_symbol(alloc, v)?;
+    let answer = Derivation::leaf(alloc, Row::Eliminate(c, v, a, b))?;
+    Ok(answer)
+}
+
 /// From a clause to two: the clause with `(consp v)` before it, and the clause with the first new variable
 /// for `(car v)`, the second for `(cdr v)`, and their cons for other `v`. Where `(not (consp v))` is a
 /// literal, it is left out of the second, which is then the only one. It copies what it doesn't change, since
@@ -197,5 +216,7 @@ pub fn eliminate(
     w.recall_sound();
     let pairs = taken_apart(alloc, v, &a, &b)?;
     let goals = elim_goals(alloc, v, pairs.as_slice(), c.0.as_slice())?;
-    Ok(Reduction::made(c, goals))
+    let from = Shared::new(alloc, c)?;
+    let why = eliminate_why(alloc, &from, v, a, b)?;
+    Ok(Reduction::made(from, goals, why))
 }

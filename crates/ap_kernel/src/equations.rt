@@ -1,4 +1,4 @@
-ghost use Rattle.std.specs.Prelude.{◌≡◌, IsTrue, IfOk, IfSome, is_some};
+ghost use Rattle.std.specs.Prelude.{◌≡◌, [], IsTrue, IfOk, IfSome, is_some};
 ghost use Rattle.std.specs.Option.{option_map};
 ghost use Rattle.ap_list.specs.Lists.{lookup_by};
 ghost use Rattle.ap_term.specs.declared.term.Term.TheVariants.{Quote};
@@ -7,12 +7,15 @@ ghost use Rattle.ap_world.specs.Sound.{known};
 ghost use Rattle.ap_world.specs.World.{function_of};
 ghost use Rattle.ap_world.specs.Facts.{KnownFacts};
 ghost use Rattle.ap_kernel.specs.Standing.{Stands};
+ghost use Rattle.ap_kernel.specs.Deriving.{node};
+ghost use Rattle.ap_kernel.specs.declared.derivations.Row.TheVariants.{ConsEqual};
 ghost use Rattle.ap_kernel.specs.Equations.{equal_of, truth_constant, cons_parts, apart, sides_lead, equation_leads, equation_made, seen_parts, seen_leads};
 
 use crate::calls::if_term;
+use crate::derivations::{Derivation, Row};
 use crate::lists::two;
 use crate::objects::{Ctx, Equiv, Mode};
-use ap_list::NoMemory;
+use ap_list::{NoMemory, Shared};
 use ap_term::{Term, copy_term, is_same};
 use ap_value::{Value, copy};
 use ap_world::{ShapeRef, World, equal_symbol, nil_term, shape_of, t_term};
@@ -178,6 +181,16 @@ pub fn equation_leads(ctx: &Ctx, t: &Term) -> bool
     leads_of(ctx.facts(), t).is_some()
 }
 
+/// How an equation is led on.
+fn equal_why(alloc: Global, ctx: &Ctx, t: &Term) -> Result<Shared<Derivation>, NoMemory>
+    ensures { IfOk result (λ d. d ≡ node (ConsEqual ctx.now t.now) []) }
+{
+    let ctx = ctx.share()?;
+    let t = copy_term(alloc, t)?;
+    let answer = Derivation::leaf(alloc, Row::ConsEqual(ctx, t))?;
+    Ok(answer)
+}
+
 /// From an equation, under equality: of a term and itself to `'T`; where the first fact on the equation
 /// with its sides exchanged is true to `'T`, where it is false to `'NIL`; else, of two conses, to the `if`
 /// of the equation of their first parts, the equation of their second parts, and `'NIL`. A constant that
@@ -195,6 +208,7 @@ pub fn cons_equal(alloc: Global, w: &World, ctx: &Ctx, t: &Term) -> Result<Equiv
         unreachable!()
     };
     let rhs = own_leads(alloc, leads)?;
-    let answer = Equiv::from_copy(alloc, ctx, Mode::Equal, t, rhs)?;
+    let why = equal_why(alloc, ctx, t)?;
+    let answer = Equiv::from_copy(alloc, ctx, Mode::Equal, t, rhs, why)?;
     Ok(answer)
 }

@@ -1,11 +1,14 @@
-ghost use Rattle.std.specs.Prelude.{◌≡◌, ◌<◌, IfOk, IfSome, length, slice_get, Some, false};
+ghost use Rattle.std.specs.Prelude.{◌≡◌, ◌<◌, [], IfOk, IfSome, length, slice_get, Some, false};
 ghost use Rattle.ap_world.specs.World.{function_of};
 ghost use Rattle.ap_world.specs.Facts.{KnownFacts};
 ghost use Rattle.ap_kernel.specs.Standing.{Stands};
 ghost use Rattle.ap_kernel.specs.Answers.{fact_made};
+ghost use Rattle.ap_kernel.specs.Deriving.{node};
+ghost use Rattle.ap_kernel.specs.declared.derivations.Row.TheVariants.{ByFact};
 
+use crate::derivations::{Derivation, Row};
 use crate::objects::{Ctx, Equiv, Mode};
-use ap_list::NoMemory;
+use ap_list::{NoMemory, Shared};
 use ap_term::Term;
 use ap_world::{World, nil_term, t_term};
 use std::alloc::Global;
@@ -18,15 +21,30 @@ fn fact_at(facts: &[(Term, bool)], index: usize) -> &(Term, bool)
     &facts[index]
 }
 
+/// How a fact is made an equivalence.
+fn fact_why(alloc: Global, ctx: &Ctx, index: usize) -> Result<Shared<Derivation>, NoMemory>
+    ensures { IfOk result (λ d. d ≡ node (ByFact ctx.now index) []) }
+{
+    let ctx = ctx.share()?;
+    let answer = Derivation::leaf(alloc, Row::ByFact(ctx, index))?;
+    Ok(answer)
+}
+
 /// A fact as an equivalence.
-fn fact_equiv(alloc: Global, ctx: &Ctx, t: &Term, sign: bool) -> Result<Equiv, NoMemory>
+fn fact_equiv(
+    alloc: Global,
+    ctx: &Ctx,
+    t: &Term,
+    sign: bool,
+    why: Shared<Derivation>,
+) -> Result<Equiv, NoMemory>
     ensures says { IfOk result (λ q. q.says ≡ fact_made ctx.now t.now sign) }
-    ensures unchanged { IfOk result (λ q. q.unchanged ≡ false) }
+    ensures why { IfOk result (λ q. q.why ≡ Some why) }
 {
     if sign {
-        return Equiv::from_copy(alloc, ctx, Mode::Iff, t, t_term());
+        return Equiv::from_copy(alloc, ctx, Mode::Iff, t, t_term(), why);
     }
-    Equiv::from_copy(alloc, ctx, Mode::Equal, t, nil_term())
+    Equiv::from_copy(alloc, ctx, Mode::Equal, t, nil_term(), why)
 }
 
 /// The fact at this place: a true fact's term leads under `iff` to `'T`, a false fact's under equality to
@@ -39,6 +57,7 @@ pub fn by_fact(alloc: Global, w: &World, ctx: &Ctx, index: usize) -> Result<Equi
 {
     w.recall_sound();
     let fact = fact_at(ctx.facts(), index);
-    let answer = fact_equiv(alloc, ctx, &fact.0, fact.1)?;
+    let why = fact_why(alloc, ctx, index)?;
+    let answer = fact_equiv(alloc, ctx, &fact.0, fact.1, why)?;
     Ok(answer)
 }

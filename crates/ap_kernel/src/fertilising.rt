@@ -6,15 +6,18 @@ ghost use Rattle.ap_kernel.specs.Standing.{DefinesNot};
 ghost use Rattle.ap_kernel.specs.Reductions.{KnownClause, Reduces, put_at, others, to_one};
 ghost use Rattle.ap_kernel.specs.Equations.{equal_of};
 ghost use Rattle.ap_kernel.specs.Swapping.{swapped};
+ghost use Rattle.ap_kernel.specs.Deriving.{node};
+ghost use Rattle.ap_kernel.specs.declared.derivations.Row.TheVariants.{Fertilise};
 ghost use Rattle.ap_kernel.specs.Fertilising.{is_constant_shape, sides_of, negated_sides, side_replaced, literal_fertilised, fertilised, fertilise_made};
 ghost use Rattle.ap_kernel.specs.Splits.{and_then};
 
+use crate::derivations::{Derivation, Row};
 use crate::equations::equal_term;
 use crate::lists::{one, one_pair};
 use crate::literals::{put_at, to_one};
 use crate::reductions::Reduction;
 use crate::swapping::{contains, swapped};
-use ap_list::{NoMemory, Seq};
+use ap_list::{NoMemory, Seq, Shared};
 use ap_term::{Clause, Term, copy_term};
 use ap_world::{ShapeRef, World, shape_of};
 use std::alloc::Global;
@@ -145,6 +148,20 @@ fn literal_changed(alloc: Global, c: &Clause, i: usize, j: usize) -> Result<Opti
     }
 }
 
+/// How an equation among the hypotheses is used in another.
+fn fertilise_why(
+    alloc: Global,
+    c: &Shared<Clause>,
+    i: usize,
+    j: usize,
+) -> Result<Shared<Derivation>, NoMemory>
+    ensures { IfOk result (λ d. d ≡ node (Fertilise c.now i j) []) }
+{
+    let c = c.share()?;
+    let answer = Derivation::leaf(alloc, Row::Fertilise(c, i, j))?;
+    Ok(answer)
+}
+
 /// From a clause to the clause without the literal at the first place, which is the negation of an equation
 /// whose sides are no constants, and with that equation used in the literal at the second place, an equation
 /// too: there the left side stands for the right one in the right side, or else the right one for the left
@@ -167,6 +184,8 @@ pub fn fertilise(
         unreachable!()
     };
     let literals = fertilised(alloc, c.0.as_slice(), i, j, changed)?;
-    let answer = to_one(alloc, c, literals)?;
+    let from = Shared::new(alloc, c)?;
+    let why = fertilise_why(alloc, &from, i, j)?;
+    let answer = to_one(alloc, from, literals, why)?;
     Ok(answer)
 }

@@ -3,20 +3,24 @@ ghost use Rattle.std.specs.Option.{option_map};
 ghost use Rattle.ap_value.specs.Values.{acl2};
 ghost use Rattle.ap_term.specs.declared.term.Term.TheVariants.{Var};
 ghost use Rattle.ap_world.specs.Sound.{known, HasFunctions};
+ghost use Rattle.ap_world.specs.Typing.{types};
 ghost use Rattle.ap_world.specs.World.{function_of};
 ghost use Rattle.ap_kernel.specs.Masks.{MaskHolds};
 ghost use Rattle.ap_kernel.specs.Reductions.{KnownClause, Reduces};
 ghost use Rattle.ap_kernel.specs.Solving.{occurs_in};
 ghost use Rattle.ap_kernel.specs.Swapping.{swapped};
 ghost use Rattle.ap_kernel.specs.Eliminating.{call_on};
+ghost use Rattle.ap_kernel.specs.Deriving.{node};
+ghost use Rattle.ap_kernel.specs.declared.derivations.Row.TheVariants.{Generalise};
 ghost use Rattle.ap_kernel.specs.Generalising.{lies_within, tried, first_fitting, restriction, generalised};
 
 use crate::choices::not_term;
+use crate::derivations::{Derivation, Row};
 use crate::lists::{one, one_pair};
 use crate::literals::to_one;
 use crate::reductions::Reduction;
 use crate::swapping::swapped_all;
-use ap_list::{NoMemory, Seq};
+use ap_list::{NoMemory, Seq, Shared};
 use ap_term::{Clause, Term, copy_term};
 use ap_value::{Symbol, acl2, copy_symbol};
 use ap_world::{Mask, World, masks};
@@ -108,9 +112,27 @@ fn restricted(
     Ok(literals)
 }
 
+/// How a term is generalised.
+fn generalise_why(
+    alloc: Global,
+    c: &Shared<Clause>,
+    t: &Term,
+    v: &Symbol,
+    mask: Mask,
+) -> Result<Shared<Derivation>, NoMemory>
+    ensures { IfOk result (λ d. d ≡ node (Generalise c.now t.now v.now mask) []) }
+{
+    let c = c.share()?;
+    let v = copy_symbol(alloc, v)?;
+    let t = copy_term(alloc, t)?;
+    let answer = Derivation::leaf(alloc, Row::Generalise(c, t, v, mask))?;
+    Ok(answer)
+}
+
 /// From a clause to the clause with a new variable in every place of a term, and before it the negation of
 /// the first of six recognisers on the variable whose types the term's mask lies within, where there is one.
-/// It copies what it doesn't change, since the reduction owns both clauses.
+/// The mask is what the definition of types gives under no facts. It copies what it doesn't change, since the
+/// reduction owns both clauses.
 pub fn generalise(
     alloc: Global,
     w: &World,
@@ -123,12 +145,15 @@ pub fn generalise(
     requires clause { KnownClause (function_of w.now.entries) c }
     requires term { IsTrue (known (function_of w.now.entries) t.now) }
     requires mask { MaskHolds (function_of w.now.entries) [] t.now mask }
+    requires exact { mask.0 ≡ types w.now [] t.now }
     requires new { occurs_in v c.0 ≡ false }
     ensures stands { IfOk result (λ r. Reduces w.now r) }
     ensures made { IfOk result (λ r. r.says ≡ generalised c t.now v mask) }
 {
     w.recall_sound();
-    let literals = restricted(alloc, t, v, mask, c.0.as_slice())?;
-    let answer = to_one(alloc, c, literals)?;
+    let from = Shared::new(alloc, c)?;
+    let why = generalise_why(alloc, &from, t, &v, mask)?;
+    let literals = restricted(alloc, t, v, mask, from.get().0.as_slice())?;
+    let answer = to_one(alloc, from, literals, why)?;
     Ok(answer)
 }

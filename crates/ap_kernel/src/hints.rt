@@ -1,4 +1,4 @@
-ghost use Rattle.std.specs.Prelude.{◌≡◌, ◌∷◌, ◌++◌, IfOk, IfSome, IsTrue, is_some};
+ghost use Rattle.std.specs.Prelude.{◌≡◌, [], ◌∷◌, ◌++◌, IfOk, IfSome, IsTrue, is_some};
 ghost use Rattle.ap_list.specs.Lists.{Each};
 ghost use Rattle.ap_term.specs.Terms.{subst_of};
 ghost use Rattle.ap_world.specs.Clauses.{negate};
@@ -7,14 +7,17 @@ ghost use Rattle.ap_world.specs.Sound.{known};
 ghost use Rattle.ap_world.specs.World.{function_of, theorem_of};
 ghost use Rattle.ap_kernel.specs.Standing.{DefinesNot};
 ghost use Rattle.ap_kernel.specs.Reductions.{KnownClause, Reduces};
+ghost use Rattle.ap_kernel.specs.Deriving.{node};
+ghost use Rattle.ap_kernel.specs.declared.derivations.Row.TheVariants.{Cases, UseFact};
 ghost use Rattle.ap_kernel.specs.Hinting.{negated_cases, case_clauses, cased, used};
 
+use crate::derivations::{Derivation, Row, copy_subst};
 use crate::literals::to_one;
 use crate::reductions::Reduction;
 use crate::splits::{negated, negated_instance};
-use ap_list::{NoMemory, Seq};
+use ap_list::{NoMemory, Seq, Shared};
 use ap_term::{Clause, Subst, Term, copy_terms};
-use ap_value::Symbol;
+use ap_value::{Symbol, copy_symbol};
 use ap_world::World;
 use std::alloc::Global;
 
@@ -51,6 +54,20 @@ fn case_clauses(alloc: Global, on: &[Term], literals: &[Term]) -> Result<Seq<Cla
     Ok(out)
 }
 
+/// How a clause is taken case by case.
+fn cases_why(
+    alloc: Global,
+    c: &Shared<Clause>,
+    on: &Seq<Term>,
+) -> Result<Shared<Derivation>, NoMemory>
+    ensures { IfOk result (λ d. d ≡ node (Cases c.now on.now) []) }
+{
+    let c = c.share()?;
+    let on = copy_terms(alloc, on.as_slice())?;
+    let answer = Derivation::leaf(alloc, Row::Cases(c, on))?;
+    Ok(answer)
+}
+
 /// From a clause to one clause for each of some terms, the term's negation before the clause, and last to the
 /// clause with all the terms before it. It copies the literals for each, since the reduction owns all clauses.
 /// See the manual's topic `cases`.
@@ -63,7 +80,9 @@ pub fn cases(alloc: Global, w: &World, c: Clause, on: &Seq<Term>) -> Result<Redu
 {
     w.recall_sound();
     let goals = case_clauses(alloc, on.as_slice(), c.0.as_slice())?;
-    Ok(Reduction::made(c, goals))
+    let from = Shared::new(alloc, c)?;
+    let why = cases_why(alloc, &from, on)?;
+    Ok(Reduction::made(from, goals, why))
 }
 
 /// The literals with the negated instance of a term before them.
@@ -77,6 +96,22 @@ fn with_instance(
 {
     let negation = negated_instance(alloc, term, s)?;
     before(alloc, negation, literals)
+}
+
+/// How a theorem's instance is used.
+fn use_why(
+    alloc: Global,
+    c: &Shared<Clause>,
+    name: &Symbol,
+    s: &Subst,
+) -> Result<Shared<Derivation>, NoMemory>
+    ensures { IfOk result (λ d. d ≡ node (UseFact c.now name.now s.now) []) }
+{
+    let c = c.share()?;
+    let name = copy_symbol(alloc, name)?;
+    let s = copy_subst(alloc, s)?;
+    let answer = Derivation::leaf(alloc, Row::UseFact(c, name, s))?;
+    Ok(answer)
 }
 
 /// From a clause to the clause with the negation of an instance of a theorem before it. It copies the
@@ -100,6 +135,8 @@ pub fn use_fact(
         unreachable!()
     };
     let literals = with_instance(alloc, &theorem.term, s, c.0.as_slice())?;
-    let answer = to_one(alloc, c, literals)?;
+    let from = Shared::new(alloc, c)?;
+    let why = use_why(alloc, &from, name, s)?;
+    let answer = to_one(alloc, from, literals, why)?;
     Ok(answer)
 }

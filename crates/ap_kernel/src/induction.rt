@@ -7,14 +7,17 @@ ghost use Rattle.ap_world.specs.Clauses.{negate};
 ghost use Rattle.ap_world.specs.Sound.{known, HasFunctions};
 ghost use Rattle.ap_world.specs.World.{function_of};
 ghost use Rattle.ap_kernel.specs.Reductions.{KnownClause, Reduces};
+ghost use Rattle.ap_kernel.specs.Deriving.{node};
+ghost use Rattle.ap_kernel.specs.declared.derivations.Row.TheVariants.{Induct};
 ghost use Rattle.ap_kernel.specs.Induction.{choices, negated_at, case_clauses, induction, variable_of, moved_at, pairs_of, induction_at, leads_induction, induct_made};
 
+use crate::derivations::{Derivation, Row};
 use crate::hints::before;
 use crate::lists::copied_pair;
 use crate::places::{Place, places_of};
 use crate::reductions::Reduction;
 use crate::splits::negated_instance;
-use ap_list::{NoMemory, Seq};
+use ap_list::{NoMemory, Seq, Shared};
 use ap_term::{Clause, Shape, Subst, Term, copy_term, copy_terms, subst};
 use ap_value::{Symbol, acl2, copy_symbol};
 use ap_world::{Case, World};
@@ -285,6 +288,22 @@ fn induction_by(
     Ok(Some(goals))
 }
 
+/// How an induction is made.
+fn induct_why(
+    alloc: Global,
+    c: &Shared<Clause>,
+    f: &Symbol,
+    actuals: &[Term],
+) -> Result<Shared<Derivation>, NoMemory>
+    ensures { IfOk result (λ d. d ≡ node (Induct c.now f.now actuals.now) []) }
+{
+    let c = c.share()?;
+    let f = copy_symbol(alloc, f)?;
+    let actuals = copy_terms(alloc, actuals)?;
+    let answer = Derivation::leaf(alloc, Row::Induct(c, f, actuals))?;
+    Ok(answer)
+}
+
 /// From a clause to the clauses of the induction by a call of a recursive function, whose actuals have the
 /// conditions of a candidate. They come case by case of the function. Each has the negated tests of its case,
 /// for each call of the case one literal of the clause under the replacement of that call, negated, and the
@@ -309,5 +328,7 @@ pub fn induct(
     let Some(goals) = induction_by(alloc, w, &c, f, actuals)? else {
         unreachable!()
     };
-    Ok(Reduction::made(c, goals))
+    let from = Shared::new(alloc, c)?;
+    let why = induct_why(alloc, &from, f, actuals)?;
+    Ok(Reduction::made(from, goals, why))
 }

@@ -33,6 +33,11 @@
 //! them, and [`trans`], [`weaken_mode`], [`cong`] and [`branch`] where all that they are handed are such. So who
 //! rewrites a term needn't build again what didn't change.
 //!
+//! Each other object keeps how it was made, as a [`Derivation`]: the row, its arguments, and how the objects were
+//! made that the row was handed. The arguments are kept at a count each; a derivation is moved on from what is
+//! handed in by value, and else shared. Where an equivalence's sides are known to be one term nothing is kept, since
+//! it is [`refl`] of its own parts ([`why_of`]).
+//!
 //! An equivalence owns its sides, so that it can be taken apart and its terms moved into the next one. A row
 //! that is lent a term copies it, and a copy shares the arguments and the names: it costs a count for each,
 //! whatever the term's size. What is handed in by value is moved. Facts are shared and never copied, but
@@ -59,8 +64,9 @@
 //! | [`fertilise`] | the clause with an equation among its hypotheses used in one side of another, and left out | the other literals |
 //! | [`induct`] | the clauses of an induction by a recursive function | what isn't changed |
 //!
-//! A reduction owns both its clause, which is moved, and those that it leads to: so literals that stand in
-//! both are copied once.
+//! A reduction owns those that it leads to, and shares its clause, which is moved, with how it was made: so literals
+//! that stand in both are copied once. [`chain`] and [`then`] keep how each was made that they are handed, and
+//! [`keep`] is kept as [`cases`] of no terms.
 //!
 //! # What isn't a row
 //!
@@ -81,6 +87,7 @@ mod assuming;
 mod calls;
 mod chaining;
 mod choices;
+mod derivations;
 mod eliminating;
 mod equations;
 mod facts;
@@ -155,6 +162,11 @@ pub use choices::bare_test;
 pub use choices::if_shape;
 pub use choices::is_choice;
 pub use choices::not_term;
+pub use derivations::Derivation;
+pub use derivations::Row;
+pub use derivations::Source;
+pub use derivations::let_go;
+pub use derivations::why_of;
 pub use eliminating::eliminate;
 pub use equations::cons_equal;
 pub use equations::equal_term;
@@ -170,9 +182,11 @@ pub use hints::use_fact;
 pub use induction::induct;
 pub use induction::variable_of;
 pub use linear::LinearOracle;
+pub use linear::Why;
 pub use linear::both_not_less;
 pub use linear::by_certificate;
 pub use linear::is_comparison;
+pub use linear::theorem_why;
 pub use literals::drop_literal;
 pub use literals::keep;
 pub use literals::put_at;
@@ -182,6 +196,7 @@ pub use objects::Ctx;
 pub use objects::Equiv;
 pub use objects::Mode;
 pub use objects::Sequent;
+pub use objects::copy_equiv;
 pub use opening::can_open;
 pub use opening::fold;
 pub use opening::is_constant_call;

@@ -2,12 +2,15 @@ ghost use Rattle.std.specs.Prelude.{◌≡◌, ◌∷◌, [], ◌<◌, IfOk, IsT
 ghost use Rattle.ap_list.specs.Lists.{Each};
 ghost use Rattle.ap_world.specs.World.{function_of};
 ghost use Rattle.ap_kernel.specs.Standing.{DefinesNot, Stands};
+ghost use Rattle.ap_kernel.specs.Deriving.{node};
+ghost use Rattle.ap_kernel.specs.declared.derivations.Row.TheVariants.{RewriteLiteral, DropLiteral, Cases};
 ghost use Rattle.ap_kernel.specs.Reductions.{KnownClause, Reduces, put_at, others, all_false, to_one, dropped, rewritten, chained};
 
+use crate::derivations::{Derivation, Row};
 use crate::lists::{one, one_clause};
 use crate::objects::Equiv;
 use crate::reductions::Reduction;
-use ap_list::{NoMemory, Seq};
+use ap_list::{NoMemory, Seq, Shared};
 use ap_term::{Clause, Term, copy_terms, extend_terms};
 use ap_world::World;
 use std::alloc::Global;
@@ -30,11 +33,25 @@ pub fn put_at(
 }
 
 /// A reduction to one clause.
-pub(crate) fn to_one(alloc: Global, from: Clause, to: Seq<Term>) -> Result<Reduction, NoMemory>
-    ensures { IfOk result (λ r. r.says ≡ to_one from to) }
+pub(crate) fn to_one(
+    alloc: Global,
+    from: Shared<Clause>,
+    to: Seq<Term>,
+    why: Shared<Derivation>,
+) -> Result<Reduction, NoMemory>
+    ensures { IfOk result (λ r. r ≡ record { says = to_one from to; why = why }) }
 {
     let goals = one_clause(alloc, Clause(to))?;
-    Ok(Reduction::made(from, goals))
+    Ok(Reduction::made(from, goals, why))
+}
+
+/// How a clause is kept: it is the one case of no terms.
+fn keep_why(alloc: Global, c: &Shared<Clause>) -> Result<Shared<Derivation>, NoMemory>
+    ensures { IfOk result (λ d. d ≡ node (Cases c.now []) []) }
+{
+    let c = c.share()?;
+    let answer = Derivation::leaf(alloc, Row::Cases(c, Seq::new(alloc)))?;
+    Ok(answer)
 }
 
 /// From a clause to itself. It copies the literals, since the reduction owns both clauses.
@@ -45,7 +62,18 @@ pub fn keep(alloc: Global, w: &World, c: Clause) -> Result<Reduction, NoMemory>
 {
     w.recall_sound();
     let literals = copy_terms(alloc, c.0.as_slice())?;
-    let answer = to_one(alloc, c, literals)?;
+    let from = Shared::new(alloc, c)?;
+    let why = keep_why(alloc, &from)?;
+    let answer = to_one(alloc, from, literals, why)?;
+    Ok(answer)
+}
+
+/// How a literal is left out.
+fn drop_why(alloc: Global, c: &Shared<Clause>, index: usize) -> Result<Shared<Derivation>, NoMemory>
+    ensures { IfOk result (λ d. d ≡ node (DropLiteral c.now index) []) }
+{
+    let c = c.share()?;
+    let answer = Derivation::leaf(alloc, Row::DropLiteral(c, index))?;
     Ok(answer)
 }
 
@@ -64,7 +92,23 @@ pub fn drop_literal(
 {
     w.recall_sound();
     let left = put_at(alloc, c.0.as_slice(), index, Seq::new(alloc))?;
-    let answer = to_one(alloc, c, left)?;
+    let from = Shared::new(alloc, c)?;
+    let why = drop_why(alloc, &from, index)?;
+    let answer = to_one(alloc, from, left, why)?;
+    Ok(answer)
+}
+
+/// How a literal is replaced by what it leads to.
+fn rewrite_why(
+    alloc: Global,
+    c: &Shared<Clause>,
+    index: usize,
+    first: Shared<Derivation>,
+) -> Result<Shared<Derivation>, NoMemory>
+    ensures { IfOk result (λ d. d ≡ node (RewriteLiteral c.now index) (first ∷ [])) }
+{
+    let c = c.share()?;
+    let answer = Derivation::of_one(alloc, Row::RewriteLiteral(c, index), first)?;
     Ok(answer)
 }
 
@@ -87,9 +131,11 @@ pub fn rewrite_literal(
     ensures made { IfOk result (λ r. r.says ≡ rewritten c index e.says.rhs) }
 {
     w.recall_sound();
-    let (_, _, _, rhs) = e.into_parts();
-    let put = one(alloc, rhs)?;
+    let (e, first) = e.into_made(alloc)?;
+    let put = one(alloc, e.rhs)?;
     let literals = put_at(alloc, c.0.as_slice(), index, put)?;
-    let answer = to_one(alloc, c, literals)?;
+    let from = Shared::new(alloc, c)?;
+    let why = rewrite_why(alloc, &from, index, first)?;
+    let answer = to_one(alloc, from, literals, why)?;
     Ok(answer)
 }

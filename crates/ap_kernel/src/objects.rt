@@ -1,6 +1,9 @@
-ghost use Rattle.std.specs.Prelude.{◌≡◌, IfOk, true, false};
-ghost use Rattle.ap_kernel.specs.Answers.{are_unchanged};
+ghost use Rattle.std.specs.Prelude.{◌≡◌, IfOk, true, false, None, Some};
+ghost use Rattle.std.specs.Option.{option_copied};
+ghost use Rattle.ap_kernel.specs.Answers.{is_unchanged, are_unchanged};
+ghost use Rattle.ap_kernel.specs.Deriving.{why_of};
 
+use crate::derivations::{Derivation, let_go, refl_why};
 use ap_list::{NoMemory, Seq, Shared};
 use ap_term::{Term, copy_term};
 use std::alloc::Global;
@@ -31,17 +34,18 @@ pub struct Sequent {
 /// A sequent that holds. The fields are private, so that the kernel's calls alone make one.
 pub struct Equiv {
     says: Sequent,
-    /// Whether the two sides are known to be one term; where it is false they may still be.
-    unchanged: bool,
+    /// How it was made; nothing where the two sides are known to be one term.
+    why: Option<Shared<Derivation>>,
 }
 
-// One call wherever an equivalence is let go, whatever its sides are.
+// One call wherever an equivalence is let go, whatever its sides are; and none within another for each row by which it
+// was made.
 impl Drop for Equiv {
     fn drop(self) {
-        let Equiv {
-            says: _says,
-            unchanged: _,
-        } = self;
+        let Equiv { says: _says, why } = self;
+        if let Some(why) = why {
+            let_go(why);
+        }
     }
 }
 
@@ -68,12 +72,32 @@ impl Ctx {
     }
 }
 
+/// An equal equivalence, of which the terms and how it was made are shared. It takes no memory.
+pub fn copy_equiv(alloc: Global, q: &Equiv) -> Result<Equiv, NoMemory>
+    ensures { IfOk result (λ r. r ≡ q.now) }
+{
+    let why = match &q.why {
+        Some(why) => Some(why.share()?),
+        None => None,
+    };
+    let ctx = q.says.ctx.share()?;
+    let lhs = copy_term(alloc, &q.says.lhs)?;
+    let rhs = copy_term(alloc, &q.says.rhs)?;
+    Ok(Equiv::made(ctx, q.says.mode, lhs, rhs, why))
+}
+
 impl Equiv {
-    /// Each row makes its answer by this call, having shown that it stands. Of the sides it isn't known that
-    /// they are one term.
-    pub(crate) fn made(ctx: Ctx, mode: Mode, lhs: Term, rhs: Term) -> Equiv
+    /// Each row makes its answer by this call, having shown that it stands. Where nothing is kept of how it was
+    /// made, its sides are one term.
+    pub(crate) fn made(
+        ctx: Ctx,
+        mode: Mode,
+        lhs: Term,
+        rhs: Term,
+        why: Option<Shared<Derivation>>,
+    ) -> Equiv
         ensures says { result.says ≡ record { ctx = ctx; mode = mode; lhs = lhs; rhs = rhs } }
-        ensures unchanged { result.unchanged ≡ false }
+        ensures why { result.why ≡ why }
     {
         Equiv {
             says: Sequent {
@@ -82,27 +106,18 @@ impl Equiv {
                 lhs,
                 rhs,
             },
-            unchanged: false,
+            why,
         }
     }
 
     /// The same from a term to itself, which is known of it: one side is moved, the other a copy.
     pub(crate) fn of_one(alloc: Global, ctx: Ctx, mode: Mode, t: Term) -> Result<Equiv, NoMemory>
         ensures says { IfOk result (λ q. q.says ≡ record { ctx = ctx; mode = mode; lhs = t; rhs = t }) }
-        ensures unchanged { IfOk result (λ q. q.unchanged ≡ true) }
+        ensures why { IfOk result (λ q. q.why ≡ None) }
     {
         let rhs = copy_term(alloc, &t)?;
-        let answer = Equiv::made(ctx, mode, t, rhs).marked(true);
+        let answer = Equiv::made(ctx, mode, t, rhs, None);
         Ok(answer)
-    }
-
-    /// The same, and whether its sides are known to be one term.
-    pub(crate) fn marked(self, unchanged: bool) -> Equiv
-        ensures says { result.says ≡ self.says }
-        ensures unchanged { result.unchanged ≡ unchanged }
-    {
-        let Equiv { says, unchanged: _ } = self;
-        Equiv { says, unchanged }
     }
 
     /// The same from a copy of a term, under facts that are shared.
@@ -112,20 +127,36 @@ impl Equiv {
         mode: Mode,
         t: &Term,
         rhs: Term,
+        why: Shared<Derivation>,
     ) -> Result<Equiv, NoMemory>
         ensures says { IfOk result (λ q. q.says ≡ record { ctx = ctx.now; mode = mode; lhs = t.now; rhs = rhs }) }
-        ensures unchanged { IfOk result (λ q. q.unchanged ≡ false) }
+        ensures why { IfOk result (λ q. q.why ≡ Some why) }
     {
         let ctx = ctx.share()?;
         let lhs = copy_term(alloc, t)?;
-        Ok(Equiv::made(ctx, mode, lhs, rhs))
+        Ok(Equiv::made(ctx, mode, lhs, rhs, Some(why)))
+    }
+
+    /// What it says and how it was made, moved. It takes memory only where nothing is kept of that.
+    pub(crate) fn into_made(self, alloc: Global) -> Result<(Sequent, Shared<Derivation>), NoMemory>
+        ensures { IfOk result (λ p. (p.0 ≡ self.says) × (p.1 ≡ why_of self)) }
+    {
+        let Equiv { says, why } = self;
+        let why = match why {
+            Some(why) => why,
+            None => refl_why(alloc, &says.ctx, says.mode, &says.lhs)?,
+        };
+        Ok((says, why))
     }
 
     /// What it says, moved. Takes no memory.
     pub fn into_sequent(self) -> Sequent
         ensures { result ≡ self.says }
     {
-        let Equiv { says, unchanged: _ } = self;
+        let Equiv { says, why } = self;
+        if let Some(why) = why {
+            let_go(why);
+        }
         says
     }
 
@@ -151,9 +182,9 @@ impl Equiv {
 
     /// Whether the two sides are known to be one term. Takes no memory.
     pub fn is_unchanged(&self) -> bool
-        ensures { result ≡ self.now.unchanged }
+        ensures { result ≡ is_unchanged self.now }
     {
-        self.unchanged
+        self.why.is_none()
     }
 
     /// Whether that is known of each of a list. Takes no memory.
@@ -166,6 +197,13 @@ impl Equiv {
             }
         }
         true
+    }
+
+    /// How it was made, where that is kept. Takes no memory.
+    pub fn why(&self) -> Option<&Shared<Derivation>>
+        ensures { option_copied result ≡ self.now.why }
+    {
+        self.why.as_ref()
     }
 
     /// The facts. Takes no memory.

@@ -1,4 +1,4 @@
-ghost use Rattle.std.specs.Prelude.{◌≡◌, ◌&&◌, IsTrue, IfOk, IsOkAnd};
+ghost use Rattle.std.specs.Prelude.{◌≡◌, IsTrue, IfOk};
 ghost use Rattle.ap_world.specs.Sound.{known};
 ghost use Rattle.ap_world.specs.World.{function_of};
 ghost use Rattle.ap_world.specs.Facts.{KnownFacts};
@@ -6,6 +6,7 @@ ghost use Rattle.ap_kernel.specs.Standing.{Stands};
 ghost use Rattle.ap_kernel.specs.declared.objects.Mode.TheVariants.{Equal};
 ghost use Rattle.ap_kernel.specs.Answers.{refl_made, trans_made, weakened};
 
+use crate::derivations::{Derivation, Row};
 use crate::objects::{Ctx, Equiv, Mode};
 use ap_list::NoMemory;
 use ap_term::{Term, copy_term};
@@ -26,15 +27,8 @@ pub fn refl(alloc: Global, w: &World, ctx: &Ctx, mode: Mode, t: &Term) -> Result
     Ok(answer)
 }
 
-/// Whether of both the two sides are known to be one term. Takes no memory.
-fn are_both_unchanged(a: &Equiv, b: &Equiv) -> bool
-    ensures { result ≡ (a.now.unchanged && b.now.unchanged) }
-{
-    a.is_unchanged() && b.is_unchanged()
-}
-
 /// From the left side of the first to the right side of the second, where the first leads to what the
-/// second begins with. It copies nothing, and always has an answer.
+/// second begins with. Where the sides of one are known to be one term, it is the other one.
 pub fn trans(alloc: Global, w: &World, a: Equiv, b: Equiv) -> Result<Equiv, NoMemory>
     requires a { Stands w.now a }
     requires b { Stands w.now b }
@@ -42,24 +36,34 @@ pub fn trans(alloc: Global, w: &World, a: Equiv, b: Equiv) -> Result<Equiv, NoMe
     requires mode { a.says.mode ≡ b.says.mode }
     requires middle { a.says.rhs ≡ b.says.lhs }
     ensures stands { IfOk result (λ q. Stands w.now q) }
-    ensures made { IsOkAnd result (λ q. q.says ≡ trans_made a.says b.says) }
+    ensures made { IfOk result (λ q. q.says ≡ trans_made a.says b.says) }
 {
     w.recall_sound();
-    let unchanged = are_both_unchanged(&a, &b);
-    let (ctx, mode, lhs, _) = a.into_parts();
-    let (_, _, _, rhs) = b.into_parts();
-    Ok(Equiv::made(ctx, mode, lhs, rhs).marked(unchanged))
+    if b.is_unchanged() {
+        return Ok(a);
+    }
+    if a.is_unchanged() {
+        return Ok(b);
+    }
+    let (a, first) = a.into_made(alloc)?;
+    let (b, second) = b.into_made(alloc)?;
+    let why = Derivation::of_two(alloc, Row::Trans, first, second)?;
+    Ok(Equiv::made(a.ctx, a.mode, a.lhs, b.rhs, Some(why)))
 }
 
-/// Equality as equivalence under `iff`. It copies nothing, and always has an answer.
+/// Equality as equivalence under `iff`.
 pub fn weaken_mode(alloc: Global, w: &World, a: Equiv) -> Result<Equiv, NoMemory>
     requires a { Stands w.now a }
     requires mode { a.says.mode ≡ Equal }
     ensures stands { IfOk result (λ q. Stands w.now q) }
-    ensures made { IsOkAnd result (λ q. q.says ≡ weakened a.says) }
+    ensures made { IfOk result (λ q. q.says ≡ weakened a.says) }
 {
     w.recall_sound();
-    let unchanged = a.is_unchanged();
-    let (ctx, _, lhs, rhs) = a.into_parts();
-    Ok(Equiv::made(ctx, Mode::Iff, lhs, rhs).marked(unchanged))
+    if a.is_unchanged() {
+        let (ctx, _, lhs, rhs) = a.into_parts();
+        return Ok(Equiv::made(ctx, Mode::Iff, lhs, rhs, None));
+    }
+    let (a, first) = a.into_made(alloc)?;
+    let why = Derivation::of_one(alloc, Row::WeakenMode, first)?;
+    Ok(Equiv::made(a.ctx, Mode::Iff, a.lhs, a.rhs, Some(why)))
 }

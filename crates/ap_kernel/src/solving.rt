@@ -4,12 +4,15 @@ ghost use Rattle.ap_term.specs.declared.term.Term.{out-Term};
 ghost use Rattle.ap_world.specs.World.{function_of};
 ghost use Rattle.ap_kernel.specs.Standing.{DefinesNot};
 ghost use Rattle.ap_kernel.specs.Reductions.{KnownClause, Reduces, to_one};
+ghost use Rattle.ap_kernel.specs.Deriving.{node};
+ghost use Rattle.ap_kernel.specs.declared.derivations.Row.TheVariants.{UseEquality};
 ghost use Rattle.ap_kernel.specs.Solving.{occurs, occurs_in, side_solved, sides_solved, solved_by, solved_made};
 
+use crate::derivations::{Derivation, Row};
 use crate::lists::copied_pair;
 use crate::literals::{put_at, to_one};
 use crate::reductions::Reduction;
-use ap_list::{NoMemory, Seq};
+use ap_list::{NoMemory, Seq, Shared};
 use ap_term::{Clause, Shape, Subst, Term, is_symbol, subst_all};
 use ap_value::Symbol;
 use ap_world::{ShapeRef, World, shape_of};
@@ -115,6 +118,19 @@ fn solved_literals(alloc: Global, c: &Clause, index: usize) -> Result<Option<Seq
     Ok(Some(subst_all(alloc, others.as_slice(), &pair)?))
 }
 
+/// How a variable is replaced that a literal solves.
+fn solve_why(
+    alloc: Global,
+    c: &Shared<Clause>,
+    index: usize,
+) -> Result<Shared<Derivation>, NoMemory>
+    ensures { IfOk result (λ d. d ≡ node (UseEquality c.now index) []) }
+{
+    let c = c.share()?;
+    let answer = Derivation::leaf(alloc, Row::UseEquality(c, index))?;
+    Ok(answer)
+}
+
 /// From a clause to the clause without the literal at a place, the negation of an equation, and with a
 /// variable that is one of its sides replaced by the other side, in which it doesn't occur. Where both sides
 /// are variables, the left one is replaced. It copies the other literals, since the reduction owns both
@@ -135,6 +151,8 @@ pub fn use_equality(
     let Some(literals) = solved_literals(alloc, &c, index)? else {
         unreachable!()
     };
-    let answer = to_one(alloc, c, literals)?;
+    let from = Shared::new(alloc, c)?;
+    let why = solve_why(alloc, &from, index)?;
+    let answer = to_one(alloc, from, literals, why)?;
     Ok(answer)
 }

@@ -7,13 +7,16 @@ ghost use Rattle.ap_world.specs.World.{function_of};
 ghost use Rattle.ap_world.specs.Shapes.{shape_of};
 ghost use Rattle.ap_kernel.specs.Standing.{DefinesNot};
 ghost use Rattle.ap_kernel.specs.Reductions.{KnownClause, Reduces, put_at};
+ghost use Rattle.ap_kernel.specs.Deriving.{node};
+ghost use Rattle.ap_kernel.specs.declared.derivations.Row.TheVariants.{SplitIf};
 ghost use Rattle.ap_kernel.specs.Splits.{part_at, with_part, choice_at, choice_in, split_made};
 
 use crate::choices::not_term;
+use crate::derivations::{Derivation, Row};
 use crate::lists::{one, two, two_clauses};
 use crate::literals::put_at;
 use crate::reductions::Reduction;
-use ap_list::{NoMemory, Seq};
+use ap_list::{NoMemory, Seq, Shared};
 use ap_term::{Clause, Shape, Subst, Term, copy_term, subst};
 use ap_value::{Symbol, copy_symbol};
 use ap_world::{ShapeRef, World, shape_of};
@@ -198,6 +201,21 @@ pub fn is_choice_in(c: &Clause, index: usize, at: &Seq<u32>) -> bool
     }
 }
 
+/// How a clause is split.
+fn split_why(
+    alloc: Global,
+    c: &Shared<Clause>,
+    index: usize,
+    at: &Seq<u32>,
+) -> Result<Shared<Derivation>, NoMemory>
+    ensures { IfOk result (λ d. d ≡ node (SplitIf c.now index at.now) []) }
+{
+    let c = c.share()?;
+    let at = Seq::from_slice(alloc, at.as_slice())?;
+    let answer = Derivation::leaf(alloc, Row::SplitIf(c, index, at))?;
+    Ok(answer)
+}
+
 /// From a clause to two, for an `if` within one of its literals: the first has the negation of the test
 /// before that literal and in it the first branch in the place of the `if`, the second the test and the
 /// second branch. The places of arguments lead to the `if`, the outermost first. It copies the literals for
@@ -219,5 +237,7 @@ pub fn split_if(
     let Some(cases) = cases_at(alloc, &c, index, at.as_slice())? else {
         unreachable!()
     };
-    Ok(Reduction::made(c, cases))
+    let from = Shared::new(alloc, c)?;
+    let why = split_why(alloc, &from, index, at)?;
+    Ok(Reduction::made(from, cases, why))
 }

@@ -1,15 +1,18 @@
-ghost use Rattle.std.specs.Prelude.{◌≡◌, IfOk, IsTrue, MatchOption};
+ghost use Rattle.std.specs.Prelude.{◌≡◌, [], IfOk, IsTrue, MatchOption};
 ghost use Rattle.ap_world.specs.World.{function_of};
 ghost use Rattle.ap_world.specs.Shapes.{shape_of};
 ghost use Rattle.ap_kernel.specs.Standing.{DefinesNot};
 ghost use Rattle.ap_kernel.specs.Reductions.{KnownClause, Reduces};
+ghost use Rattle.ap_kernel.specs.Deriving.{node};
+ghost use Rattle.ap_kernel.specs.declared.derivations.Row.TheVariants.{Tidy};
 ghost use Rattle.ap_kernel.specs.Tidying.{negated_bare, is_bare, is_plain, plain, tidied, is_opposed, decides, holds_by_itself, negates, is_denied, closes, tidy_goals, tidy_made};
 
 use crate::assuming::is_constant;
 use crate::choices::{bare, not_term};
+use crate::derivations::{Derivation, Row};
 use crate::equations::truth_term;
 use crate::reductions::Reduction;
-use ap_list::{NoMemory, Seq};
+use ap_list::{NoMemory, Seq, Shared};
 use ap_term::{Clause, Term, copy_term, is_same, is_term_among};
 use ap_world::{ShapeRef, World, is_nil, shape_of};
 use std::alloc::Global;
@@ -142,6 +145,15 @@ fn tidy_goals(alloc: Global, terms: &[Term]) -> Result<Seq<Clause>, NoMemory>
     Ok(goals)
 }
 
+/// How a clause is tidied.
+fn tidy_why(alloc: Global, c: &Shared<Clause>) -> Result<Shared<Derivation>, NoMemory>
+    ensures { IfOk result (λ d. d ≡ node (Tidy c.now) []) }
+{
+    let c = c.share()?;
+    let answer = Derivation::leaf(alloc, Row::Tidy(c))?;
+    Ok(answer)
+}
+
 /// From a clause to its plain form, in which `(not (not a))` is `a`, the negation of a constant is that
 /// constant, and `'NIL` and the literals that stand before are left out; or to no clause, where that has a
 /// constant other than `nil`, or a literal and its negation. It copies the literals that it keeps, since
@@ -154,5 +166,7 @@ pub fn tidy(alloc: Global, w: &World, c: Clause) -> Result<Reduction, NoMemory>
 {
     w.recall_sound();
     let goals = tidy_goals(alloc, c.0.as_slice())?;
-    Ok(Reduction::made(c, goals))
+    let from = Shared::new(alloc, c)?;
+    let why = tidy_why(alloc, &from)?;
+    Ok(Reduction::made(from, goals, why))
 }

@@ -9,6 +9,7 @@ use Rattle.ap_world.specs.World.{Shown}
 use Rattle.ap_kernel.specs.declared.objects.Equiv.{Equiv}
 use Rattle.ap_kernel.specs.declared.reductions.Inference.{Inference}
 use Rattle.ap_kernel.specs.declared.reductions.Reduction.{Reduction}
+use Rattle.ap_kernel.specs.Answers.{is_unchanged}
 use Rattle.ap_kernel.specs.Standing.{Stands}
 use Rattle.ap_kernel.specs.Reductions.{KnownClause, put_at, others, all_false, to_one, rewritten}
 use Rattle.ap_rewrite.specs.Settings.{Setting}
@@ -68,7 +69,7 @@ put_says q n p c us i v same e k =
     k ∙ ap (λ (x : Inference). record { from = q.from; to = x.to }) e ∙ ap (λ (xs : List Term). to_one q.from (put_at i (v ∷ []) xs)) (sym same)
 
 -- and where it leads to itself
-pub unchanged_says : (w : Shown) (q : Inference) (us : List Term) (i : ℕ) (e : Equiv) → q.to ≡ record { 0 = us } ∷ [] → Stands w e → e.unchanged ≡ true → FitsLiteral q i e
+pub unchanged_says : (w : Shown) (q : Inference) (us : List Term) (i : ℕ) (e : Equiv) → q.to ≡ record { 0 = us } ∷ [] → Stands w e → is_unchanged e ≡ true → FitsLiteral q i e
     → q ≡ to_one q.from (put_at i (e.says.rhs ∷ []) us)
 unchanged_says w q us i e to stands flag fits =
     ap (λ (ds : List Clause). record { from = q.from; to = ds }) to

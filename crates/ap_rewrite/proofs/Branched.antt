@@ -8,7 +8,7 @@ use Rattle.ap_kernel.specs.declared.objects.Ctx.{Ctx}
 use Rattle.ap_kernel.specs.declared.objects.Mode.{Mode}
 use Rattle.ap_kernel.specs.declared.objects.Mode.TheVariants.{Iff}
 use Rattle.ap_kernel.specs.declared.objects.Equiv.{Equiv}
-use Rattle.ap_kernel.specs.Answers.{if_of}
+use Rattle.ap_kernel.specs.Answers.{if_of, is_unchanged}
 use Rattle.ap_kernel.proofs.CallsStand.{branch_same}
 use Rattle.ap_rewrite.specs.declared.branching.BothBranches.{BothBranches}
 use Rattle.ap_rewrite.specs.Settings.{Setting, Place, Inner, under}
@@ -90,9 +90,9 @@ pub if_lefts : (r t x y u v : Term) → r ≡ if_of t u v → x ≡ u → y ≡ 
 if_lefts r t x y u v h e f = h ∙ ap (if_of t u) (sym f) ∙ ap (λ z. if_of t z y) (sym e)
 
 -- an `if` of which no part changed: its test is no constant, and it is the `if` of what its parts lead to
-pub open_before : (w : Shown) (c : Ctx) (q : Equiv) (k : Bool) → From w Iff c q.says.lhs q → truth_of q.says.rhs ≡ None → (q.unchanged && k) ≡ true → truth_of q.says.lhs ≡ None
-open_before w c q k f none h = ap truth_of (f.stands.same (both_true q.unchanged k h).0) ∙ none
+pub open_before : (w : Shown) (c : Ctx) (q : Equiv) (k : Bool) → From w Iff c q.says.lhs q → truth_of q.says.rhs ≡ None → (is_unchanged q && k) ≡ true → truth_of q.says.lhs ≡ None
+open_before w c q k f none h = ap truth_of (f.stands.same (both_true (is_unchanged q) k h).0) ∙ none
 
 pub whole_same : (w : Shown) (o : Mode) (c : Ctx) (r a x y : Term) (q : Equiv) (found : BothBranches) → From w Iff c q.says.lhs q → FromBranches w o c a x y found
-    → (q.unchanged && (found.yes.unchanged && found.no.unchanged)) ≡ true → r ≡ if_of q.says.lhs found.yes.says.lhs found.no.says.lhs → r ≡ if_of q.says.rhs found.yes.says.rhs found.no.says.rhs
+    → (is_unchanged q && (is_unchanged found.yes && is_unchanged found.no)) ≡ true → r ≡ if_of q.says.lhs found.yes.says.lhs found.no.says.lhs → r ≡ if_of q.says.rhs found.yes.says.rhs found.no.says.rhs
 whole_same w o c r a x y q found f b k h = h ∙ branch_same o q found.yes found.no f.stands.same b.yes.stands.same b.no.stands.same k

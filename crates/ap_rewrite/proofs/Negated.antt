@@ -27,7 +27,6 @@ use Rattle.ap_kernel.specs.Standing.{DefinesNot}
 use Rattle.ap_kernel.specs.Answers.{if_of}
 use Rattle.ap_kernel.specs.Choices.{bare, bare_test, is_truth, if_shape, choice_leads, is_choice}
 use Rattle.ap_kernel.specs.Equations.{truth_constant}
-use Rattle.ap_kernel.specs.Opening.{is_constant_call}
 use Rattle.ap_kernel.proofs.ChoicesStand.{known_not}
 use Rattle.ap_rewrite.specs.Settings.{Setting}
 use Rattle.ap_rewrite.specs.Rewriting.{truth_in, truth_of, shaped, unwrapped, negated}
@@ -49,18 +48,9 @@ not_same a b h =
 pub known_under : (D : Defs) (a : Term) → known D (not_of a) ≡ true → known D a ≡ true
 known_under D a k = (each_true (known D) (a ∷ []) (known_args D not_name (a ∷ []) k)).0
 
--- the negation of a constant: it is known, a call of constants, and its value is the constant's turned round
+-- the negation of a constant is known
 pub not_quote_known : (D : Defs) → DefinesNot D → (v : Value) → known D (not_of (Quote v)) ≡ true
 not_quote_known D ground v = known_not D ground (Quote v) (known_quote D v)
-
-pub not_quote_constant : (v : Value) → is_constant_call (not_of (Quote v)) ≡ true
-not_quote_constant v = rw (outs-Call not_name (Quote v ∷ []), outs-Quote v) refl
-
-pub not_quote_means : (D : Defs) → Total D → DefinesNot D → (v w : Value) → val_of w ≡ truth (value_eq (val_of v) nil) → HasValue D (not_of (Quote v)) [] (val_of w)
-not_quote_means D total ground v w h =
-    let (A, ms) = models D total in
-    subst (HasValue D (not_of (Quote v)) []) (val_not D A ms ground (Quote v) [] ∙ ap (λ x. truth (value_eq x nil)) (val_quote A v []) ∙ sym h)
-    (val_is D A ms (not_of (Quote v)) (not_quote_known D ground v) [])
 
 pub t_is : (v : Value) → value_eq (val_of v) nil ≡ true → val_of (Sym t_name) ≡ truth (value_eq (val_of v) nil)
 t_is v h = val_of_t ∙ sym (ap truth h)

@@ -94,7 +94,7 @@ pub to_squeezed : (w : Shown) (c : Ctx) (a b : Term) (q : Equiv) → Squeezes w 
 to_squeezed w c a b q h = ap (λ (x : Sequent). x.rhs) h.says
 
 -- neither order
-pub neither_order : (w : Shown) (c : Ctx) (a b : Term) (p q : Equiv) (m n : Mask) → IntegersWithin (function_of w.entries) c.0 a b m n → Refutes w c (less_of a b) true p → Refutes w c (less_of b a) true q
+pub neither_order : (w : Shown) (c : Ctx) (a b : Term) (p q : Equiv) (m n : Mask) → IntegersWithin w c.0 a b m n → Refutes w c (less_of a b) true p → Refutes w c (less_of b a) true q
     → NeitherLess (function_of w.entries) c p.says q.says m n
 neither_order w c a b p q m n i j k = record { left = a; right = b; less = j.says; more = k.says; left_mask = i.left; right_mask = i.right }
 

@@ -1,5 +1,6 @@
 -- What constants are under a mode, and what masks settle: what the rows on them ask for.
-use Rattle.std.proofs.Common.{◌≡◌, ◌≢◌, Bool, true, false, cond, not, ◌&&◌, ◌||◌, IfSome, List, Option, None, Some, is_some, unwrap_or, pos, refl, sym, ap, ◌∙◌, subst}
+use Rattle.std.proofs.Common.{◌≡◌, Bool, true, false, cond, not, ◌&&◌, ◌||◌, IfSome, List, Option, None, Some, is_some, unwrap_or, pos, eq-eqb, refl, sym, ap, ◌∙◌, subst}
+use Rattle.std.specs.Int.Bits.{bit_and}
 use Rattle.std.specs.Option.{option_map}
 use Rattle.ap_value.specs.declared.value.Value.{Value, Int, Sym}
 use Rattle.ap_value.specs.declared.symbol.Symbol.{Symbol}
@@ -13,25 +14,23 @@ use Rattle.ap_term.proofs.Equals.{term_eq-same}
 use Rattle.ap_world.specs.declared.entry.Mask.{Mask}
 use Rattle.ap_world.specs.Names.{nil_name, t_name}
 use Rattle.ap_world.specs.Primitives.{nil}
-use Rattle.ap_world.specs.Meaning.{Defs, Total}
-use Rattle.ap_world.specs.Types.{nil_bit}
+use Rattle.ap_world.specs.Meaning.{Defs}
 use Rattle.ap_world.specs.Sound.{known}
 use Rattle.ap_world.specs.Recursion.{t_constant}
 use Rattle.ap_world.specs.declared.theory.Theory.{Theory}
+use Rattle.ap_world.specs.Typing.{types}
 use Rattle.ap_world.specs.World.{Shown}
 use Rattle.ap_world.specs.Facts.{Facts}
 use Rattle.ap_world.specs.Shapes.{Shape, constant, shape_of, constant_says, is_constant}
 use Rattle.ap_world.proofs.Knowing.{known_quote}
-use Rattle.ap_world.proofs.TotalMeaning.{models, value_is}
-use Rattle.ap_world.proofs.Equations.{not_nil-eq, val_of_nil, val_of_t, val_of_int, t-not_nil}
+use Rattle.ap_world.proofs.Equations.{val_of_nil, val_of_t, val_of_int, t-not_nil}
 use Rattle.ap_world.proofs.Shaped.{Says, shape_says}
-use Rattle.ap_world.proofs.Sets.{signed_in, nil_recognised}
 use Rattle.ap_poly.specs.Bounds.{lacks}
 use Rattle.ap_kernel.specs.declared.objects.Mode.{Mode}
 use Rattle.ap_kernel.specs.declared.objects.Mode.TheVariants.{Equal, Iff}
 use Rattle.ap_kernel.specs.declared.objects.Sequent.{Sequent}
 use Rattle.ap_kernel.specs.declared.objects.Ctx.{Ctx}
-use Rattle.ap_kernel.specs.Masks.{MaskHolds, has_only, leads_to, typed_mode, typed_made}
+use Rattle.ap_kernel.specs.Masks.{has_only, leads_to, typed_mode, typed_made}
 use Rattle.ap_rewrite.specs.Settings.{Setting}
 use Rattle.ap_kernel.specs.declared.objects.Equiv.{Equiv}
 use Rattle.ap_kernel.specs.Answers.{trans_made}
@@ -39,13 +38,14 @@ use Rattle.ap_kernel.specs.Standing.{Stands}
 use Rattle.ap_kernel.specs.Equations.{equation_made}
 use Rattle.ap_rewrite.specs.Leading.{leads_made, Serves, plain_in, run_by}
 use Rattle.ap_rewrite.specs.Rewriting.{is_iff, constant_in, by_mask, changed, settled, run}
-use Rattle.ap_rewrite.proofs.Truths.{others_nil, others_t, others_zero, truth_says, constant_truth}
+use Rattle.ap_rewrite.proofs.ConstantTypes.{quote_lacks, other_kind}
+use Rattle.ap_rewrite.proofs.Truths.{others_nil, others_t, others_zero}
 
 -- what is said under a mode that it has already
 pub same_mode : (s : Sequent) (o : Mode) → s.mode ≡ o → s ≡ leads_made s.ctx o s.lhs s.rhs
 same_mode s o h = ap (λ (m : Mode). leads_made s.ctx m s.lhs s.rhs) h
 
--- a constant is known, and where it isn't nil every type but nil's may be its own
+-- a constant is known
 constant_is : (b : Bool) (u : Term) (y : Shape Term) → Says u y → constant_says b y ≡ true → (v : Value) × (u ≡ Quote v)
 constant_is true u (constant v) k h = (v, k)
 constant_is false u (constant v) k h = (v, k)
@@ -55,27 +55,11 @@ constant_is false u y k h = cc
 pub constant_known : (D : Defs) (u : Term) → is_constant true u ≡ true → known D u ≡ true
 constant_known D u h = let (v, q) = constant_is true u (shape_of u) (shape_says u) h in subst (λ u. known D u ≡ true) (sym q) (known_quote D v)
 
-pub all_but_nil : (D : Defs) → Total D → (fs : Facts) (u : Term) → is_constant true u ≡ true → MaskHolds D fs u (record { 0 = 1015 })
-all_but_nil D total fs u h e hs v is =
-    let (A, ms) = models D total in
-    let there : v ≢ nil = λ z. truth_says A e u true (constant_truth u h) (sym (value_is D A ms u e v is) ∙ z) in
-    signed_in false nil_bit v (nil_recognised v ∙ not_nil-eq v there)
-
 pub quote_says : (v : Value) → is_constant true (Quote v) ≡ not (value_eq (val_of v) nil)
 quote_says v = rw (outs-Quote v) refl
 
 pub constant_there : (u : Term) (v : Value) → u ≡ Quote v → value_eq (val_of v) nil ≡ false → is_constant true u ≡ true
 constant_there u v q h = ap (is_constant true) q ∙ quote_says v ∙ ap not h
-
--- to 'T by such a mask, under iff
-pub t_leads : leads_to (record { 0 = 1015 }) (val_of (Sym t_name)) ≡ true
-t_leads = rw (val_of_t, others_t, t-not_nil) refl
-
-pub t_mode : (c : Ctx) (u : Term) → typed_made c u (record { 0 = 1015 }) (Sym t_name) ≡ leads_made c Iff u t_constant
-t_mode c u = ap (λ m. leads_made c m u t_constant) mode
-  where
-    mode : typed_mode (record { 0 = 1015 }) (val_of (Sym t_name)) ≡ Iff
-    mode = rw (val_of_t, others_t) refl
 
 -- what a constant is under a mode
 pub constant_turns : (o : Mode) (v : Value) → is_iff o ≡ true → value_eq (val_of v) nil ≡ false → constant_in o v ≡ t_constant
@@ -107,6 +91,21 @@ without_nil_leads k h = rw (val_of_t, t-not_nil) (go _)
     go : (b : Bool) → (b || lacks k.0 8) ≡ true
     go true = refl
     go false = h
+
+-- so a constant other than nil leads by its types to 'T
+pub constant_leads : (w : Shown) (fs : Facts) (u : Term) (k : Mask) → is_constant true u ≡ true → k.0 ≡ types w fs u → leads_to k (val_of (Sym t_name)) ≡ true
+constant_leads w fs u k h e =
+    let (v, q) = constant_is true u (shape_of u) (shape_says u) h in
+    let other : value_eq (val_of v) nil ≡ false = turned_off (value_eq (val_of v) nil) (sym (quote_says v) ∙ sym (ap (is_constant true) q) ∙ h) in
+    without_nil_leads k (eq-eqb (bit_and k.0 8) 0 (ap (λ n. bit_and n 8) (e ∙ ap (types w fs) q) ∙ quote_lacks w fs v 8 (other_kind (val_of v) other)))
+  where
+    turned_off : (b : Bool) → not b ≡ true → b ≡ false
+    turned_off true p = cc
+    turned_off false p = refl
+
+-- what leads to 'T under some mode does under iff
+pub led_under : (s : Sequent) (c : Ctx) (u : Term) (k : Mask) (x : Value) → s ≡ typed_made c u k x → x ≡ Sym t_name → leads_made s.ctx Iff s.lhs s.rhs ≡ leads_made c Iff u t_constant
+led_under s c u k x h e = ap (λ (s : Sequent). leads_made s.ctx Iff s.lhs s.rhs) h ∙ ap (λ (v : Value). leads_made c Iff u (Quote v)) e
 
 pub iff_serves : (m o : Mode) → is_iff o ≡ true → Serves m o
 iff_serves Equal o h = tt

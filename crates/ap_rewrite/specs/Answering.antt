@@ -9,11 +9,11 @@ use Rattle.ap_value.specs.declared.symbol.Symbol.{Symbol}
 use Rattle.ap_term.specs.declared.term.Term.{Term, Call}
 use Rattle.ap_term.specs.Equal.{term_eq}
 use Rattle.ap_term.specs.Matching.{Pairs, Extends}
-use Rattle.ap_term.specs.declared.steps.Steps.{Steps}
 use Rattle.ap_term.specs.Metered.{Got, By, known as answer, after}
 use Rattle.ap_world.specs.Meaning.{Defs}
 use Rattle.ap_world.specs.Sound.{known}
 use Rattle.ap_world.specs.World.{Shown, function_of}
+use Rattle.ap_world.specs.declared.theory.Theory.{Theory}
 use Rattle.ap_world.specs.Facts.{KnownFacts}
 use Rattle.ap_world.specs.Assume.{assume}
 use Rattle.ap_world.specs.Holding.{KnownPairs, part_of}
@@ -29,6 +29,7 @@ use Rattle.ap_kernel.specs.Applying.{AllLead}
 use Rattle.ap_kernel.specs.Standing.{DefinesNot, Stands}
 use Rattle.ap_rewrite.specs.declared.rewriter.Rewriter.{Rewriter}
 use Rattle.ap_rewrite.specs.declared.rewriter.Place.{Place}
+use Rattle.ap_rewrite.specs.declared.rewriter.Run.{Run}
 use Rattle.ap_rewrite.specs.declared.rewriter.Tried.{Tried}
 use Rattle.ap_rewrite.specs.declared.rewriter.Tried.TheVariants.{Applied, PassedBy}
 use Rattle.ap_rewrite.specs.declared.branching.BothBranches.{BothBranches}
@@ -37,6 +38,8 @@ use Rattle.ap_rewrite.specs.declared.rules.Reliefs.{Reliefs}
 use Rattle.ap_rewrite.specs.Arithmetic.{is_usable}
 use Rattle.ap_rewrite.specs.Settings.{Setting, Inner, under, closing, Place as Stood}
 use Rattle.ap_rewrite.specs.InWorld.{world_setting}
+use Rattle.ap_rewrite.specs.Keys.{place_term}
+use Rattle.ap_rewrite.specs.Shown.{MemoShown}
 use Rattle.ap_rewrite.specs.Linear.{at_atoms, by_arithmetic}
 use Rattle.ap_rewrite.specs.Rewriting.{answered, none, truth_of, settle, equate, both, walk, walk_on, by_rules, by_definition, rewrite_to}
 
@@ -207,15 +210,38 @@ pub record FromBranches (w : Shown) (o : Mode) (c : Ctx) (a b d : Term) (q : Bot
 abbrev pub Leads : Shown → Mode → Ctx → Equiv → Type 0
 Leads w o c q = From w o c q.says.lhs q
 
--- how a term is rewritten one level deeper: wherever facts and term are those of the world, it answers as the
--- definition does with so many levels left
-pub record IsLevel {O : Type 0} (may : MutBor Steps → Mode → Bor Place → Bor Term → Type 0)
-    (gives : MutBor Steps → Mode → Bor Place → Bor Term → Result (Option Equiv) AllocError → MutBor Steps → Type 0)
+-- for what a memo is, and at which place it stands
+pub record Seat : Type 0 where
+  pub world : Shown
+  pub theory : Theory
+  pub expand : List Term
+  pub place : Option Term
+
+unfoldable pub seat_of : MemoShown → Seat
+seat_of m = record { world = m.world; theory = m.theory; expand = m.expand; place = m.place }
+
+-- where one rewrites there: for the rewriter's world, theory and calls that are opened, at the place
+abbrev pub seat_at : {O : Type 0} → Rewriter O → Place → Seat
+seat_at r p = record { world = r.w.now; theory = r.theory.now; expand = r.expand.now; place = Some (place_term p.ctx.now.0 p.closed.now) }
+
+abbrev pub Here : {O : Type 0} → Rewriter O → Place → MemoShown → Type 0
+Here r p m = seat_of m ≡ seat_at r p
+
+-- the same, whatever the place is
+abbrev pub IsFor : {O : Type 0} → Rewriter O → MemoShown → Type 0
+IsFor r m = (m.world ≡ r.w.now) × (m.theory ≡ r.theory.now) × (m.expand ≡ r.expand.now)
+
+-- how a term is rewritten one level deeper: wherever facts and term are those of the world, and the memo stands where
+-- the term does, it answers as the definition does with so many levels left, and the memo stays
+pub record IsLevel {O : Type 0} (may : MutBor Run → Mode → Bor Place → Bor Term → Type 0)
+    (gives : MutBor Run → Mode → Bor Place → Bor Term → Result (Option Equiv) AllocError → MutBor Run → Type 0)
     (r : Rewriter O) (d : ℕ) : Type 0 where
   pub ready : Ready r
-  pub callable : (steps : MutBor Steps) (o : Mode) (p : Bor Place) (u : Bor Term)
-      → KnownFacts (defs_in r) p.now.ctx.now.0 → IsTrue (known (defs_in r) u.now) → may steps o p u
-  pub is : (steps : MutBor Steps) (o : Mode) (p : Bor Place) (u : Bor Term) (a : Result (Option Equiv) AllocError) (left : MutBor Steps)
+  pub callable : (steps : MutBor Run) (o : Mode) (p : Bor Place) (u : Bor Term)
+      → KnownFacts (defs_in r) p.now.ctx.now.0 → IsTrue (known (defs_in r) u.now) → Here r p.now steps.now.memo → may steps o p u
+  pub is : (steps : MutBor Run) (o : Mode) (p : Bor Place) (u : Bor Term) (a : Result (Option Equiv) AllocError) (left : MutBor Run)
       → gives steps o p u a left → IfOk a (λ b. got b left.now.left ≡ inner_of r d o (seen_at p.now) u.now steps.now.left)
-  pub from : (steps : MutBor Steps) (o : Mode) (p : Bor Place) (u : Bor Term) (a : Result (Option Equiv) AllocError) (left : MutBor Steps)
+  pub from : (steps : MutBor Run) (o : Mode) (p : Bor Place) (u : Bor Term) (a : Result (Option Equiv) AllocError) (left : MutBor Run)
       → gives steps o p u a left → IfOk a (λ b. IfSome b (From r.w.now o p.now.ctx.now u.now))
+  pub kept : (steps : MutBor Run) (o : Mode) (p : Bor Place) (u : Bor Term) (a : Result (Option Equiv) AllocError) (left : MutBor Run)
+      → gives steps o p u a left → left.now.memo ≡ steps.now.memo

@@ -1,5 +1,5 @@
 -- The laws of rewriting, as its public functions of no effect state them.
-use Rattle.std.specs.Prelude.{◌≡◌, ℕ, true, List, [], Option, Some, map}
+use Rattle.std.specs.Prelude.{◌≡◌, ℕ, ◌-◌, ◌≤◌, true, List, [], Option, Some, map}
 use Rattle.ap_list.specs.Lists.{Each}
 use Rattle.ap_value.specs.declared.symbol.Symbol.{Symbol}
 use Rattle.ap_term.specs.declared.term.Term.{Term, Call}
@@ -12,7 +12,8 @@ use Rattle.ap_world.specs.Facts.{KnownFacts}
 use Rattle.ap_kernel.specs.declared.objects.Mode.{Mode}
 use Rattle.ap_kernel.specs.Standing.{DefinesNot, Holds}
 use Rattle.ap_kernel.specs.Reductions.{KnownClause, Follows}
-use Rattle.ap_term.specs.Metered.{first_that}
+use Rattle.ap_term.specs.Metered.{By, first_that}
+use Rattle.ap_rewrite.specs.ByCost.{Fits, at_chain, charged}
 use Rattle.ap_rewrite.specs.Costs.{Metered}
 use Rattle.ap_rules.specs.declared.linear.LinearRule.{LinearRule}
 use Rattle.ap_rules.specs.Linear.{LinearHolds}
@@ -75,3 +76,23 @@ InWorldStands l = (w : Shown) (h : Theory) (us : List Term) → Sound w.entries 
     → (d : ℕ) (o : Mode) (p : Place) (u : Term) (n : ℕ) (v : Term) (m : ℕ) → KnownFacts (function_of w.entries) p.facts → known (function_of w.entries) u ≡ true
     → rewrite_to (setting_in w h us (l w h)) d o p u n ≡ Some (v, m)
     → Holds (function_of w.entries) (record { ctx = record { 0 = p.facts }; mode = o; lhs = u; rhs = v })
+
+-- an answer with m left of n steps tells the answer by every other number of steps: the cost is n - m
+abbrev pub CostIsExact : Type 0 → Type 0
+CostIsExact A = (g : By A) → Metered g → (n : ℕ) (a : A) (m : ℕ) → g n ≡ Some (a, m) → (j : ℕ) → g j ≡ charged a (n - m) j
+
+abbrev pub HitIsExact : Type 0
+HitIsExact = (S : Setting) (d : ℕ) (o : Mode) (p : Place) (u : Term) (n : ℕ) (v : Term) (m : ℕ) → rewrite_to S d o p u n ≡ Some (v, m)
+    → (j : ℕ) → rewrite_to S d o p u j ≡ charged v (n - m) j
+
+-- by no more steps than levels it doesn't matter how many levels there are; nor how many hypotheses are being relieved
+-- around a term, where the steps can't reach that limit
+abbrev pub StepsBoundLimits : Type 0
+StepsBoundLimits = (S : Setting) (d e n : ℕ) → n ≤ d → n ≤ e → (o : Mode) (p : Place) (c : ℕ) → Fits n p.chain c → (u : Term)
+    → rewrite_to S d o p u n ≡ rewrite_to S e o (at_chain c p) u n
+
+-- so an answer that cost no more steps than there were levels is known at each number of levels that is no less than
+-- its cost, by its cost, whatever is left
+abbrev pub CheapHitIsExact : Type 0
+CheapHitIsExact = (S : Setting) (d e : ℕ) (o : Mode) (p : Place) (c : ℕ) (u : Term) (n : ℕ) (v : Term) (m : ℕ) → rewrite_to S d o p u n ≡ Some (v, m)
+    → n - m ≤ d → n - m ≤ e → Fits (n - m) p.chain c → (j : ℕ) → rewrite_to S e o (at_chain c p) u j ≡ charged v (n - m) j

@@ -4,19 +4,18 @@ ghost use Rattle.ap_world.specs.Assume.{assume};
 ghost use Rattle.ap_world.specs.Clauses.{not_of};
 ghost use Rattle.ap_world.specs.Facts.{KnownFacts};
 ghost use Rattle.ap_world.specs.Sound.{known};
-ghost use Rattle.ap_kernel.specs.Answers.{if_of};
+ghost use Rattle.ap_kernel.specs.Answers.{if_of, is_unchanged};
 ghost use Rattle.ap_kernel.specs.declared.objects.Mode.TheVariants.{Iff};
 ghost use Rattle.ap_rewrite.specs.Settings.{under};
 ghost use Rattle.ap_rewrite.specs.Rewriting.{truth_of, shaped, negated, both, branches, rewrite_if, rewrite_not};
-ghost use Rattle.ap_rewrite.specs.Answering.{defs_in, Ready, setting_of, inner_of, seen_at, got, got_branches, in_branches, From, FromBranches, IsLevel};
+ghost use Rattle.ap_rewrite.specs.Answering.{defs_in, Ready, setting_of, inner_of, seen_at, got, got_branches, in_branches, From, FromBranches, Here, IsLevel};
 
-use crate::rewriter::{Below, Level, Place, Rewriter, deeper};
+use crate::rewriter::{Below, Level, Place, Rewriter, Run, deeper};
 use crate::rows::{follow, join, negate, plainest, simplest};
 use crate::sizes::truth_of;
 use ap_kernel::{
     Ctx, Equiv, Mode, NoMemory, Term, TypeOracle, assume, assumed_facts_hold, choose_branch,
 };
-use ap_term::Steps;
 
 /// What both branches of an `if` lead to.
 #[derive(Drop)]
@@ -28,7 +27,7 @@ pub(crate) struct BothBranches {
 /// A term under what another's sign adds to the facts.
 fn under<O: TypeOracle, F: Below>(
     l: &Level<'_, '_, O, F>,
-    steps: &mut Steps,
+    steps: &mut Run<'_>,
     mode: Mode,
     at: &Place<'_>,
     a: &Term,
@@ -39,8 +38,10 @@ fn under<O: TypeOracle, F: Below>(
     requires facts { KnownFacts (defs_in l.now.r.now) at.now.ctx.now.0 }
     requires test { IsTrue (known (defs_in l.now.r.now) a.now) }
     requires term { IsTrue (known (defs_in l.now.r.now) t.now) }
+    requires here { Here l.now.r.now at.now steps.old.memo }
     ensures is { IfOk result (λ o. got o steps.new.left ≡ inner_of l.now.r.now l.now.levels mode (under (seen_at at.now) a.now sign) t.now steps.old.left) }
     ensures from { IfOk result (λ o. IfSome o (From l.now.r.now.w.now mode (record { 0 = assume at.now.ctx.now.0 a.now sign }) t.now)) }
+    ensures kept { steps.new.memo ≡ steps.old.memo }
 {
     assumed_facts_hold();
     let ctx = assume(l.r.alloc, at.ctx, a, sign)?;
@@ -49,13 +50,15 @@ fn under<O: TypeOracle, F: Below>(
         closed: at.closed,
         chain: at.chain,
     };
-    let found = deeper(l, steps, mode, &place, t)?;
-    Ok(found)
+    steps.memo.enter(l.r.alloc, &place)?;
+    let found = deeper(l, steps, mode, &place, t);
+    steps.memo.leave();
+    found
 }
 
 /// Whether none of an `if`'s parts changed. Takes no memory.
 fn are_unchanged(test: &Equiv, found: &BothBranches) -> bool
-    ensures { result ≡ (test.now.unchanged && (found.now.yes.unchanged && found.now.no.unchanged)) }
+    ensures { result ≡ (is_unchanged test.now && (is_unchanged found.now.yes && is_unchanged found.now.no)) }
 {
     test.is_unchanged() && found.yes.is_unchanged() && found.no.is_unchanged()
 }
@@ -114,7 +117,7 @@ fn shape_whole<O: TypeOracle>(
 /// What both branches of an `if` lead to, each under the test's sign. `None` where the steps run out.
 fn in_branches<O: TypeOracle, F: Below>(
     l: &Level<'_, '_, O, F>,
-    steps: &mut Steps,
+    steps: &mut Run<'_>,
     mode: Mode,
     at: &Place<'_>,
     a: &Term,
@@ -126,8 +129,10 @@ fn in_branches<O: TypeOracle, F: Below>(
     requires test { IsTrue (known (defs_in l.now.r.now) a.now) }
     requires yes { IsTrue (known (defs_in l.now.r.now) b.now) }
     requires no { IsTrue (known (defs_in l.now.r.now) c.now) }
+    requires here { Here l.now.r.now at.now steps.old.memo }
     ensures is { IfOk result (λ o. got_branches o steps.new.left ≡ in_branches (inner_of l.now.r.now l.now.levels) mode (seen_at at.now) a.now b.now c.now steps.old.left) }
     ensures from { IfOk result (λ o. IfSome o (FromBranches l.now.r.now.w.now mode at.now.ctx.now a.now b.now c.now)) }
+    ensures kept { steps.new.memo ≡ steps.old.memo }
 {
     let Some(yes) = under(l, steps, mode, at, a, true, b)? else {
         return Ok(None);
@@ -141,7 +146,7 @@ fn in_branches<O: TypeOracle, F: Below>(
 /// An `if` whose test has become no constant: both branches under its test.
 pub fn both<O: TypeOracle, F: Below>(
     l: &Level<'_, '_, O, F>,
-    steps: &mut Steps,
+    steps: &mut Run<'_>,
     mode: Mode,
     at: &Place<'_>,
     t: &Term,
@@ -156,8 +161,10 @@ pub fn both<O: TypeOracle, F: Below>(
     requires open { truth_of test.says.rhs ≡ None }
     requires yes { IsTrue (known (defs_in l.now.r.now) b.now) }
     requires no { IsTrue (known (defs_in l.now.r.now) c.now) }
+    requires here { Here l.now.r.now at.now steps.old.memo }
     ensures is { IfOk result (λ o. got o steps.new.left ≡ both (setting_of l.now.r.now) (inner_of l.now.r.now l.now.levels) mode (seen_at at.now) test.says.rhs b.now c.now steps.old.left) }
     ensures from { IfOk result (λ o. IfSome o (From l.now.r.now.w.now mode at.now.ctx.now (if_of test.says.lhs b.now c.now))) }
+    ensures kept { steps.new.memo ≡ steps.old.memo }
 {
     let Some(found) = in_branches(l, steps, mode, at, test.rhs(), b, c)? else {
         return Ok(None);
@@ -192,7 +199,7 @@ pub fn choose<O: TypeOracle>(
 /// On from where an equivalence leads: that term is rewritten in its turn.
 pub fn go_on<O: TypeOracle, F: Below>(
     l: &Level<'_, '_, O, F>,
-    steps: &mut Steps,
+    steps: &mut Run<'_>,
     mode: Mode,
     at: &Place<'_>,
     first: Equiv,
@@ -200,8 +207,10 @@ pub fn go_on<O: TypeOracle, F: Below>(
     requires level { IsLevel (F.may l.now.below.now) (F.gives l.now.below.now) l.now.r.now l.now.levels }
     requires facts { KnownFacts (defs_in l.now.r.now) at.now.ctx.now.0 }
     requires first { From l.now.r.now.w.now mode at.now.ctx.now first.says.lhs first }
+    requires here { Here l.now.r.now at.now steps.old.memo }
     ensures is { IfOk result (λ o. got o steps.new.left ≡ inner_of l.now.r.now l.now.levels mode (seen_at at.now) first.says.rhs steps.old.left) }
     ensures from { IfOk result (λ o. IfSome o (From l.now.r.now.w.now mode at.now.ctx.now first.says.lhs)) }
+    ensures kept { steps.new.memo ≡ steps.old.memo }
 {
     let Some(more) = deeper(l, steps, mode, at, first.rhs())? else {
         return Ok(None);
@@ -213,7 +222,7 @@ pub fn go_on<O: TypeOracle, F: Below>(
 /// An `if` by what its test has become: the branch that a constant chooses, or both.
 fn branches<O: TypeOracle, F: Below>(
     l: &Level<'_, '_, O, F>,
-    steps: &mut Steps,
+    steps: &mut Run<'_>,
     mode: Mode,
     at: &Place<'_>,
     t: &Term,
@@ -227,8 +236,10 @@ fn branches<O: TypeOracle, F: Below>(
     requires test { From l.now.r.now.w.now Iff at.now.ctx.now test.says.lhs test }
     requires yes { IsTrue (known (defs_in l.now.r.now) b.now) }
     requires no { IsTrue (known (defs_in l.now.r.now) c.now) }
+    requires here { Here l.now.r.now at.now steps.old.memo }
     ensures is { IfOk result (λ o. got o steps.new.left ≡ branches (setting_of l.now.r.now) (inner_of l.now.r.now l.now.levels) mode (seen_at at.now) test.says.rhs (truth_of test.says.rhs) b.now c.now steps.old.left) }
     ensures from { IfOk result (λ o. IfSome o (From l.now.r.now.w.now mode at.now.ctx.now (if_of test.says.lhs b.now c.now))) }
+    ensures kept { steps.new.memo ≡ steps.old.memo }
 {
     match truth_of(test.rhs()) {
         None => both(l, steps, mode, at, t, test, b, c),
@@ -243,7 +254,7 @@ fn branches<O: TypeOracle, F: Below>(
 /// test.
 pub fn rewrite_if<O: TypeOracle, F: Below>(
     l: &Level<'_, '_, O, F>,
-    steps: &mut Steps,
+    steps: &mut Run<'_>,
     mode: Mode,
     at: &Place<'_>,
     t: &Term,
@@ -257,8 +268,10 @@ pub fn rewrite_if<O: TypeOracle, F: Below>(
     requires test { IsTrue (known (defs_in l.now.r.now) a.now) }
     requires yes { IsTrue (known (defs_in l.now.r.now) b.now) }
     requires no { IsTrue (known (defs_in l.now.r.now) c.now) }
+    requires here { Here l.now.r.now at.now steps.old.memo }
     ensures is { IfOk result (λ o. got o steps.new.left ≡ rewrite_if (setting_of l.now.r.now) (inner_of l.now.r.now l.now.levels) mode (seen_at at.now) a.now b.now c.now steps.old.left) }
     ensures from { IfOk result (λ o. IfSome o (From l.now.r.now.w.now mode at.now.ctx.now (if_of a.now b.now c.now))) }
+    ensures kept { steps.new.memo ≡ steps.old.memo }
 {
     let Some(test) = deeper(l, steps, Mode::Iff, at, a)? else {
         return Ok(None);
@@ -313,7 +326,7 @@ fn turned<O: TypeOracle>(
 /// A negation: its argument under `iff`, and then what the negation is by what that has become.
 pub fn rewrite_not<O: TypeOracle, F: Below>(
     l: &Level<'_, '_, O, F>,
-    steps: &mut Steps,
+    steps: &mut Run<'_>,
     mode: Mode,
     at: &Place<'_>,
     t: &Term,
@@ -323,8 +336,10 @@ pub fn rewrite_not<O: TypeOracle, F: Below>(
     requires facts { KnownFacts (defs_in l.now.r.now) at.now.ctx.now.0 }
     requires term { t.now ≡ not_of a.now }
     requires argument { IsTrue (known (defs_in l.now.r.now) a.now) }
+    requires here { Here l.now.r.now at.now steps.old.memo }
     ensures is { IfOk result (λ o. got o steps.new.left ≡ rewrite_not (setting_of l.now.r.now) (inner_of l.now.r.now l.now.levels) mode (seen_at at.now) a.now steps.old.left) }
     ensures from { IfOk result (λ o. IfSome o (From l.now.r.now.w.now mode at.now.ctx.now (not_of a.now))) }
+    ensures kept { steps.new.memo ≡ steps.old.memo }
 {
     let Some(q) = deeper(l, steps, Mode::Iff, at, a)? else {
         return Ok(None);

@@ -9,27 +9,29 @@ ghost use Rattle.ap_world.specs.Sound.{known, is_head};
 ghost use Rattle.ap_kernel.specs.Answers.{said, lefts, rights};
 ghost use Rattle.ap_kernel.specs.declared.objects.Mode.TheVariants.{Equal};
 ghost use Rattle.ap_rewrite.specs.Rewriting.{rewrite_args, rewrite_call};
-ghost use Rattle.ap_rewrite.specs.Answering.{defs_in, where_applied, Ready, setting_of, inner_of, seen_at, got, got_all, right_of, Leads, From, IsLevel};
+ghost use Rattle.ap_rewrite.specs.Answering.{defs_in, where_applied, Ready, setting_of, inner_of, seen_at, got, got_all, right_of, Leads, From, Here, IsLevel};
 
 use crate::engines::tried;
-use crate::rewriter::{Below, Level, Place, Rewriter, Tried, deeper};
+use crate::rewriter::{Below, Level, Place, Rewriter, Run, Tried, deeper};
 use crate::rows::{follow, stay};
 use crate::settling::in_mode;
 use ap_kernel::{Ctx, Equiv, LinearOracle, Mode, NoMemory, Seq, Symbol, Term, TypeOracle, cong};
-use ap_term::{Shape, Steps};
+use ap_term::Shape;
 
 /// The arguments of a call, from left to right, under equality.
 fn rewrite_args<O: TypeOracle, F: Below>(
     l: &Level<'_, '_, O, F>,
-    steps: &mut Steps,
+    steps: &mut Run<'_>,
     at: &Place<'_>,
     us: &[Term],
 ) -> Result<Option<Seq<Equiv>>, NoMemory>
     requires level { IsLevel (F.may l.now.below.now) (F.gives l.now.below.now) l.now.r.now l.now.levels }
     requires facts { KnownFacts (defs_in l.now.r.now) at.now.ctx.now.0 }
     requires terms { Each (λ u. IsTrue (known (defs_in l.now.r.now) u)) us.now }
+    requires here { Here l.now.r.now at.now steps.old.memo }
     ensures is { IfOk result (λ o. got_all o steps.new.left ≡ rewrite_args (setting_of l.now.r.now) (inner_of l.now.r.now l.now.levels) (seen_at at.now) us.now steps.old.left) }
     ensures from { IfOk result (λ o. IfSome o (λ qs. (lefts (said qs) ≡ us.now) × Each (Leads l.now.r.now.w.now Equal at.now.ctx.now) qs)) }
+    ensures kept { steps.new.memo ≡ steps.old.memo }
 {
     let mut out = Seq::with_capacity(l.r.alloc, us.len())?;
     for u in us {
@@ -114,7 +116,7 @@ fn followed<O: TypeOracle>(
 #[tactic(auto, using(ap_term::proofs::Seen::trees))]
 pub fn rewrite_call<O: TypeOracle + LinearOracle, F: Below>(
     l: &Level<'_, '_, O, F>,
-    steps: &mut Steps,
+    steps: &mut Run<'_>,
     mode: Mode,
     at: &Place<'_>,
     t: &Term,
@@ -125,8 +127,10 @@ pub fn rewrite_call<O: TypeOracle + LinearOracle, F: Below>(
     requires facts { KnownFacts (defs_in l.now.r.now) at.now.ctx.now.0 }
     requires term { t.now ≡ Call f.now us.now }
     requires call { IsTrue (known (defs_in l.now.r.now) (Call f.now us.now)) }
+    requires here { Here l.now.r.now at.now steps.old.memo }
     ensures is { IfOk result (λ o. got o steps.new.left ≡ rewrite_call (setting_of l.now.r.now) (inner_of l.now.r.now l.now.levels) mode (seen_at at.now) f.now us.now steps.old.left) }
     ensures from { IfOk result (λ o. IfSome o (From l.now.r.now.w.now mode at.now.ctx.now (Call f.now us.now))) }
+    ensures kept { steps.new.memo ≡ steps.old.memo }
 {
     let Some(args) = rewrite_args(l, steps, at, us)? else {
         return Ok(None);

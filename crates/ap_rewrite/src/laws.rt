@@ -1,12 +1,26 @@
 //! What is proved of rewriting, each the contract of a function that does nothing.
+ghost use Rattle.ap_term.specs.declared.term.Term.{Term};
 ghost use Rattle.ap_rewrite.specs.Arithmetic.{no_arithmetic, arithmetic_in};
-ghost use Rattle.ap_rewrite.specs.Laws.{RewritingIsMetered, LiteralsAreMetered, SearchByHead, RewritingStands, LiteralsReduce, SimplifyingReduces, WorldIsSoundSetting, NothingIsSound, PolynomialsAreSound, WorldsIsSound, InWorldStands};
+ghost use Rattle.ap_rewrite.specs.Laws.{RewritingIsMetered, LiteralsAreMetered, CostIsExact, HitIsExact, StepsBoundLimits, CheapHitIsExact, SearchByHead, RewritingStands, LiteralsReduce, SimplifyingReduces, WorldIsSoundSetting, NothingIsSound, PolynomialsAreSound, WorldsIsSound, InWorldStands};
 
 /// What a rewriting costs doesn't depend on the steps that are left: with more steps it is the same, with fewer
 /// than it costs it runs out. So it is for a term, and for the literals of a clause.
 pub fn rewriting_is_metered()
     ensures terms { RewritingIsMetered }
     ensures literals { LiteralsAreMetered }
+{}
+
+/// By one answer and its cost every other number of steps is answered: so what is kept of an answer charges its cost.
+pub fn cost_is_exact()
+    ensures any { CostIsExact Term }
+    ensures rewriting { HitIsExact }
+{}
+
+/// An answer that cost no more steps than there were levels is known at each number of levels that is no less, and
+/// within as many hypotheses as its steps can't tell apart.
+pub fn steps_bound_limits()
+    ensures same { StepsBoundLimits }
+    ensures hit { CheapHitIsExact }
 {}
 
 /// A search over the rules of a call's head gives what the search over all rules gives, newest first.

@@ -14,17 +14,17 @@ ghost use Rattle.ap_kernel.specs.declared.objects.Mode.TheVariants.{Iff};
 ghost use Rattle.ap_kernel.specs.Opening.{body_at, opened};
 ghost use Rattle.ap_rewrite.specs.Settings.{closing};
 ghost use Rattle.ap_rewrite.specs.Rewriting.{most_nodes, truth_of, is_recursive, both, walk, answered, open_instance, opened as opening, by_definition};
-ghost use Rattle.ap_rewrite.specs.Answering.{defs_in, where_applied, Ready, setting_of, inner_of, seen_at, got, got_any, leaf_on, ends_on, past_if, open_within, open_closed, From, IsLevel};
+ghost use Rattle.ap_rewrite.specs.Answering.{defs_in, where_applied, Ready, setting_of, inner_of, seen_at, got, got_any, leaf_on, ends_on, past_if, open_within, open_closed, From, Here, IsLevel};
 
 use crate::branching::{both, choose, go_on};
 use crate::engines::answered;
-use crate::rewriter::{Below, Level, Place, Rewriter, Tried, deeper};
+use crate::rewriter::{Below, Level, Place, Rewriter, Run, Tried, deeper};
 use crate::rows::{follow, opened};
 use crate::sizes::{has_small_instance, is_small, truth_of};
 use ap_kernel::{
     Ctx, Equiv, Mode, NoMemory, Seq, ShapeRef, Symbol, Term, TypeOracle, pairs_of, shape_of, subst,
 };
-use ap_term::{Steps, copy_term, is_among, is_term_among};
+use ap_term::{copy_term, is_among, is_term_among};
 use ap_value::copy_symbol;
 use ap_world::{Function, RuneKind};
 use std::alloc::Global;
@@ -88,7 +88,7 @@ fn step_down<O: TypeOracle>(
 #[cycle(walking)]
 fn walk_on<O: TypeOracle, F: Below>(
     l: &Level<'_, '_, O, F>,
-    steps: &mut Steps,
+    steps: &mut Run<'_>,
     way: &Way<'_>,
     sofar: Equiv,
     test: Equiv,
@@ -101,12 +101,14 @@ fn walk_on<O: TypeOracle, F: Below>(
     requires sofar { From l.now.r.now.w.now way.now.mode way.now.at.now.ctx.now sofar.says.lhs sofar }
     requires test { From l.now.r.now.w.now Iff way.now.at.now.ctx.now test.says.lhs test }
     requires choice { sofar.says.rhs ≡ if_of test.says.lhs b.now c.now }
+    requires here { Here l.now.r.now way.now.at.now steps.old.memo }
     ensures is { IfOk result (λ o. got_any o steps.new.left
         ≡ past_if (setting_of l.now.r.now) (inner_of l.now.r.now l.now.levels) way.now.mode
         (seen_at way.now.at.now) (seen_at way.now.inner.now) way.now.taken test.says.rhs b.now c.now
         steps.old.left) }
     ensures from { IfOk result (λ o. IfSome o
         (λ a. IfSome (where_applied a) (From l.now.r.now.w.now way.now.mode way.now.at.now.ctx.now sofar.says.lhs))) }
+    ensures kept { steps.new.memo ≡ steps.old.memo }
 {
     match truth_of(test.rhs()) {
         Some(sign) => {
@@ -123,10 +125,38 @@ fn walk_on<O: TypeOracle, F: Below>(
     }
 }
 
+/// Both branches of an `if` whose test has become no constant, as it stands within.
+fn both_within<O: TypeOracle, F: Below>(
+    l: &Level<'_, '_, O, F>,
+    steps: &mut Run<'_>,
+    way: &Way<'_>,
+    t: &Term,
+    test: Equiv,
+    b: &Term,
+    c: &Term,
+) -> Result<Option<Equiv>, NoMemory>
+    requires level { IsLevel (F.may l.now.below.now) (F.gives l.now.below.now) l.now.r.now l.now.levels }
+    requires facts { KnownFacts (defs_in l.now.r.now) way.now.inner.now.ctx.now.0 }
+    requires term { t.now ≡ if_of test.says.lhs b.now c.now }
+    requires test { From l.now.r.now.w.now Iff way.now.inner.now.ctx.now test.says.lhs test }
+    requires open { truth_of test.says.rhs ≡ None }
+    requires yes { IsTrue (known (defs_in l.now.r.now) b.now) }
+    requires no { IsTrue (known (defs_in l.now.r.now) c.now) }
+    requires here { Here l.now.r.now way.now.at.now steps.old.memo }
+    ensures is { IfOk result (λ o. got o steps.new.left ≡ both (setting_of l.now.r.now) (inner_of l.now.r.now l.now.levels) way.now.mode (seen_at way.now.inner.now) test.says.rhs b.now c.now steps.old.left) }
+    ensures from { IfOk result (λ o. IfSome o (From l.now.r.now.w.now way.now.mode way.now.inner.now.ctx.now (if_of test.says.lhs b.now c.now))) }
+    ensures kept { steps.new.memo ≡ steps.old.memo }
+{
+    steps.memo.enter(l.r.alloc, way.inner)?;
+    let found = both(l, steps, way.mode, way.inner, t, test, b, c);
+    steps.memo.leave();
+    found
+}
+
 /// Both branches of the `if` at which the walk ends.
 fn follow_both<O: TypeOracle, F: Below>(
     l: &Level<'_, '_, O, F>,
-    steps: &mut Steps,
+    steps: &mut Run<'_>,
     way: &Way<'_>,
     sofar: Equiv,
     test: Equiv,
@@ -139,13 +169,15 @@ fn follow_both<O: TypeOracle, F: Below>(
     requires test { From l.now.r.now.w.now Iff way.now.inner.now.ctx.now test.says.lhs test }
     requires open { truth_of test.says.rhs ≡ None }
     requires choice { sofar.says.rhs ≡ if_of test.says.lhs b.now c.now }
+    requires here { Here l.now.r.now way.now.at.now steps.old.memo }
     ensures is { IfOk result (λ o. got_any o steps.new.left
         ≡ answered (both (setting_of l.now.r.now) (inner_of l.now.r.now l.now.levels) way.now.mode
         (seen_at way.now.inner.now) test.says.rhs b.now c.now steps.old.left)) }
     ensures from { IfOk result (λ o. IfSome o
         (λ a. IfSome (where_applied a) (From l.now.r.now.w.now way.now.mode way.now.inner.now.ctx.now sofar.says.lhs))) }
+    ensures kept { steps.new.memo ≡ steps.old.memo }
 {
-    let Some(more) = both(l, steps, way.mode, way.inner, sofar.rhs(), test, b, c)? else {
+    let Some(more) = both_within(l, steps, way, sofar.rhs(), test, b, c)? else {
         return Ok(None);
     };
     let q = follow(l.r, way.inner.ctx, way.mode, sofar, more)?;
@@ -155,7 +187,7 @@ fn follow_both<O: TypeOracle, F: Below>(
 /// The walk ends at an `if` whose test has become no constant: at both branches, where a branch was taken.
 fn walk_ends<O: TypeOracle, F: Below>(
     l: &Level<'_, '_, O, F>,
-    steps: &mut Steps,
+    steps: &mut Run<'_>,
     way: &Way<'_>,
     sofar: Equiv,
     test: Equiv,
@@ -168,11 +200,13 @@ fn walk_ends<O: TypeOracle, F: Below>(
     requires test { From l.now.r.now.w.now Iff way.now.inner.now.ctx.now test.says.lhs test }
     requires open { truth_of test.says.rhs ≡ None }
     requires choice { sofar.says.rhs ≡ if_of test.says.lhs b.now c.now }
+    requires here { Here l.now.r.now way.now.at.now steps.old.memo }
     ensures is { IfOk result (λ o. got_any o steps.new.left
         ≡ ends_on (setting_of l.now.r.now) (inner_of l.now.r.now l.now.levels) way.now.mode
         (seen_at way.now.inner.now) way.now.taken test.says.rhs b.now c.now steps.old.left) }
     ensures from { IfOk result (λ o. IfSome o
         (λ a. IfSome (where_applied a) (From l.now.r.now.w.now way.now.mode way.now.inner.now.ctx.now sofar.says.lhs))) }
+    ensures kept { steps.new.memo ≡ steps.old.memo }
 {
     if way.taken {
         return follow_both(l, steps, way, sofar, test, b, c);
@@ -184,7 +218,7 @@ fn walk_ends<O: TypeOracle, F: Below>(
 #[cycle(walking)]
 fn walk_body<O: TypeOracle, F: Below>(
     l: &Level<'_, '_, O, F>,
-    steps: &mut Steps,
+    steps: &mut Run<'_>,
     way: &Way<'_>,
     sofar: Equiv,
     body: &Term,
@@ -194,11 +228,13 @@ fn walk_body<O: TypeOracle, F: Below>(
     requires inner { way.now.inner.now.ctx.now ≡ way.now.at.now.ctx.now }
     requires sofar { From l.now.r.now.w.now way.now.mode way.now.at.now.ctx.now sofar.says.lhs sofar }
     requires body { body.now ≡ sofar.says.rhs }
+    requires here { Here l.now.r.now way.now.at.now steps.old.memo }
     ensures is { IfOk result (λ o. got_any o steps.new.left
         ≡ walk (setting_of l.now.r.now) (inner_of l.now.r.now l.now.levels) way.now.mode (seen_at way.now.at.now)
         (seen_at way.now.inner.now) sofar.says.rhs way.now.taken steps.old.left) }
     ensures from { IfOk result (λ o. IfSome o
         (λ a. IfSome (where_applied a) (From l.now.r.now.w.now way.now.mode way.now.at.now.ctx.now sofar.says.lhs))) }
+    ensures kept { steps.new.memo ≡ steps.old.memo }
 {
     match shape_of(body) {
         ShapeRef::If(a, b, c) => match deeper(l, steps, Mode::Iff, way.at, a)? {
@@ -214,7 +250,7 @@ fn walk_body<O: TypeOracle, F: Below>(
 #[cycle(walking)]
 fn walk<O: TypeOracle, F: Below>(
     l: &Level<'_, '_, O, F>,
-    steps: &mut Steps,
+    steps: &mut Run<'_>,
     way: &Way<'_>,
     sofar: Equiv,
 ) -> Result<Option<Tried<Equiv>>, NoMemory>
@@ -222,11 +258,13 @@ fn walk<O: TypeOracle, F: Below>(
     requires facts { KnownFacts (defs_in l.now.r.now) way.now.at.now.ctx.now.0 }
     requires inner { way.now.inner.now.ctx.now ≡ way.now.at.now.ctx.now }
     requires sofar { From l.now.r.now.w.now way.now.mode way.now.at.now.ctx.now sofar.says.lhs sofar }
+    requires here { Here l.now.r.now way.now.at.now steps.old.memo }
     ensures is { IfOk result (λ o. got_any o steps.new.left
         ≡ walk (setting_of l.now.r.now) (inner_of l.now.r.now l.now.levels) way.now.mode (seen_at way.now.at.now)
         (seen_at way.now.inner.now) sofar.says.rhs way.now.taken steps.old.left) }
     ensures from { IfOk result (λ o. IfSome o
         (λ a. IfSome (where_applied a) (From l.now.r.now.w.now way.now.mode way.now.at.now.ctx.now sofar.says.lhs))) }
+    ensures kept { steps.new.memo ≡ steps.old.memo }
 {
     let body = copy_term(l.r.alloc, sofar.rhs())?;
     walk_body(l, steps, way, sofar, &body)
@@ -235,18 +273,20 @@ fn walk<O: TypeOracle, F: Below>(
 /// The walk ends at what is no `if`: it is rewritten, where a branch was taken.
 fn walk_stops<O: TypeOracle, F: Below>(
     l: &Level<'_, '_, O, F>,
-    steps: &mut Steps,
+    steps: &mut Run<'_>,
     way: &Way<'_>,
     sofar: Equiv,
 ) -> Result<Option<Tried<Equiv>>, NoMemory>
     requires level { IsLevel (F.may l.now.below.now) (F.gives l.now.below.now) l.now.r.now l.now.levels }
     requires facts { KnownFacts (defs_in l.now.r.now) way.now.at.now.ctx.now.0 }
     requires sofar { From l.now.r.now.w.now way.now.mode way.now.at.now.ctx.now sofar.says.lhs sofar }
+    requires here { Here l.now.r.now way.now.at.now steps.old.memo }
     ensures is { IfOk result (λ o. got_any o steps.new.left
         ≡ leaf_on (inner_of l.now.r.now l.now.levels) way.now.mode (seen_at way.now.at.now) sofar.says.rhs
         way.now.taken steps.old.left) }
     ensures from { IfOk result (λ o. IfSome o
         (λ a. IfSome (where_applied a) (From l.now.r.now.w.now way.now.mode way.now.at.now.ctx.now sofar.says.lhs))) }
+    ensures kept { steps.new.memo ≡ steps.old.memo }
 {
     if !way.taken {
         return Ok(Some(Tried::PassedBy));
@@ -255,11 +295,34 @@ fn walk_stops<O: TypeOracle, F: Below>(
     Ok(answered(found))
 }
 
+/// On from where an equivalence leads: that term is rewritten in its turn, as it stands within.
+fn go_on_within<O: TypeOracle, F: Below>(
+    l: &Level<'_, '_, O, F>,
+    steps: &mut Run<'_>,
+    mode: Mode,
+    at: &Place<'_>,
+    inner: &Place<'_>,
+    first: Equiv,
+) -> Result<Option<Equiv>, NoMemory>
+    requires level { IsLevel (F.may l.now.below.now) (F.gives l.now.below.now) l.now.r.now l.now.levels }
+    requires facts { KnownFacts (defs_in l.now.r.now) inner.now.ctx.now.0 }
+    requires first { From l.now.r.now.w.now mode inner.now.ctx.now first.says.lhs first }
+    requires here { Here l.now.r.now at.now steps.old.memo }
+    ensures is { IfOk result (λ o. got o steps.new.left ≡ inner_of l.now.r.now l.now.levels mode (seen_at inner.now) first.says.rhs steps.old.left) }
+    ensures from { IfOk result (λ o. IfSome o (From l.now.r.now.w.now mode inner.now.ctx.now first.says.lhs)) }
+    ensures kept { steps.new.memo ≡ steps.old.memo }
+{
+    steps.memo.enter(l.r.alloc, inner)?;
+    let found = go_on(l, steps, mode, inner, first);
+    steps.memo.leave();
+    found
+}
+
 /// The instance of the body of a function that recurs: of a call that is to be opened it is rewritten as it stands
 /// within, else it is walked down.
 fn open_within<O: TypeOracle, F: Below>(
     l: &Level<'_, '_, O, F>,
-    steps: &mut Steps,
+    steps: &mut Run<'_>,
     mode: Mode,
     at: &Place<'_>,
     inner: &Place<'_>,
@@ -269,14 +332,16 @@ fn open_within<O: TypeOracle, F: Below>(
     requires facts { KnownFacts (defs_in l.now.r.now) at.now.ctx.now.0 }
     requires inner { inner.now.ctx.now ≡ at.now.ctx.now }
     requires first { From l.now.r.now.w.now mode at.now.ctx.now first.says.lhs first }
+    requires here { Here l.now.r.now at.now steps.old.memo }
     ensures is { IfOk result (λ o. got_any o steps.new.left
         ≡ open_within (setting_of l.now.r.now) (inner_of l.now.r.now l.now.levels) mode (seen_at at.now)
         (seen_at inner.now) first.says.lhs first.says.rhs steps.old.left) }
     ensures from { IfOk result (λ o. IfSome o
         (λ a. IfSome (where_applied a) (From l.now.r.now.w.now mode at.now.ctx.now first.says.lhs))) }
+    ensures kept { steps.new.memo ≡ steps.old.memo }
 {
     if is_term_among(first.lhs(), l.r.expand.as_slice()) {
-        let found = go_on(l, steps, mode, inner, first)?;
+        let found = go_on_within(l, steps, mode, at, inner, first)?;
         return Ok(answered(found));
     }
     let way = Way {
@@ -292,7 +357,7 @@ fn open_within<O: TypeOracle, F: Below>(
 /// opened it is rewritten, else it is walked down.
 fn open_recursive<O: TypeOracle, F: Below>(
     l: &Level<'_, '_, O, F>,
-    steps: &mut Steps,
+    steps: &mut Run<'_>,
     mode: Mode,
     at: &Place<'_>,
     f: &Symbol,
@@ -301,11 +366,13 @@ fn open_recursive<O: TypeOracle, F: Below>(
     requires level { IsLevel (F.may l.now.below.now) (F.gives l.now.below.now) l.now.r.now l.now.levels }
     requires facts { KnownFacts (defs_in l.now.r.now) at.now.ctx.now.0 }
     requires first { From l.now.r.now.w.now mode at.now.ctx.now first.says.lhs first }
+    requires here { Here l.now.r.now at.now steps.old.memo }
     ensures is { IfOk result (λ o. got_any o steps.new.left
         ≡ open_closed (setting_of l.now.r.now) (inner_of l.now.r.now l.now.levels) mode (seen_at at.now) f.now
         first.says.lhs first.says.rhs steps.old.left) }
     ensures from { IfOk result (λ o. IfSome o
         (λ a. IfSome (where_applied a) (From l.now.r.now.w.now mode at.now.ctx.now first.says.lhs))) }
+    ensures kept { steps.new.memo ≡ steps.old.memo }
 {
     let closed = closing(l.r.alloc, f, at.closed)?;
     let inner = Place {
@@ -319,7 +386,7 @@ fn open_recursive<O: TypeOracle, F: Below>(
 /// The instance of a function's body to which a call leads.
 fn open_instance<O: TypeOracle, F: Below>(
     l: &Level<'_, '_, O, F>,
-    steps: &mut Steps,
+    steps: &mut Run<'_>,
     mode: Mode,
     at: &Place<'_>,
     f: &Symbol,
@@ -329,11 +396,13 @@ fn open_instance<O: TypeOracle, F: Below>(
     requires level { IsLevel (F.may l.now.below.now) (F.gives l.now.below.now) l.now.r.now l.now.levels }
     requires facts { KnownFacts (defs_in l.now.r.now) at.now.ctx.now.0 }
     requires first { From l.now.r.now.w.now mode at.now.ctx.now first.says.lhs first }
+    requires here { Here l.now.r.now at.now steps.old.memo }
     ensures is { IfOk result (λ o. got_any o steps.new.left
         ≡ open_instance (setting_of l.now.r.now) (inner_of l.now.r.now l.now.levels) mode (seen_at at.now)
         first.says.lhs f.now g.now first.says.rhs steps.old.left) }
     ensures from { IfOk result (λ o. IfSome o
         (λ a. IfSome (where_applied a) (From l.now.r.now.w.now mode at.now.ctx.now first.says.lhs))) }
+    ensures kept { steps.new.memo ≡ steps.old.memo }
 {
     if g.measure.is_some() {
         return open_recursive(l, steps, mode, at, f, first);
@@ -345,7 +414,7 @@ fn open_instance<O: TypeOracle, F: Below>(
 /// A call of a defined function that may be opened, by its body's instance, where that isn't too large.
 fn open_at_once<O: TypeOracle, F: Below>(
     l: &Level<'_, '_, O, F>,
-    steps: &mut Steps,
+    steps: &mut Run<'_>,
     mode: Mode,
     at: &Place<'_>,
     call: &Called<'_>,
@@ -358,11 +427,13 @@ fn open_at_once<O: TypeOracle, F: Below>(
     requires function { defs_in l.now.r.now call.now.f.now ≡ Some g.now }
     requires enabled { IsTrue (is_enabled l.now.r.now.theory.now (rune.Definition call.now.f.now)) }
     requires free { is_among symbol_eq call.now.f.now at.now.closed.now ≡ false }
+    requires here { Here l.now.r.now at.now steps.old.memo }
     ensures is { IfOk result (λ o. got_any o steps.new.left
         ≡ opening (setting_of l.now.r.now) (inner_of l.now.r.now l.now.levels) mode (seen_at at.now)
         call.now.t.now call.now.f.now call.now.us.now (Some g.now) steps.old.left) }
     ensures from { IfOk result (λ o. IfSome o
         (λ a. IfSome (where_applied a) (From l.now.r.now.w.now mode at.now.ctx.now call.now.t.now))) }
+    ensures kept { steps.new.memo ≡ steps.old.memo }
 {
     let first = opened(l.r, at.ctx, mode, call.t)?;
     if !is_small(first.rhs()) {
@@ -383,7 +454,7 @@ fn part_at(alloc: Global, g: &Function, us: &[Term], part: &Term) -> Result<Term
 /// The instance of the test of a function's body, rewritten under `iff`.
 fn rewrite_test<O: TypeOracle, F: Below>(
     l: &Level<'_, '_, O, F>,
-    steps: &mut Steps,
+    steps: &mut Run<'_>,
     at: &Place<'_>,
     us: &[Term],
     g: &Function,
@@ -393,11 +464,13 @@ fn rewrite_test<O: TypeOracle, F: Below>(
     requires facts { KnownFacts (defs_in l.now.r.now) at.now.ctx.now.0 }
     requires arguments { Each (λ u. IsTrue (known (defs_in l.now.r.now) u)) us.now }
     requires test { IsTrue (known (defs_in l.now.r.now) a.now) }
+    requires here { Here l.now.r.now at.now steps.old.memo }
     ensures is { IfOk result (λ o. got o steps.new.left
         ≡ inner_of l.now.r.now l.now.levels Iff (seen_at at.now) (subst_of (zip g.now.formals us.now) a.now)
         steps.old.left) }
     ensures from { IfOk result (λ o. IfSome o
         (From l.now.r.now.w.now Iff at.now.ctx.now (subst_of (zip g.now.formals us.now) a.now))) }
+    ensures kept { steps.new.memo ≡ steps.old.memo }
 {
     let instance = part_at(l.r.alloc, g, us, a)?;
     let found = deeper(l, steps, Mode::Iff, at, &instance)?;
@@ -407,7 +480,7 @@ fn rewrite_test<O: TypeOracle, F: Below>(
 /// Down a body's instance from the `if` at its top, whose test has led to this already, from some number of steps.
 fn walk_past<O: TypeOracle, F: Below>(
     l: &Level<'_, '_, O, F>,
-    steps: &mut Steps,
+    steps: &mut Run<'_>,
     way: &Way<'_>,
     first: Equiv,
     test: Equiv,
@@ -418,6 +491,7 @@ fn walk_past<O: TypeOracle, F: Below>(
     requires first { From l.now.r.now.w.now way.now.mode way.now.at.now.ctx.now first.says.lhs first }
     requires test { From l.now.r.now.w.now Iff way.now.at.now.ctx.now test.says.lhs test }
     requires choice { (b : Term) × (c : Term) × (first.says.rhs ≡ if_of test.says.lhs b c) }
+    requires here { Here l.now.r.now way.now.at.now steps.old.memo }
     ensures is { IfOk result (λ o. (n : ℕ)
         → Some (test.says.rhs, steps.old.left)
         ≡ inner_of l.now.r.now l.now.levels Iff (seen_at way.now.at.now) test.says.lhs n
@@ -426,6 +500,7 @@ fn walk_past<O: TypeOracle, F: Below>(
         (seen_at way.now.at.now) (seen_at way.now.inner.now) first.says.rhs way.now.taken n) }
     ensures from { IfOk result (λ o. IfSome o
         (λ a. IfSome (where_applied a) (From l.now.r.now.w.now way.now.mode way.now.at.now.ctx.now first.says.lhs))) }
+    ensures kept { steps.new.memo ≡ steps.old.memo }
 {
     let body = copy_term(l.r.alloc, first.rhs())?;
     match shape_of(&body) {
@@ -438,7 +513,7 @@ fn walk_past<O: TypeOracle, F: Below>(
 /// instance is made, and walked down where the function is closed.
 fn open_tested<O: TypeOracle, F: Below>(
     l: &Level<'_, '_, O, F>,
-    steps: &mut Steps,
+    steps: &mut Run<'_>,
     mode: Mode,
     at: &Place<'_>,
     t: &Term,
@@ -450,6 +525,7 @@ fn open_tested<O: TypeOracle, F: Below>(
     requires term { IsTrue (known (defs_in l.now.r.now) t.now) }
     requires test { From l.now.r.now.w.now Iff at.now.ctx.now test.says.lhs test }
     requires choice { (b : Term) × (c : Term) × (opened (defs_in l.now.r.now) t.now ≡ Some (if_of test.says.lhs b c)) }
+    requires here { Here l.now.r.now at.now steps.old.memo }
     ensures is { IfOk result (λ o. (v : Term) (n : ℕ)
         → opened (defs_in l.now.r.now) t.now ≡ Some v
         → Some (test.says.rhs, steps.old.left)
@@ -458,6 +534,7 @@ fn open_tested<O: TypeOracle, F: Below>(
         ≡ walk (setting_of l.now.r.now) (inner_of l.now.r.now l.now.levels) mode (seen_at at.now)
         (closing f.now (seen_at at.now)) v false n) }
     ensures from { IfOk result (λ o. IfSome o (λ a. IfSome (where_applied a) (From l.now.r.now.w.now mode at.now.ctx.now t.now))) }
+    ensures kept { steps.new.memo ≡ steps.old.memo }
 {
     let first = opened(l.r, at.ctx, mode, t)?;
     let closed = closing(l.r.alloc, f, at.closed)?;
@@ -479,7 +556,7 @@ fn open_tested<O: TypeOracle, F: Below>(
 /// where the test becomes a constant.
 fn open_by_test<O: TypeOracle, F: Below>(
     l: &Level<'_, '_, O, F>,
-    steps: &mut Steps,
+    steps: &mut Run<'_>,
     mode: Mode,
     at: &Place<'_>,
     call: &Called<'_>,
@@ -492,11 +569,13 @@ fn open_by_test<O: TypeOracle, F: Below>(
     requires call { call.now.t.now ≡ Call call.now.f.now call.now.us.now }
     requires function { defs_in l.now.r.now call.now.f.now ≡ Some g.now }
     requires choice { (b : Term) × (c : Term) × (g.now.body ≡ if_of a.now b c) }
+    requires here { Here l.now.r.now at.now steps.old.memo }
     ensures is { IfOk result (λ o. got_any o steps.new.left
         ≡ walk (setting_of l.now.r.now) (inner_of l.now.r.now l.now.levels) mode (seen_at at.now)
         (closing call.now.f.now (seen_at at.now)) (body_at g.now call.now.us.now) false steps.old.left) }
     ensures from { IfOk result (λ o. IfSome o
         (λ a. IfSome (where_applied a) (From l.now.r.now.w.now mode at.now.ctx.now call.now.t.now))) }
+    ensures kept { steps.new.memo ≡ steps.old.memo }
 {
     l.r.w.recall_sound();
     let Some(test) = rewrite_test(l, steps, at, call.us, g, a)? else {
@@ -543,7 +622,7 @@ fn first_test<'a>(expand: &[Term], t: &Term, g: &'a Function) -> Option<&'a Term
 /// instance is small.
 fn open_call<O: TypeOracle, F: Below>(
     l: &Level<'_, '_, O, F>,
-    steps: &mut Steps,
+    steps: &mut Run<'_>,
     mode: Mode,
     at: &Place<'_>,
     call: &Called<'_>,
@@ -554,11 +633,13 @@ fn open_call<O: TypeOracle, F: Below>(
     requires term { IsTrue (known (defs_in l.now.r.now) call.now.t.now) }
     requires call { call.now.t.now ≡ Call call.now.f.now call.now.us.now }
     requires function { defs_in l.now.r.now call.now.f.now ≡ Some g.now }
+    requires here { Here l.now.r.now at.now steps.old.memo }
     ensures is { IfOk result (λ o. got_any o steps.new.left
         ≡ opening (setting_of l.now.r.now) (inner_of l.now.r.now l.now.levels) mode (seen_at at.now)
         call.now.t.now call.now.f.now call.now.us.now (Some g.now) steps.old.left) }
     ensures from { IfOk result (λ o. IfSome o
         (λ a. IfSome (where_applied a) (From l.now.r.now.w.now mode at.now.ctx.now call.now.t.now))) }
+    ensures kept { steps.new.memo ≡ steps.old.memo }
 {
     if !l.r.theory.is_enabled(RuneKind::Definition, call.f) || is_among(call.f, at.closed) {
         return Ok(Some(Tried::PassedBy));
@@ -572,7 +653,7 @@ fn open_call<O: TypeOracle, F: Below>(
 /// The definition, of a function that may be opened.
 pub fn by_definition<O: TypeOracle, F: Below>(
     l: &Level<'_, '_, O, F>,
-    steps: &mut Steps,
+    steps: &mut Run<'_>,
     mode: Mode,
     at: &Place<'_>,
     t: &Term,
@@ -583,10 +664,12 @@ pub fn by_definition<O: TypeOracle, F: Below>(
     requires facts { KnownFacts (defs_in l.now.r.now) at.now.ctx.now.0 }
     requires term { IsTrue (known (defs_in l.now.r.now) t.now) }
     requires call { t.now ≡ Call f.now us.now }
+    requires here { Here l.now.r.now at.now steps.old.memo }
     ensures is { IfOk result (λ o. got_any o steps.new.left
         ≡ by_definition (setting_of l.now.r.now) (inner_of l.now.r.now l.now.levels) mode (seen_at at.now) f.now
         us.now steps.old.left) }
     ensures from { IfOk result (λ o. IfSome o (λ a. IfSome (where_applied a) (From l.now.r.now.w.now mode at.now.ctx.now t.now))) }
+    ensures kept { steps.new.memo ≡ steps.old.memo }
 {
     match l.r.w.lookup_fun(f) {
         None => Ok(Some(Tried::PassedBy)),

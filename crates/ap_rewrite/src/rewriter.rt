@@ -1,11 +1,11 @@
 ghost use Rattle.std.specs.Prelude.{◌≡◌, IsTrue, IfOk, IfSome};
 ghost use Rattle.ap_world.specs.Facts.{KnownFacts};
 ghost use Rattle.ap_world.specs.Sound.{known};
-ghost use Rattle.ap_rewrite.specs.Answering.{defs_in, where_applied, inner_of, seen_at, got, From, IsLevel};
+ghost use Rattle.ap_rewrite.specs.Answering.{defs_in, where_applied, inner_of, seen_at, got, From, Here, IsLevel};
 
+use crate::memos::Memo;
 use ap_kernel::{Ctx, Equiv, Mode, NoMemory, Seq, Symbol, Term, TypeOracle, World};
 use ap_rules::RuleIndex;
-use ap_term::Steps;
 use ap_world::Theory;
 use std::alloc::Global;
 
@@ -28,6 +28,12 @@ pub struct Place<'a> {
     pub ctx: &'a Ctx,
     pub closed: &'a [Symbol],
     pub chain: u32,
+}
+
+/// What changes while a clause is rewritten: the steps that are left, and what is known so far of what terms became.
+pub struct Run<'m> {
+    pub left: u32,
+    pub memo: Memo<'m>,
 }
 
 /// What something that may not apply came to.
@@ -54,20 +60,20 @@ pub trait Below {
     ghost use denote.Ref.{Bor, MutBor};
     ghost use Rattle.std.specs.Prelude.{Option, Result};
     ghost use Rattle.std.specs.declared.alloc.AllocError.{AllocError};
-    ghost use Rattle.ap_term.specs.declared.steps.Steps.{Steps};
+    ghost use Rattle.ap_rewrite.specs.declared.rewriter.Run.{Run};
     ghost use Rattle.ap_term.specs.declared.term.Term.{Term};
     ghost use Rattle.ap_kernel.specs.declared.objects.Equiv.{Equiv};
     ghost use Rattle.ap_kernel.specs.declared.objects.Mode.{Mode};
     ghost use Rattle.ap_rewrite.specs.declared.rewriter.Place.{Place};
 
-    ghost may: { Self → MutBor Steps → Mode → Bor Place → Bor Term → Type 0 };
+    ghost may: { Self → MutBor Run → Mode → Bor Place → Bor Term → Type 0 };
 
-    ghost gives: { Self → MutBor Steps → Mode → Bor Place → Bor Term → Result (Option Equiv) AllocError → MutBor Steps → Type 0 };
+    ghost gives: { Self → MutBor Run → Mode → Bor Place → Bor Term → Result (Option Equiv) AllocError → MutBor Run → Type 0 };
 
     /// The term, under a mode, where it stands.
     fn rewrite(
         &self,
-        steps: &mut Steps,
+        steps: &mut Run<'_>,
         mode: Mode,
         at: &Place<'_>,
         t: &Term,
@@ -77,19 +83,19 @@ pub trait Below {
 }
 
 /// A closure, where it may be called.
-impl<F: Fn(&mut Steps, Mode, &Place<'_>, &Term) -> Result<Option<Equiv>, NoMemory>> Below for F {
+impl<F: Fn(&mut Run<'_>, Mode, &Place<'_>, &Term) -> Result<Option<Equiv>, NoMemory>> Below for F {
     ghost use denote.Ref.{Bor, MutBor};
     ghost use Rattle.std.specs.Prelude.{◌≡◌};
-    ghost use Rattle.ap_term.specs.declared.steps.Steps.{Steps};
+    ghost use Rattle.ap_rewrite.specs.declared.rewriter.Run.{Run};
     ghost use Rattle.ap_rewrite.specs.declared.rewriter.Place.{Place};
 
-    ghost may = { λ f s o p t. (y : MutBor Steps) (q : Bor Place) → y.now ≡ s.now → q.now ≡ p.now → F.pre f y o q t };
+    ghost may = { λ f s o p t. (y : MutBor Run) (q : Bor Place) → y.now ≡ s.now → q.now ≡ p.now → F.pre f y o q t };
 
-    ghost gives = { λ f s o p t a u. (y : MutBor Steps) × (q : Bor Place) × (y.now ≡ s.now) × (q.now ≡ p.now) × ((v : MutBor Steps) × (v.now ≡ u.now) × F.post f y o q t a v) };
+    ghost gives = { λ f s o p t a u. (y : MutBor Run) × (q : Bor Place) × (y.now ≡ s.now) × (q.now ≡ p.now) × ((v : MutBor Run) × (v.now ≡ u.now) × F.post f y o q t a v) };
 
     fn rewrite(
         &self,
-        steps: &mut Steps,
+        steps: &mut Run<'_>,
         mode: Mode,
         at: &Place<'_>,
         t: &Term,
@@ -109,7 +115,7 @@ pub struct Level<'a, 'b, O, F> {
 /// A term one level deeper. `None` where the steps run out.
 pub fn deeper<O: TypeOracle, F: Below>(
     l: &Level<'_, '_, O, F>,
-    steps: &mut Steps,
+    steps: &mut Run<'_>,
     mode: Mode,
     at: &Place<'_>,
     t: &Term,
@@ -117,8 +123,10 @@ pub fn deeper<O: TypeOracle, F: Below>(
     requires level { IsLevel (F.may l.now.below.now) (F.gives l.now.below.now) l.now.r.now l.now.levels }
     requires facts { KnownFacts (defs_in l.now.r.now) at.now.ctx.now.0 }
     requires term { IsTrue (known (defs_in l.now.r.now) t.now) }
+    requires here { Here l.now.r.now at.now steps.old.memo }
     ensures is { IfOk result (λ o. got o steps.new.left ≡ inner_of l.now.r.now l.now.levels mode (seen_at at.now) t.now steps.old.left) }
     ensures from { IfOk result (λ o. IfSome o (From l.now.r.now.w.now mode at.now.ctx.now t.now)) }
+    ensures kept { steps.new.memo ≡ steps.old.memo }
 {
     l.below.rewrite(steps, mode, at, t)
 }

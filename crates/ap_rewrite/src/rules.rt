@@ -15,13 +15,14 @@ ghost use Rattle.ap_world.specs.Shapes.{is_constant};
 ghost use Rattle.ap_world.specs.Sound.{known};
 ghost use Rattle.ap_rules.specs.Made.{rule_in};
 ghost use Rattle.ap_kernel.specs.Applying.{AllLead};
-ghost use Rattle.ap_kernel.specs.Standing.{Stands};
+ghost use Rattle.ap_world.specs.World.{function_of};
+ghost use Rattle.ap_kernel.specs.Standing.{DefinesNot, Stands};
 ghost use Rattle.ap_kernel.specs.declared.objects.Mode.TheVariants.{Iff};
 ghost use Rattle.ap_rewrite.specs.Leading.{leads_made};
 ghost use Rattle.ap_rewrite.specs.Settings.{relieving};
 ghost use Rattle.ap_rewrite.specs.Relieving.{if_so, relieve_one, relieve};
 ghost use Rattle.ap_rewrite.specs.Rewriting.{right, relieved, apply, fits_mode, try_rule, by_rules};
-ghost use Rattle.ap_rewrite.specs.Answering.{defs_in, where_applied, Ready, setting_of, inner_of, seen_at, got, got_any, got_pairs, got_reliefs, IsRuleOf, Shows, From, IsLevel};
+ghost use Rattle.ap_rewrite.specs.Answering.{defs_in, where_applied, Ready, setting_of, inner_of, seen_at, got, got_any, got_pairs, got_reliefs, IsRuleOf, Shows, From, Here, IsLevel};
 ghost use Rattle.ap_rewrite.specs.Relieved.{RelievedFrom};
 
 use crate::branching::go_on;
@@ -29,7 +30,7 @@ use crate::engines::answered;
 use crate::facts::{Relieved, by_sign, is_bound};
 use crate::laws::search_by_head;
 use crate::ordering::{fits_mode, in_order_first, in_order_then};
-use crate::rewriter::{Below, Level, Place, Rewriter, Tried, deeper, from_found};
+use crate::rewriter::{Below, Level, Place, Rewriter, Run, Tried, deeper, from_found};
 use crate::settling::{in_mode, to_true};
 use crate::sizes::is_small;
 use ap_kernel::{
@@ -37,7 +38,7 @@ use ap_kernel::{
     is_constant, subst,
 };
 use ap_rules::{RewriteRule, by_head, rules_are_parts};
-use ap_term::{Steps, one_way_match};
+use ap_term::one_way_match;
 use ap_world::laws::rules_hold;
 use ap_world::{RuneKind, Theory};
 use std::alloc::Global;
@@ -53,7 +54,7 @@ pub(crate) struct Reliefs {
 /// The instance of a hypothesis, rewritten within one hypothesis more.
 fn rewrite_instance<O: TypeOracle, F: Below>(
     l: &Level<'_, '_, O, F>,
-    steps: &mut Steps,
+    steps: &mut Run<'_>,
     at: &Place<'_>,
     h: &Term,
     s: &Subst,
@@ -63,8 +64,10 @@ fn rewrite_instance<O: TypeOracle, F: Below>(
     requires hyp { IsTrue (known (defs_in l.now.r.now) h.now) }
     requires pairs { KnownPairs (defs_in l.now.r.now) s.now.0 }
     requires few { at.now.chain < 10 }
+    requires here { Here l.now.r.now at.now steps.old.memo }
     ensures is { IfOk result (λ o. got o steps.new.left ≡ inner_of l.now.r.now l.now.levels Iff (relieving (seen_at at.now)) (subst_of s.now.0 h.now) steps.old.left) }
     ensures from { IfOk result (λ o. IfSome o (From l.now.r.now.w.now Iff at.now.ctx.now (subst_of s.now.0 h.now))) }
+    ensures kept { steps.new.memo ≡ steps.old.memo }
 {
     let instance = subst(l.r.alloc, h, s)?;
     let within = Place {
@@ -79,6 +82,7 @@ fn rewrite_instance<O: TypeOracle, F: Below>(
 /// What a hypothesis's instance leads to, where that is a constant other than `nil`: the pairs, which stay, and on
 /// to `'T`.
 fn where_true(alloc: Global, w: &World, q: Equiv, s: Subst) -> Result<Option<Relieved>, NoMemory>
+    requires ground { DefinesNot (function_of w.now.entries) }
     requires stands { Stands w.now q }
     requires mode { q.says.mode ≡ Iff }
     ensures is { IfOk result (λ o. option_map (λ a. a.pairs.0) o ≡ if_so (is_constant true q.says.rhs) s.0) }
@@ -97,7 +101,7 @@ fn where_true(alloc: Global, w: &World, q: Equiv, s: Subst) -> Result<Option<Rel
 /// become a constant other than `nil`.
 fn by_rewriting<O: TypeOracle, F: Below>(
     l: &Level<'_, '_, O, F>,
-    steps: &mut Steps,
+    steps: &mut Run<'_>,
     at: &Place<'_>,
     h: &Term,
     s: Subst,
@@ -108,8 +112,10 @@ fn by_rewriting<O: TypeOracle, F: Below>(
     requires pairs { KnownPairs (defs_in l.now.r.now) s.0 }
     requires bound { IsTrue (is_bound s.0 h.now) }
     requires few { at.now.chain < 10 }
+    requires here { Here l.now.r.now at.now steps.old.memo }
     ensures is { IfOk result (λ o. got_pairs o steps.new.left ≡ relieve_one (inner_of l.now.r.now l.now.levels) (seen_at at.now) h.now s.0 steps.old.left) }
     ensures shown { IfOk result (λ o. IfSome o (λ a. IfSome (where_applied a) (RelievedFrom l.now.r.now.w.now at.now.ctx.now h.now s.0))) }
+    ensures kept { steps.new.memo ≡ steps.old.memo }
 {
     let Some(q) = rewrite_instance(l, steps, at, h, &s)? else {
         return Ok(None);
@@ -122,7 +128,7 @@ fn by_rewriting<O: TypeOracle, F: Below>(
 /// which gives them theirs.
 fn relieve_one<O: TypeOracle, F: Below>(
     l: &Level<'_, '_, O, F>,
-    steps: &mut Steps,
+    steps: &mut Run<'_>,
     at: &Place<'_>,
     h: &Term,
     s: Subst,
@@ -132,8 +138,10 @@ fn relieve_one<O: TypeOracle, F: Below>(
     requires hyp { IsTrue (known (defs_in l.now.r.now) h.now) }
     requires pairs { KnownPairs (defs_in l.now.r.now) s.0 }
     requires few { at.now.chain < 10 }
+    requires here { Here l.now.r.now at.now steps.old.memo }
     ensures is { IfOk result (λ o. got_pairs o steps.new.left ≡ relieve_one (inner_of l.now.r.now l.now.levels) (seen_at at.now) h.now s.0 steps.old.left) }
     ensures shown { IfOk result (λ o. IfSome o (λ a. IfSome (where_applied a) (RelievedFrom l.now.r.now.w.now at.now.ctx.now h.now s.0))) }
+    ensures kept { steps.new.memo ≡ steps.old.memo }
 {
     if is_bound(s.0.as_slice(), h) {
         return by_rewriting(l, steps, at, h, s);
@@ -145,7 +153,7 @@ fn relieve_one<O: TypeOracle, F: Below>(
 /// The hypotheses from left to right, each only where fewer than ten are being relieved around it.
 pub(crate) fn relieve<O: TypeOracle, F: Below>(
     l: &Level<'_, '_, O, F>,
-    steps: &mut Steps,
+    steps: &mut Run<'_>,
     at: &Place<'_>,
     hs: &[Term],
     s: Subst,
@@ -154,8 +162,10 @@ pub(crate) fn relieve<O: TypeOracle, F: Below>(
     requires facts { KnownFacts (defs_in l.now.r.now) at.now.ctx.now.0 }
     requires hyps { Each (λ h. IsTrue (known (defs_in l.now.r.now) h)) hs.now }
     requires pairs { KnownPairs (defs_in l.now.r.now) s.0 }
+    requires here { Here l.now.r.now at.now steps.old.memo }
     ensures is { IfOk result (λ o. got_reliefs o steps.new.left ≡ relieve (inner_of l.now.r.now l.now.levels) (seen_at at.now) hs.now s.0 steps.old.left) }
     ensures shown { IfOk result (λ o. IfSome o (λ a. IfSome (where_applied a) (Shows l.now.r.now.w.now at.now.ctx.now hs.now s.0))) }
+    ensures kept { steps.new.memo ≡ steps.old.memo }
 {
     let mut pairs = s;
     let mut shown = Seq::new(l.r.alloc);
@@ -206,7 +216,7 @@ fn applied<O: TypeOracle>(
 /// The instance of a rule's right side, which is rewritten, where it isn't too large.
 fn right<O: TypeOracle, F: Below>(
     l: &Level<'_, '_, O, F>,
-    steps: &mut Steps,
+    steps: &mut Run<'_>,
     mode: Mode,
     at: &Place<'_>,
     g: &RewriteRule,
@@ -217,8 +227,10 @@ fn right<O: TypeOracle, F: Below>(
     requires rule { IsRuleOf l.now.r.now.w.now (rule_in g.now) }
     requires fits { IsTrue (fits_mode mode (rule_in g.now)) }
     requires shown { Shows l.now.r.now.w.now at.now.ctx.now g.now.hyps [] found }
+    requires here { Here l.now.r.now at.now steps.old.memo }
     ensures is { IfOk result (λ o. got_any o steps.new.left ≡ right (setting_of l.now.r.now) (inner_of l.now.r.now l.now.levels) mode (seen_at at.now) (subst_of found.pairs.0 g.now.rhs) steps.old.left) }
     ensures from { IfOk result (λ o. IfSome o (λ a. IfSome (where_applied a) (From l.now.r.now.w.now mode at.now.ctx.now (subst_of found.pairs.0 g.now.lhs)))) }
+    ensures kept { steps.new.memo ≡ steps.old.memo }
 {
     let first = applied(l.r, at.ctx, mode, g, found)?;
     if !is_small(first.rhs()) {
@@ -231,7 +243,7 @@ fn right<O: TypeOracle, F: Below>(
 /// A rule whose hypotheses are relieved, where it is in order, if that couldn't be told before.
 fn relieved<O: TypeOracle, F: Below>(
     l: &Level<'_, '_, O, F>,
-    steps: &mut Steps,
+    steps: &mut Run<'_>,
     mode: Mode,
     at: &Place<'_>,
     t: &Term,
@@ -244,8 +256,10 @@ fn relieved<O: TypeOracle, F: Below>(
     requires fits { IsTrue (fits_mode mode (rule_in g.now)) }
     requires shown { Shows l.now.r.now.w.now at.now.ctx.now g.now.hyps [] found }
     requires instance { subst_of found.pairs.0 g.now.lhs ≡ t.now }
+    requires here { Here l.now.r.now at.now steps.old.memo }
     ensures is { IfOk result (λ o. got_any o steps.new.left ≡ relieved (setting_of l.now.r.now) (inner_of l.now.r.now l.now.levels) mode (seen_at at.now) t.now (rule_in g.now) (Some found.pairs.0) steps.old.left) }
     ensures from { IfOk result (λ o. IfSome o (λ a. IfSome (where_applied a) (From l.now.r.now.w.now mode at.now.ctx.now t.now))) }
+    ensures kept { steps.new.memo ≡ steps.old.memo }
 {
     if !in_order_then(l.r.alloc, g, &found.pairs, t)? {
         return Ok(Some(Tried::PassedBy));
@@ -256,7 +270,7 @@ fn relieved<O: TypeOracle, F: Below>(
 /// A rule whose left side matches, where it is in order and its hypotheses are relieved.
 fn apply<O: TypeOracle, F: Below>(
     l: &Level<'_, '_, O, F>,
-    steps: &mut Steps,
+    steps: &mut Run<'_>,
     mode: Mode,
     at: &Place<'_>,
     t: &Term,
@@ -269,8 +283,10 @@ fn apply<O: TypeOracle, F: Below>(
     requires rule { IsRuleOf l.now.r.now.w.now (rule_in g.now) }
     requires fits { IsTrue (fits_mode mode (rule_in g.now)) }
     requires matched { matched g.now.lhs t.now [] ≡ Some s.0 }
+    requires here { Here l.now.r.now at.now steps.old.memo }
     ensures is { IfOk result (λ o. got_any o steps.new.left ≡ apply (setting_of l.now.r.now) (inner_of l.now.r.now l.now.levels) mode (seen_at at.now) t.now (rule_in g.now) (Some s.0) steps.old.left) }
     ensures from { IfOk result (λ o. IfSome o (λ a. IfSome (where_applied a) (From l.now.r.now.w.now mode at.now.ctx.now t.now))) }
+    ensures kept { steps.new.memo ≡ steps.old.memo }
 {
     if !in_order_first(l.r.alloc, g, &s, t)? {
         return Ok(Some(Tried::PassedBy));
@@ -292,7 +308,7 @@ fn may_serve(theory: &Theory, mode: Mode, g: &RewriteRule) -> bool
 /// A rule that the theory enables and that serves under the mode.
 fn try_rule<O: TypeOracle, F: Below>(
     l: &Level<'_, '_, O, F>,
-    steps: &mut Steps,
+    steps: &mut Run<'_>,
     mode: Mode,
     at: &Place<'_>,
     t: &Term,
@@ -302,8 +318,10 @@ fn try_rule<O: TypeOracle, F: Below>(
     requires facts { KnownFacts (defs_in l.now.r.now) at.now.ctx.now.0 }
     requires term { IsTrue (known (defs_in l.now.r.now) t.now) }
     requires rule { IsRuleOf l.now.r.now.w.now (rule_in g.now) }
+    requires here { Here l.now.r.now at.now steps.old.memo }
     ensures is { IfOk result (λ o. got_any o steps.new.left ≡ try_rule (setting_of l.now.r.now) (inner_of l.now.r.now l.now.levels) mode (seen_at at.now) t.now (rule_in g.now) steps.old.left) }
     ensures from { IfOk result (λ o. IfSome o (λ a. IfSome (where_applied a) (From l.now.r.now.w.now mode at.now.ctx.now t.now))) }
+    ensures kept { steps.new.memo ≡ steps.old.memo }
 {
     if !may_serve(l.r.theory, mode, g) {
         return Ok(Some(Tried::PassedBy));
@@ -318,7 +336,7 @@ fn try_rule<O: TypeOracle, F: Below>(
 /// The first of some rules that applies.
 fn each_rule<O: TypeOracle, F: Below>(
     l: &Level<'_, '_, O, F>,
-    steps: &mut Steps,
+    steps: &mut Run<'_>,
     mode: Mode,
     at: &Place<'_>,
     t: &Term,
@@ -328,8 +346,10 @@ fn each_rule<O: TypeOracle, F: Below>(
     requires facts { KnownFacts (defs_in l.now.r.now) at.now.ctx.now.0 }
     requires term { IsTrue (known (defs_in l.now.r.now) t.now) }
     requires rules { Each (IsRuleOf l.now.r.now.w.now) (map rule_in gs.now) }
+    requires here { Here l.now.r.now at.now steps.old.memo }
     ensures is { IfOk result (λ o. got_any o steps.new.left ≡ first_that (map (try_rule (setting_of l.now.r.now) (inner_of l.now.r.now l.now.levels) mode (seen_at at.now) t.now) (map rule_in gs.now)) steps.old.left) }
     ensures from { IfOk result (λ o. IfSome o (λ a. IfSome (where_applied a) (From l.now.r.now.w.now mode at.now.ctx.now t.now))) }
+    ensures kept { steps.new.memo ≡ steps.old.memo }
 {
     for g in gs {
         match try_rule(l, steps, mode, at, t, g)? {
@@ -344,7 +364,7 @@ fn each_rule<O: TypeOracle, F: Below>(
 /// The first rule that applies, from the newest on.
 pub fn by_rules<O: TypeOracle, F: Below>(
     l: &Level<'_, '_, O, F>,
-    steps: &mut Steps,
+    steps: &mut Run<'_>,
     mode: Mode,
     at: &Place<'_>,
     t: &Term,
@@ -355,8 +375,10 @@ pub fn by_rules<O: TypeOracle, F: Below>(
     requires facts { KnownFacts (defs_in l.now.r.now) at.now.ctx.now.0 }
     requires term { IsTrue (known (defs_in l.now.r.now) t.now) }
     requires call { t.now ≡ Call f.now us.now }
+    requires here { Here l.now.r.now at.now steps.old.memo }
     ensures is { IfOk result (λ o. got_any o steps.new.left ≡ by_rules (setting_of l.now.r.now) (inner_of l.now.r.now l.now.levels) mode (seen_at at.now) t.now steps.old.left) }
     ensures from { IfOk result (λ o. IfSome o (λ a. IfSome (where_applied a) (From l.now.r.now.w.now mode at.now.ctx.now t.now))) }
+    ensures kept { steps.new.memo ≡ steps.old.memo }
 {
     search_by_head();
     rules_are_parts();

@@ -12,7 +12,8 @@ ghost use Rattle.ap_world.specs.Units.{metered};
 ghost use Rattle.ap_world.specs.World.{function_of};
 ghost use Rattle.ap_world.specs.Facts.{KnownFacts};
 ghost use Rattle.ap_kernel.specs.Opening.{is_constant_call};
-ghost use Rattle.ap_kernel.specs.Standing.{Stands};
+ghost use Rattle.ap_kernel.specs.Rows.{gives_value};
+ghost use Rattle.ap_kernel.specs.Standing.{DefinesNot, Stands};
 ghost use Rattle.ap_rewrite.specs.InWorld.{value_in, most_units};
 ghost use Rattle.ap_rewrite.specs.Leading.{leads_made, said_of, plain_in, run_by};
 ghost use Rattle.ap_rewrite.specs.Rewriting.{constant_in, run};
@@ -28,6 +29,7 @@ use std::alloc::{AllocError, Global};
 fn value_of(alloc: Global, w: &World, t: &Term) -> Result<Option<Value>, NoMemory>
     requires { IsTrue (known (function_of w.now.entries) t.now) }
     ensures is { IfOk result (λ o. o ≡ value_in (metered (function_of w.now.entries) t.now [] most_units)) }
+    ensures run { IfOk result (λ o. IfSome o (λ v. IsTrue (gives_value v (metered (function_of w.now.entries) t.now [] 2000)))) }
     ensures meant { IfOk result (λ o. IfSome o (λ v. HasValue (function_of w.now.entries) t.now [] (val_of v))) }
 {
     let env = Env(Seq::new(alloc));
@@ -49,10 +51,12 @@ fn folded(
     t: &Term,
     value: Value,
 ) -> Result<Equiv, NoMemory>
+    requires ground { DefinesNot (function_of w.now.entries) }
     requires facts { KnownFacts (function_of w.now.entries) ctx.now.0 }
     requires term { IsTrue (known (function_of w.now.entries) t.now) }
     requires constants { IsTrue (is_constant_call t.now) }
     requires value { HasValue (function_of w.now.entries) t.now [] (val_of value) }
+    requires run { IsTrue (gives_value value (metered (function_of w.now.entries) t.now [] 2000)) }
     ensures stands { IfOk result (λ q. Stands w.now q) }
     ensures made { IfOk result (λ q. q.says ≡ leads_made ctx.now mode t.now (constant_in mode value)) }
 {
@@ -73,6 +77,7 @@ fn run_constants(
     mode: Mode,
     t: &Term,
 ) -> Result<Option<Equiv>, NoMemory>
+    requires ground { DefinesNot (function_of w.now.entries) }
     requires facts { KnownFacts (function_of w.now.entries) ctx.now.0 }
     requires term { IsTrue (known (function_of w.now.entries) t.now) }
     requires constants { IsTrue (is_constant_call t.now) }
@@ -105,6 +110,7 @@ fn run_call(
     t: &Term,
     f: &Symbol,
 ) -> Result<Option<Equiv>, NoMemory>
+    requires ground { DefinesNot (function_of w.now.entries) }
     requires facts { KnownFacts (function_of w.now.entries) ctx.now.0 }
     requires term { IsTrue (known (function_of w.now.entries) t.now) }
     ensures stands { IfOk result (λ o. IfSome o (λ q. Stands w.now q)) }
@@ -130,6 +136,7 @@ pub fn run(
     mode: Mode,
     t: &Term,
 ) -> Result<Option<Equiv>, NoMemory>
+    requires ground { DefinesNot (function_of w.now.entries) }
     requires facts { KnownFacts (function_of w.now.entries) ctx.now.0 }
     requires term { IsTrue (known (function_of w.now.entries) t.now) }
     ensures stands { IfOk result (λ o. IfSome o (λ q. Stands w.now q)) }

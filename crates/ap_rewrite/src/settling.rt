@@ -12,20 +12,24 @@ ghost use Rattle.ap_world.specs.Sound.{known};
 ghost use Rattle.ap_world.specs.World.{function_of};
 ghost use Rattle.ap_world.specs.Recursion.{t_constant};
 ghost use Rattle.ap_world.specs.Facts.{KnownFacts};
+ghost use Rattle.ap_world.specs.Typing.{types};
+ghost use Rattle.ap_world.specs.Units.{metered};
 ghost use Rattle.ap_world.specs.Shapes.{is_constant};
 ghost use Rattle.ap_poly.specs.Bounds.{lacks};
 ghost use Rattle.ap_kernel.specs.declared.objects.Mode.TheVariants.{Iff};
 ghost use Rattle.ap_kernel.specs.Opening.{is_constant_call};
 ghost use Rattle.ap_kernel.specs.Standing.{DefinesNot, Stands};
+ghost use Rattle.ap_kernel.specs.Rows.{gives_value};
 ghost use Rattle.ap_kernel.specs.Masks.{MaskHolds, leads_to, typed_mode};
 ghost use Rattle.ap_rewrite.specs.Leading.{leads_made, said_of, Serves, plain_in};
 ghost use Rattle.ap_rewrite.specs.Rewriting.{is_iff, constant_in, by_mask, changed, settled};
 
 use ap_kernel::{
     Ctx, Equiv, Mask, Mode, NoMemory, Term, TypeOracle, Value, World, by_type, fold, is_nil, refl,
-    trans, weaken_mode,
+    t_term, trans, weaken_mode,
 };
 use ap_term::is_same;
+use ap_types::types_of;
 use ap_value::{Fixed, named};
 use ap_world::masks;
 use std::alloc::Global;
@@ -79,15 +83,23 @@ pub fn in_mode(alloc: Global, w: &World, q: Equiv, mode: Mode) -> Result<Equiv, 
     Ok(q)
 }
 
-/// From a constant that isn't `nil` to `'T`, under `iff`.
+/// From a constant that isn't `nil` to `'T`, under `iff`: by its types, where it isn't `'T`.
 fn constant_truth(alloc: Global, w: &World, ctx: &Ctx, t: &Term) -> Result<Equiv, NoMemory>
+    requires ground { DefinesNot (function_of w.now.entries) }
     requires facts { KnownFacts (function_of w.now.entries) ctx.now.0 }
     requires constant { IsTrue (is_constant true t.now) }
     ensures stands { IfOk result (λ q. Stands w.now q) }
     ensures made { IfOk result (λ q. q.says ≡ leads_made ctx.now Iff t.now t_constant) }
 {
-    w.recall_sound();
-    let q = by_type(alloc, w, ctx, t, Mask(masks::ALL ^ masks::NIL), t_value())?;
+    let truth = t_term();
+    let same = is_same(t, &truth);
+    if same {
+        let q = refl(alloc, w, ctx, Mode::Iff, t)?;
+        return Ok(q);
+    }
+    let mask = types_of(alloc, w, ctx, t)?;
+    let first = by_type(alloc, w, ctx, t, mask, t_value())?;
+    let q = in_mode(alloc, w, first, Mode::Iff)?;
     Ok(q)
 }
 
@@ -107,6 +119,7 @@ pub fn constant_equiv(
     t: &Term,
     v: &Value,
 ) -> Result<Equiv, NoMemory>
+    requires ground { DefinesNot (function_of w.now.entries) }
     requires facts { KnownFacts (function_of w.now.entries) ctx.now.0 }
     requires constant { t.now ≡ Quote v.now }
     ensures stands { IfOk result (λ q. Stands w.now q) }
@@ -134,6 +147,7 @@ pub(crate) fn value_equiv(
     requires term { IsTrue (known (function_of w.now.entries) t.now) }
     requires constants { IsTrue (is_constant_call t.now) }
     requires value { HasValue (function_of w.now.entries) t.now [] (val_of value) }
+    requires run { IsTrue (gives_value value (metered (function_of w.now.entries) t.now [] 2000)) }
     ensures stands { IfOk result (λ q. Stands w.now q) }
     ensures made { IfOk result (λ q. q.says ≡ leads_made ctx.now mode t.now (Quote value)) }
 {
@@ -144,6 +158,7 @@ pub(crate) fn value_equiv(
 
 /// Where a term leads under `iff` to a constant that isn't `nil`, on to `'T`.
 pub fn to_true(alloc: Global, w: &World, q: Equiv) -> Result<Equiv, NoMemory>
+    requires ground { DefinesNot (function_of w.now.entries) }
     requires stands { Stands w.now q }
     requires mode { q.says.mode ≡ Iff }
     requires constant { IsTrue (is_constant true q.says.rhs) }
@@ -197,6 +212,7 @@ fn typed(
     requires facts { KnownFacts (function_of w.now.entries) ctx.now.0 }
     requires term { IsTrue (known (function_of w.now.entries) t.now) }
     requires mask { MaskHolds (function_of w.now.entries) ctx.now.0 t.now mask }
+    requires exact { mask.0 ≡ types w.now ctx.now.0 t.now }
     requires value { IsTrue (leads_to mask (val_of value)) }
     requires serves { Serves (typed_mode mask (val_of value)) mode }
     ensures stands { IfOk result (λ q. Stands w.now q) }
@@ -220,6 +236,7 @@ fn settled_to(
     requires facts { KnownFacts (function_of w.now.entries) ctx.now.0 }
     requires term { IsTrue (known (function_of w.now.entries) t.now) }
     requires mask { MaskHolds (function_of w.now.entries) ctx.now.0 t.now mask }
+    requires exact { mask.0 ≡ types w.now ctx.now.0 t.now }
     requires value { IfSome found (λ v. IsTrue (leads_to mask (val_of v))) }
     requires serves { IfSome found (λ v. Serves (typed_mode mask (val_of v)) mode) }
     ensures stands { IfOk result (λ q. Stands w.now q) }

@@ -15,11 +15,12 @@ ghost use Rattle.ap_kernel.specs.Standing.{DefinesNot, Stands};
 ghost use Rattle.ap_rewrite.specs.Leading.{leads_made, plain_in};
 ghost use Rattle.ap_rewrite.specs.Rewriting.{truth_of, shaped, unwrapped, negated};
 
-use crate::settling::{lacks, nil_value, t_value, value_equiv};
+use crate::settling::{in_mode, lacks, nil_value, t_value};
 use ap_kernel::{
-    Ctx, Equiv, Mask, Mode, NoMemory, ShapeRef, Term, TypeOracle, Value, World, bare_test,
+    Ctx, Equiv, Mask, Mode, NoMemory, ShapeRef, Term, TypeOracle, Value, World, bare_test, by_type,
     double_not, if_shape, is_nil, refl, shape_of,
 };
+use ap_types::types_of;
 use ap_world::masks;
 use std::alloc::Global;
 
@@ -57,7 +58,8 @@ fn negation_of(v: &Value) -> Value
     nil_value()
 }
 
-/// From the negation of a constant to `'T` or `'NIL`.
+/// From the negation of a constant to `'T` or `'NIL`, by its types: that running gives it within 2,000 units isn't so
+/// of every constant.
 pub(crate) fn not_constant(
     alloc: Global,
     w: &World,
@@ -72,9 +74,10 @@ pub(crate) fn not_constant(
     ensures stands { IfOk result (λ q. Stands w.now q) }
     ensures made { IfOk result (λ q. q.says ≡ leads_made ctx.now mode t.now (truth_constant (value_eq (val_of v.now) nil))) }
 {
-    w.recall_sound();
     let value = negation_of(v);
-    let q = value_equiv(alloc, w, ctx, mode, t, value)?;
+    let mask = types_of(alloc, w, ctx, t)?;
+    let first = by_type(alloc, w, ctx, t, mask, value)?;
+    let q = in_mode(alloc, w, first, mode)?;
     Ok(q)
 }
 

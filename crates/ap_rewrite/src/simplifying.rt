@@ -9,10 +9,11 @@ ghost use Rattle.ap_kernel.specs.Standing.{DefinesNot, Stands};
 ghost use Rattle.ap_kernel.specs.Reductions.{KnownClause, Reduces, put_at, others, all_false, to_one, rewritten};
 ghost use Rattle.ap_clausify.specs.Splitting.{settled_left, steps_left};
 ghost use Rattle.ap_rewrite.specs.Literals.{rewrite_literal, rewrite_literals, rewritten_to, split_left, simplify_of};
-ghost use Rattle.ap_rewrite.specs.Answering.{defs_in, Ready, setting_of, got};
+ghost use Rattle.ap_rewrite.specs.Answering.{defs_in, Ready, setting_of, got, IsFor};
 ghost use Rattle.ap_rewrite.specs.Simplifying.{got_reduced, literals_left, HasPlace, FitsLiteral, LeavesTrue};
 
-use crate::literals::literal;
+use crate::literals::literal_kept;
+use crate::memos::Memo;
 use crate::rewriter::Rewriter;
 use ap_clausify::split;
 use ap_kernel::{
@@ -36,6 +37,7 @@ fn first_left(alloc: Global, q: &Reduction) -> Result<Clause, NoMemory>
 /// out.
 fn literal_at<O: TypeOracle + LinearOracle>(
     r: &Rewriter<'_, O>,
+    memo: &mut Memo<'_>,
     steps: &mut Steps,
     c: &Clause,
     place: usize,
@@ -43,15 +45,17 @@ fn literal_at<O: TypeOracle + LinearOracle>(
     requires ready { Ready r.now }
     requires clause { KnownClause (defs_in r.now) c.now }
     requires place { place < length c.now.0 }
+    requires same { IsFor r.now memo.old }
     ensures is { IfOk result (λ o. (u : Term) → slice_get c.now.0 place ≡ Some u → got o steps.new.left ≡ rewrite_literal (setting_of r.now) (take place c.now.0) (drop (place + 1) c.now.0) u steps.old.left) }
     ensures stands { IfOk result (λ o. IfSome o (λ q. Stands r.now.w.now q)) }
     ensures place { IfOk result (λ o. IfSome o (λ q. slice_get c.now.0 place ≡ Some q.says.lhs)) }
     ensures facts { IfOk result (λ o. IfSome o (λ q. q.says.ctx.0 ≡ all_false (others place c.now.0))) }
+    ensures kept { memo.new ≡ memo.old }
 {
     let ctx = others_false(r.alloc, c.0.as_slice(), place)?;
     let t = &c.0.as_slice()[place];
-    let found = literal(
-        r.alloc, r.w, r.rules, r.theory, r.expand, r.oracle, &ctx, steps, t,
+    let found = literal_kept(
+        memo, r.alloc, r.w, r.rules, r.theory, r.expand, r.oracle, &ctx, steps, t,
     )?;
     Ok(found)
 }
@@ -60,6 +64,7 @@ fn literal_at<O: TypeOracle + LinearOracle>(
 /// steps run out.
 fn literal_left<O: TypeOracle + LinearOracle>(
     r: &Rewriter<'_, O>,
+    memo: &mut Memo<'_>,
     steps: &mut Steps,
     so_far: &Reduction,
     place: usize,
@@ -67,12 +72,14 @@ fn literal_left<O: TypeOracle + LinearOracle>(
     requires ready { Ready r.now }
     requires stands { Reduces r.now.w.now so_far.now }
     requires place { HasPlace so_far.now.says place }
+    requires same { IsFor r.now memo.old }
     ensures is { IfOk result (λ o. (us : List Term) (u : Term) → so_far.now.says.to ≡ record { 0 = us } ∷ [] → slice_get us place ≡ Some u → got o steps.new.left ≡ rewrite_literal (setting_of r.now) (take place us) (drop (place + 1) us) u steps.old.left) }
     ensures stands { IfOk result (λ o. IfSome o (λ q. Stands r.now.w.now q)) }
     ensures fits { IfOk result (λ o. IfSome o (FitsLiteral so_far.now.says place)) }
+    ensures kept { memo.new ≡ memo.old }
 {
     let clauses = so_far.to().as_slice();
-    let found = literal_at(r, steps, &clauses[0], place)?;
+    let found = literal_at(r, memo, steps, &clauses[0], place)?;
     Ok(found)
 }
 
@@ -102,6 +109,7 @@ fn with_literal(
 /// literal doesn't change nothing is made.
 fn advance<O: TypeOracle + LinearOracle>(
     r: &Rewriter<'_, O>,
+    memo: &mut Memo<'_>,
     steps: &mut Steps,
     so_far: Reduction,
     place: usize,
@@ -109,10 +117,12 @@ fn advance<O: TypeOracle + LinearOracle>(
     requires ready { Ready r.now }
     requires stands { Reduces r.now.w.now so_far }
     requires place { HasPlace so_far.says place }
+    requires same { IsFor r.now memo.old }
     ensures is { IfOk result (λ o. (us : List Term) (u : Term) → so_far.says.to ≡ record { 0 = us } ∷ [] → slice_get us place ≡ Some u → got_reduced o steps.new.left ≡ mapped (λ v. to_one so_far.says.from (put_at place (v ∷ []) us)) (rewrite_literal (setting_of r.now) (take place us) (drop (place + 1) us) u steps.old.left)) }
     ensures stands { IfOk result (λ o. IfSome o (Reduces r.now.w.now)) }
+    ensures kept { memo.new ≡ memo.old }
 {
-    let Some(q) = literal_left(r, steps, &so_far, place)? else {
+    let Some(q) = literal_left(r, memo, steps, &so_far, place)? else {
         return Ok(None);
     };
     if q.is_unchanged() {
@@ -150,18 +160,21 @@ fn close(alloc: Global, w: &World, q: Reduction) -> Result<Reduction, NoMemory>
 /// false; to none where one becomes a constant other than `nil`. `None` where the steps run out.
 fn rewrite_literals<O: TypeOracle + LinearOracle>(
     r: &Rewriter<'_, O>,
+    memo: &mut Memo<'_>,
     steps: &mut Steps,
     c: Clause,
 ) -> Result<Option<Reduction>, NoMemory>
     requires ready { Ready r.now }
     requires clause { KnownClause (defs_in r.now) c }
+    requires same { IsFor r.now memo.old }
     ensures is { IfOk result (λ o. got_reduced o steps.new.left ≡ mapped (rewritten_to c) (rewrite_literals (setting_of r.now) [] c.0 steps.old.left)) }
     ensures stands { IfOk result (λ o. IfSome o (Reduces r.now.w.now)) }
+    ensures kept { memo.new ≡ memo.old }
 {
     let count = c.0.len();
     let mut so_far = keep(r.alloc, r.w, c)?;
     for place in 0..count {
-        let Some(next) = advance(r, steps, so_far, place)? else {
+        let Some(next) = advance(r, memo, steps, so_far, place)? else {
             return Ok(None);
         };
         so_far = next;
@@ -212,7 +225,8 @@ pub fn simplify<O: TypeOracle + LinearOracle>(
     ensures made { IfOk result (λ o. option_map (λ q. q.says) o ≡ option_map (λ p. record { from = c; to = p.0 }) (settled_left (simplify_of (setting_of r.now) steps.old.left c))) }
     ensures steps { IfOk result (λ o. steps.new.left ≡ steps_left (simplify_of (setting_of r.now) steps.old.left c)) }
 {
-    let Some(q) = rewrite_literals(r, steps, c)? else {
+    let mut memo = Memo::new(r.alloc, r.w, r.theory, r.expand);
+    let Some(q) = rewrite_literals(r, &mut memo, steps, c)? else {
         steps.left = 0;
         return Ok(None);
     };

@@ -6,7 +6,7 @@ use Rattle.ap_table.specs.declared.link.DropNote.{DropNote}
 use Rattle.ap_plain.specs.Ends.{Told, worlds_in, walks_in}
 use Rattle.ap_plain.specs.Drops.{DividedWalks}
 use Rattle.ap_events.specs.Books.{Earlier}
-use Rattle.ap_session.specs.Working.{Working, start}
+use Rattle.ap_session.specs.Working.{Working, Stands, start}
 
 -- what events are worked in, whether the last book is certified, so that its world is the last of the earlier ones, how
 -- many goals are worked at a time, and what was dropped: in the last event, and before
@@ -19,6 +19,11 @@ pub record AdmittingSeen : Type 0 where
 
 abbrev pub notes_in : AdmittingSeen → List DropNote
 notes_in a = a.noted ++ a.last
+
+-- What is kept of it: all that events want, and before anything is begun the world that each book begins with.
+pub record Ready (s : Working) (fresh : Bool) : Type 0 where
+  pub stands : Stands s
+  pub begins : fresh ≡ true → s.world ≡ start
 
 -- the world of the last of some books, and a given one where there is none
 abbrev pub last_world : Earlier → Shown → Shown

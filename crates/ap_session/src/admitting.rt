@@ -10,10 +10,10 @@ ghost use Rattle.ap_events.specs.Backing.{Backed};
 ghost use Rattle.ap_events.specs.Books.{worked_again};
 ghost use Rattle.ap_session.specs.Admitting.{notes_in, last_world, left_in, IsTold, Behind};
 ghost use Rattle.ap_session.specs.Session.{kept_by};
-ghost use Rattle.ap_session.specs.Working.{working_in, begin, admits, ends, has_failed, second_after, IfSoFar, Stands};
+ghost use Rattle.ap_session.specs.Working.{working_in, begin, admits, ends, has_failed, second_after, start, IfSoFar, Stands};
 
 use crate::second::Second;
-use crate::start::starting_world;
+use crate::start::{once_more, starting_world};
 use ap_attempt::{DropNote, Gate};
 use ap_books::Ended;
 use ap_events::{KeptBook, Limits, Outcome, Ruled, again_is_covered, work, worlds_grow};
@@ -34,12 +34,14 @@ pub(crate) struct Turn {
     pub(crate) goals: usize,
 }
 
-/// What works the events of books: the world of the first pass, the second pass, the kept worlds of the certified books
-/// before, and whether the last book is among these; the limits of attempts, how many goals are worked at a time, and the
+/// What works the events of books: the world of the first pass, and whether it is still the one that was made at the start,
+/// for the first book that is begun; the second pass, the kept worlds of the certified books before, and whether the last
+/// book is among these; the limits of attempts, how many goals are worked at a time, and the
 /// gate that workers pass; and what was dropped, in the last event and before.
 #[derive(Drop)]
 pub(crate) struct Admitting<'a, G> {
     world: Ruled,
+    fresh: bool,
     second: Second,
     earlier: Seq<KeptBook>,
     kept: bool,
@@ -54,8 +56,8 @@ impl<'a, G> Model for Admitting<'a, G> {
     ghost use Rattle.std.specs.Coded.{codes};
     ghost use Rattle.ap_term.specs.contracts.term.Term as term;
     ghost use Rattle.ap_value.specs.contracts.value.Value as value;
-    ghost use Rattle.ap_session.specs.Working.{working_in, Stands};
-    ghost use Rattle.ap_session.specs.Admitting.{AdmittingSeen};
+    ghost use Rattle.ap_session.specs.Working.{working_in};
+    ghost use Rattle.ap_session.specs.Admitting.{AdmittingSeen, Ready};
 
     ghost Value = { AdmittingSeen };
 
@@ -63,7 +65,7 @@ impl<'a, G> Model for Admitting<'a, G> {
 
     ghost view = { λ a. record { working = working_in a.limits a.earlier a.world a.second; kept = a.kept; workers = a.workers; noted = a.noted.items; last = a.last.items } };
 
-    ghost invariant = { λ a. Stands (working_in a.limits a.earlier a.world a.second) };
+    ghost invariant = { λ a. Ready (working_in a.limits a.earlier a.world a.second) a.fresh };
 }
 
 /// A world is sound by its type.
@@ -148,7 +150,8 @@ fn last_world(mut earlier: Seq<KeptBook>, world: Ruled) -> World
 }
 
 impl<'a, G> Admitting<'a, G> {
-    /// What works events under these limits. Nothing is kept or noted yet, and no book is begun.
+    /// What works events under these limits, from the world that a book begins with. Nothing is kept or noted yet, and no
+    /// book is begun.
     pub(crate) fn new(
         alloc: Global,
         limits: Limits,
@@ -156,7 +159,8 @@ impl<'a, G> Admitting<'a, G> {
         world: Ruled,
         gate: &'a G,
     ) -> Admitting<'a, G>
-        requires { HasFunctions (function_of world.entries) }
+        requires begun { world ≡ start }
+        requires functions { HasFunctions (function_of world.entries) }
         ensures limits { result.working.limits ≡ limits }
         ensures earlier { result.working.earlier ≡ [] }
         ensures left { left_in result ≡ world }
@@ -165,6 +169,7 @@ impl<'a, G> Admitting<'a, G> {
     {
         Admitting {
             world,
+            fresh: true,
             second: Second::Failed(Bytes::new(alloc)),
             earlier: Seq::new(alloc),
             kept: false,
@@ -176,13 +181,21 @@ impl<'a, G> Admitting<'a, G> {
         }
     }
 
-    /// Begins a book: both passes begin with the world that each book begins with. Where memory is wanting all stays.
+    /// Begins a book: both passes begin with the world that each book begins with, which the first book takes over. Where
+    /// memory is wanting all stays.
     pub(crate) fn begin(&mut self, alloc: Global) -> Result<(), NoMemory>
         ensures ok { OnOk result (self.new ≡ record self.old { working = begin self.old.working.limits self.old.working.earlier; kept = false }) }
         ensures err { OnErr result (self.new ≡ self.old) }
     {
+        if self.fresh {
+            let again = once_more(alloc, &self.world)?;
+            self.second = Second::SoFar(again);
+            self.fresh = false;
+            self.kept = false;
+            return Ok(());
+        }
         let world = starting_world(alloc)?;
-        let again = starting_world(alloc)?;
+        let again = once_more(alloc, &world)?;
         self.world = world;
         self.second = Second::SoFar(again);
         self.kept = false;
@@ -261,6 +274,7 @@ impl<G: Gate + Sync> Admitting<'_, G> {
         ensures behind { Behind self.old self.new (admits self.old.working form.now).log }
     {
         self.noted.append(&mut self.last)?;
+        self.fresh = false;
         let done = work_both(
             rt,
             alloc,

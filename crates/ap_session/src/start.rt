@@ -14,3 +14,11 @@ pub(crate) fn starting_world(alloc: Global) -> Result<Ruled, NoMemory>
     let world = ground_world(alloc)?;
     Ruled::of(alloc, world)
 }
+
+/// The same world once more: its entries are copied by their counts, and the index is made anew.
+pub(crate) fn once_more(alloc: Global, world: &Ruled) -> Result<Ruled, NoMemory>
+    ensures { IfOk result (λ w. w ≡ world.now) }
+{
+    let copy = world.world().copy_world(alloc)?;
+    Ruled::of(alloc, copy)
+}

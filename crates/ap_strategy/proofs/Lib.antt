@@ -4,3 +4,4 @@ pub mod Counted
 pub mod Grounded
 pub mod Kept
 pub mod Made
+pub mod StepLeads

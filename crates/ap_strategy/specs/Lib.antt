@@ -1,6 +1,7 @@
 pub mod Depths
 pub mod Goals
 pub mod Steps
+pub mod Leads
 pub mod Hinted
 pub mod Later
 pub mod Repeats

@@ -35,6 +35,17 @@ pub fn copy_clause(alloc: Global, c: &Clause) -> Result<Clause, NoMemory>
     Ok(Clause(copy_terms(alloc, c.0.as_slice())?))
 }
 
+/// Copies of clauses, in their order.
+pub(crate) fn copy_clauses(alloc: Global, clauses: &[Clause]) -> Result<Seq<Clause>, NoMemory>
+    ensures { IfOk result (λ ds. ds ≡ clauses.now) }
+{
+    let mut out = Seq::new(alloc);
+    for c in clauses {
+        out.push(copy_clause(alloc, c)?)?;
+    }
+    Ok(out)
+}
+
 /// A copy of a term, where there is one.
 pub(crate) fn copy_scheme(alloc: Global, scheme: &Option<Term>) -> Result<Option<Term>, NoMemory>
     ensures { IfOk result (λ s. s ≡ scheme.now) }

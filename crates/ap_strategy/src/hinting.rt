@@ -1,18 +1,20 @@
 // What a hint says of a goal: the settings that hold for it and all below, and what is made of its clause.
-ghost use Rattle.std.specs.Prelude.{◌≡◌, ◌<◌, ◌^◌, length, map, IfOk, Some, unwrap_or};
+ghost use Rattle.std.specs.Prelude.{◌≡◌, ◌<◌, ◌^◌, [], ◌∷◌, length, map, IfOk, Some, unwrap_or};
 ghost use Rattle.std.specs.Option.{option_copied};
 ghost use Rattle.ap_list.specs.Lists.{Each};
 ghost use Rattle.ap_world.specs.World.{function_of, theorem_of};
 ghost use Rattle.ap_hints.specs.Known.{KnownUse, KnownHint};
 ghost use Rattle.ap_kernel.specs.Standing.{DefinesNot};
-ghost use Rattle.ap_kernel.specs.Reductions.{KnownClause};
+ghost use Rattle.ap_kernel.specs.Reductions.{KnownClause, Reduces, claims};
+ghost use Rattle.ap_term.specs.declared.term.Clause.{Clause};
 ghost use Rattle.ap_strategy.specs.Goals.{hint_among, hint_for, with_hint, scheme_by};
-ghost use Rattle.ap_strategy.specs.Steps.{makes_goals, used_in, used_all, hint_goals};
+ghost use Rattle.ap_strategy.specs.Leads.{used_from};
+ghost use Rattle.ap_strategy.specs.Steps.{makes_goals, used_in, hint_goals, reduced_to};
 
-use crate::clauses::copy_scheme;
+use crate::clauses::{copy_clause, copy_scheme};
 use crate::plan::{Plan, Settings, copy_settings};
 use ap_hints::Hint;
-use ap_kernel::{cases, use_fact};
+use ap_kernel::{Reduction, cases, chain, keep, then, use_fact};
 use ap_list::{NoMemory, Seq};
 use ap_names::{GoalName, is_name};
 use ap_term::{Clause, Subst, Term, copy_terms};
@@ -101,65 +103,90 @@ pub(crate) fn makes_goals(hint: &Hint) -> bool
     !hint.uses.is_empty() || !hint.cases.is_empty()
 }
 
-/// A clause, which is moved, with the negated instance of a theorem before it.
-fn with_use(alloc: Global, w: &World, c: Clause, fact: &(Symbol, Subst)) -> Result<Clause, NoMemory>
+/// A reduction to one clause, which is moved, and on to that clause with the negated instance of a theorem before it.
+fn with_use(
+    alloc: Global,
+    w: &World,
+    r: Reduction,
+    fact: &(Symbol, Subst),
+) -> Result<Reduction, NoMemory>
     requires ground { DefinesNot (function_of w.now.entries) }
-    requires clause { KnownClause (function_of w.now.entries) c }
+    requires stands { Reduces w.now r }
     requires fact { KnownUse w.now.entries fact.now }
-    ensures made { IfOk result (λ d. d ≡ used_in (theorem_of w.now.entries fact.now.0) fact.now.1 c) }
-    ensures known { IfOk result (λ d. KnownClause (function_of w.now.entries) d) }
+    ensures stands { IfOk result (λ q. Reduces w.now q) }
+    ensures made { (d : Clause) → r.says.to ≡ d ∷ [] → IfOk result (λ q. q.says ≡ reduced_to r.says.from (used_in (theorem_of w.now.entries fact.now.0) fact.now.1 d ∷ [])) }
 {
-    let (_, clauses) = use_fact(alloc, w, c, &fact.0, &fact.1)?.into_parts();
-    let mut clauses = clauses;
-    let Some(clause) = clauses.pop() else {
-        unreachable!()
+    let [clause] = r.to().as_slice() else {
+        return Ok(r);
     };
-    Ok(clause)
+    let next = use_fact(alloc, w, copy_clause(alloc, clause)?, &fact.0, &fact.1)?;
+    let answer = then(alloc, w, r, next)?;
+    Ok(answer)
 }
 
-/// A clause, which is moved, with the negated instances of theorems before it, the first of them first.
+/// From a clause to itself with the negated instances of theorems before it, the first of them first.
 fn with_uses(
     alloc: Global,
     w: &World,
     c: Clause,
     uses: &[(Symbol, Subst)],
-) -> Result<Clause, NoMemory>
+) -> Result<Reduction, NoMemory>
     requires ground { DefinesNot (function_of w.now.entries) }
     requires clause { KnownClause (function_of w.now.entries) c }
     requires uses { Each (KnownUse w.now.entries) uses.now }
-    ensures made { IfOk result (λ d. d ≡ used_all w.now.entries uses.now c) }
-    ensures known { IfOk result (λ d. KnownClause (function_of w.now.entries) d) }
+    ensures stands { IfOk result (λ r. Reduces w.now r) }
+    ensures made { IfOk result (λ r. r.says ≡ used_from w.now.entries uses.now c) }
 {
-    let mut clause = c;
+    let mut reduction = keep(alloc, w, c)?;
     let mut at = uses.len();
     while at > 0 {
         at -= 1;
-        clause = with_use(alloc, w, clause, &uses[at])?;
+        reduction = with_use(alloc, w, reduction, &uses[at])?;
     }
-    Ok(clause)
+    Ok(reduction)
 }
 
-/// The clauses with the negated instances of theorems before each.
+/// The same from each of some clauses.
 fn all_with_uses(
     alloc: Global,
     w: &World,
-    clauses: Seq<Clause>,
+    clauses: &[Clause],
     uses: &[(Symbol, Subst)],
-) -> Result<Seq<Clause>, NoMemory>
+) -> Result<Seq<Reduction>, NoMemory>
     requires ground { DefinesNot (function_of w.now.entries) }
-    requires clauses { Each (KnownClause (function_of w.now.entries)) clauses }
+    requires clauses { Each (KnownClause (function_of w.now.entries)) clauses.now }
     requires uses { Each (KnownUse w.now.entries) uses.now }
-    ensures made { IfOk result (λ ds. ds ≡ map (used_all w.now.entries uses.now) clauses) }
-    ensures known { IfOk result (λ ds. Each (KnownClause (function_of w.now.entries)) ds) }
+    ensures stand { IfOk result (λ rs. Each (Reduces w.now) rs) }
+    ensures made { IfOk result (λ rs. claims rs ≡ map (used_from w.now.entries uses.now) clauses.now) }
 {
     let mut out = Seq::new(alloc);
-    for clause in clauses.into_vec() {
-        out.push(with_uses(alloc, w, clause, uses)?)?;
+    for clause in clauses {
+        let reduction = with_uses(alloc, w, copy_clause(alloc, clause)?, uses)?;
+        out.push(reduction)?;
     }
     Ok(out)
 }
 
-/// What a hint makes of a clause, by the kernel's rows: its cases, in each of which the instances are assumed.
+/// From a clause to what a hint makes of it, by the kernel's rows: its cases, in each of which the instances are assumed.
+pub(crate) fn by_hint(
+    alloc: Global,
+    w: &World,
+    hint: &Hint,
+    c: Clause,
+) -> Result<Reduction, NoMemory>
+    requires ground { DefinesNot (function_of w.now.entries) }
+    requires clause { KnownClause (function_of w.now.entries) c }
+    requires hint { KnownHint w.now.entries hint.now }
+    ensures stands { IfOk result (λ r. Reduces w.now r) }
+    ensures made { IfOk result (λ r. r.says ≡ reduced_to c (hint_goals w.now.entries hint.now c)) }
+{
+    let cases = cases(alloc, w, c, &hint.cases)?;
+    let each = all_with_uses(alloc, w, cases.to().as_slice(), hint.uses.as_slice())?;
+    let answer = chain(alloc, w, cases, each)?;
+    Ok(answer)
+}
+
+/// What a hint makes of a clause.
 pub(crate) fn hint_goals(
     alloc: Global,
     w: &World,
@@ -173,7 +200,6 @@ pub(crate) fn hint_goals(
     ensures known { IfOk result (λ ds. Each (KnownClause (function_of w.now.entries)) ds) }
     ensures few { IfOk result (λ ds. length ds < 2 ^ 32) }
 {
-    let (_, cases) = cases(alloc, w, c, &hint.cases)?.into_parts();
-    let goals = all_with_uses(alloc, w, cases, hint.uses.as_slice())?;
+    let (_, goals) = by_hint(alloc, w, hint, c)?.into_parts();
     Ok(goals)
 }

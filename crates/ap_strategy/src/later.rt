@@ -1,11 +1,12 @@
 // The processes behind simplification, in their order.
-ghost use Rattle.std.specs.Prelude.{◌≡◌, ◌<◌, ◌^◌, IfOk, IfSome, length, map};
+ghost use Rattle.std.specs.Prelude.{◌≡◌, ◌<◌, ◌^◌, IfOk, IfSome, Some, length, map};
 ghost use Rattle.std.specs.Option.{option_map};
 ghost use Rattle.ap_list.specs.Lists.{Each};
 ghost use Rattle.ap_walk.specs.declared.act.Process.{Process};
 ghost use Rattle.ap_kernel.specs.Reductions.{KnownClause};
 ghost use Rattle.ap_kernel.specs.Solving.{any_true};
 ghost use Rattle.ap_strategy.specs.Goals.{defs_of};
+ghost use Rattle.ap_strategy.specs.Leads.{LeadsFrom, made_of};
 ghost use Rattle.ap_strategy.specs.Steps.{process_number, is_process, is_skipped, made_by, by_elim, by_fertilize, by_generalize, by_irrelevance, later};
 
 use crate::oracles::Oracles;
@@ -18,6 +19,9 @@ use ap_term::Clause;
 use ap_walk::Process;
 use ap_weaken::{fertilize, generalize, irrelevance};
 use std::alloc::Global;
+
+/// A process, and what it reduces a goal's clause to.
+pub(crate) type Applied = (Process, Reduction);
 
 /// A process, and the clauses that it makes of a goal's clause.
 pub(crate) type Made = (Process, Seq<Clause>);
@@ -65,17 +69,27 @@ fn is_skipped<J: Planned>(task: &Task<'_, J>, process: Process) -> bool
     is_among(process, task.settings.skip.as_slice())
 }
 
-/// A process with the clauses that it makes, where it applies.
-fn made_by(process: Process, reduction: Option<Reduction>) -> Option<Made>
-    ensures { result ≡ option_map (made_by process) (option_map (λ r. r.says) reduction) }
+/// A process with what it reduces a clause to, where it applies.
+fn applied(process: Process, reduction: Option<Reduction>) -> Option<Applied>
+    ensures made { option_map made_of result ≡ option_map (made_by process) (option_map (λ r. r.says) reduction) }
+    ensures kept { IfSome result (λ p. reduction ≡ Some p.1) }
 {
-    let (_, clauses) = reduction?.into_parts();
+    Some((process, reduction?))
+}
+
+/// A process with the clauses that it makes.
+fn made_of(applied: Option<Applied>) -> Option<Made>
+    ensures { result ≡ option_map made_of applied }
+{
+    let (process, reduction) = applied?;
+    let (_, clauses) = reduction.into_parts();
     Some((process, clauses))
 }
 
 /// Elimination, unless it is skipped.
-fn by_elim<J: Planned>(alloc: Global, task: &Task<'_, J>) -> Result<Option<Made>, NoMemory>
-    ensures { IfOk result (λ o. o ≡ by_elim task.now) }
+fn by_elim<J: Planned>(alloc: Global, task: &Task<'_, J>) -> Result<Option<Applied>, NoMemory>
+    ensures made { IfOk result (λ o. option_map made_of o ≡ by_elim task.now) }
+    ensures leads { IfOk result (λ o. IfSome o (λ p. LeadsFrom task.now p.1)) }
 {
     if is_skipped(task, Process::Elim) {
         return Ok(None);
@@ -83,51 +97,58 @@ fn by_elim<J: Planned>(alloc: Global, task: &Task<'_, J>) -> Result<Option<Made>
     task.recall_goal();
     let w = task.plan.world.world();
     let made = elim(alloc, w, &task.settings.theory, &task.clause)?;
-    Ok(made_by(Process::Elim, made))
+    Ok(applied(Process::Elim, made))
 }
 
 /// Cross-fertilization, unless it is skipped.
-fn by_fertilize<J: Planned>(alloc: Global, task: &Task<'_, J>) -> Result<Option<Made>, NoMemory>
-    ensures { IfOk result (λ o. o ≡ by_fertilize task.now) }
+fn by_fertilize<J: Planned>(alloc: Global, task: &Task<'_, J>) -> Result<Option<Applied>, NoMemory>
+    ensures made { IfOk result (λ o. option_map made_of o ≡ by_fertilize task.now) }
+    ensures leads { IfOk result (λ o. IfSome o (λ p. LeadsFrom task.now p.1)) }
 {
     if is_skipped(task, Process::Fertilize) {
         return Ok(None);
     }
     task.recall_goal();
     let made = fertilize(alloc, task.plan.world.world(), &task.clause)?;
-    Ok(made_by(Process::Fertilize, made))
+    Ok(applied(Process::Fertilize, made))
 }
 
 /// Generalization, unless it is skipped.
-fn by_generalize<J: Planned>(alloc: Global, task: &Task<'_, J>) -> Result<Option<Made>, NoMemory>
-    ensures { IfOk result (λ o. o ≡ by_generalize task.now) }
+fn by_generalize<J: Planned>(alloc: Global, task: &Task<'_, J>) -> Result<Option<Applied>, NoMemory>
+    ensures made { IfOk result (λ o. option_map made_of o ≡ by_generalize task.now) }
+    ensures leads { IfOk result (λ o. IfSome o (λ p. LeadsFrom task.now p.1)) }
 {
     if is_skipped(task, Process::Generalize) {
         return Ok(None);
     }
     task.recall_goal();
     let made = generalize(alloc, task.plan.world.world(), &Oracles, &task.clause)?;
-    Ok(made_by(Process::Generalize, made))
+    Ok(applied(Process::Generalize, made))
 }
 
 /// The dropping of what is irrelevant, unless it is skipped.
-fn by_irrelevance<J: Planned>(alloc: Global, task: &Task<'_, J>) -> Result<Option<Made>, NoMemory>
-    ensures { IfOk result (λ o. o ≡ by_irrelevance task.now) }
+fn by_irrelevance<J: Planned>(
+    alloc: Global,
+    task: &Task<'_, J>,
+) -> Result<Option<Applied>, NoMemory>
+    ensures made { IfOk result (λ o. option_map made_of o ≡ by_irrelevance task.now) }
+    ensures leads { IfOk result (λ o. IfSome o (λ p. LeadsFrom task.now p.1)) }
 {
     if is_skipped(task, Process::Irrelevance) {
         return Ok(None);
     }
     task.recall_goal();
     let made = irrelevance(alloc, task.plan.world.world(), &task.clause)?;
-    Ok(made_by(Process::Irrelevance, made))
+    Ok(applied(Process::Irrelevance, made))
 }
 
-/// The first of these that applies.
-fn first_that_applies<J: Planned>(
+/// The first of these that applies, and what it reduces the task's clause to. `None` where none applies.
+pub(crate) fn first_that_applies<J: Planned>(
     alloc: Global,
     task: &Task<'_, J>,
-) -> Result<Option<Made>, NoMemory>
-    ensures { IfOk result (λ o. o ≡ later task.now) }
+) -> Result<Option<Applied>, NoMemory>
+    ensures made { IfOk result (λ o. option_map made_of o ≡ later task.now) }
+    ensures leads { IfOk result (λ o. IfSome o (λ p. LeadsFrom task.now p.1)) }
 {
     if let Some(made) = by_elim(alloc, task)? {
         return Ok(Some(made));
@@ -150,6 +171,7 @@ pub(crate) fn later<J: Planned>(alloc: Global, task: &Task<'_, J>) -> Result<Opt
 {
     task.recall_goal();
     task.plan.world.world().recall_sound();
-    let made = first_that_applies(alloc, task)?;
+    let first = first_that_applies(alloc, task)?;
+    let made = made_of(first);
     Ok(made)
 }

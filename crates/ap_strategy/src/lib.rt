@@ -15,6 +15,7 @@ mod hinting;
 mod later;
 mod oracles;
 mod plan;
+mod reducing;
 mod same;
 mod simplifying;
 mod step;

@@ -90,7 +90,7 @@ fn open(
 }
 
 /// From a clause to what it is reduced to. `None` where the steps ran out.
-fn reduce(
+pub(crate) fn reduce(
     alloc: Global,
     plan: &Plan,
     settings: &Settings,

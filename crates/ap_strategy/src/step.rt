@@ -1,12 +1,17 @@
-ghost use Rattle.std.specs.Prelude.{◌≡◌, IfOk, IsTrue};
+ghost use Rattle.std.specs.Prelude.{◌≡◌, IfOk, IfSome, IsTrue};
+ghost use Rattle.std.specs.Option.{option_map};
 ghost use Rattle.ap_world.specs.Sound.{known, HasFunctions};
 ghost use Rattle.ap_hints.specs.Known.{KnownHints};
+ghost use Rattle.ap_kernel.specs.Reductions.{Reduces};
 ghost use Rattle.ap_strategy.specs.Goals.{defs_of, root_goal};
+ghost use Rattle.ap_strategy.specs.Leads.{said_once, reduction_of};
 
 use crate::depth::fits;
 use crate::plan::{Plan, Planned};
+use crate::reducing::reduction_of;
 use crate::stepping::step_of;
 use crate::task::{Task, copy_task, root_task, same_task};
+use ap_kernel::Reduction;
 use ap_list::NoMemory;
 use ap_names::GoalName;
 use ap_term::Term;
@@ -61,6 +66,19 @@ impl<'a, J: Planned> Acl2Step<'a, J> {
         ensures { IfOk result (λ t. t ≡ root_goal self.now.plan.now term.now) }
     {
         root_task(alloc, self.plan, term)
+    }
+
+    /// From a task's clause to the clauses of its step's children, by the kernel's rows. Simplification leaves later equal
+    /// clauses out of the children; here each stands as often as the rows lead to it. `None` exactly where the step
+    /// pushes the task or stops at it. The only error is want of memory, as at the step.
+    pub fn reduce(&self, alloc: Global, task: &Task<'a, J>) -> Result<Option<Reduction>, NoMemory>
+        ensures made { IfOk result (λ o. option_map said_once o ≡ reduction_of task.now) }
+        ensures stands { IfOk result (λ o. IfSome o (Reduces task.now.plan.world)) }
+    {
+        if !fits(&task.clause) {
+            return Err(AllocError);
+        }
+        reduction_of(alloc, task, self.shares)
     }
 }
 

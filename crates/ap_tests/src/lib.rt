@@ -1,10 +1,12 @@
-//! The tests of the libraries that stand on no world: lists, values, outside, tokens, names, forms, terms,
+//! The tests of the libraries that stand on no world: lists, values, outside, tokens, names, forms, terms, banks,
 //! printing, walks, attempts, words, certificates and a book's course, the last over an admitter that numbers the forms
 //! which it is handed. They stand above the libraries, so that none of these is proved a second time for its tests.
 #![tactic(auto)]
 
 #[cfg(test)]
 mod attempts;
+#[cfg(test)]
+mod banks;
 #[cfg(test)]
 mod books;
 #[cfg(test)]

@@ -4,9 +4,13 @@
 #[cfg(test)]
 mod clauses;
 #[cfg(test)]
+mod deep;
+#[cfg(test)]
 mod expect;
 #[cfg(test)]
 mod hints;
+#[cfg(test)]
+mod kept;
 #[cfg(test)]
 mod kernel;
 #[cfg(test)]

@@ -282,6 +282,23 @@ fn induction_cases<J: Planned>(alloc: Global, task: &Task<'_, J>) -> Result<Byte
     cases_of(alloc, induction.get())
 }
 
+/// How many clauses a task's clause is reduced to, where its step splits it.
+fn clauses_left<J: Planned>(alloc: Global, task: &Task<'_, J>) -> Result<Option<usize>, NoMemory> {
+    match Acl2Step::new(task.plan, 1).reduce(alloc, task)? {
+        Some(reduction) => Ok(Some(reduction.to().len())),
+        None => Ok(None),
+    }
+}
+
+/// The same of the induction of a task.
+fn induction_clauses<J: Planned>(
+    alloc: Global,
+    task: &Task<'_, J>,
+) -> Result<Option<usize>, NoMemory> {
+    let induction = Boxed::new(alloc, induct_task(alloc, task, 1)?)?;
+    clauses_left(alloc, induction.get())
+}
+
 fn expect_cases<J: Planned>(
     rt: &impl Abort,
     alloc: Global,
@@ -294,6 +311,7 @@ fn expect_cases<J: Planned>(
         "Subgoal *1/2, Subgoal *1/1",
         "the cases",
     );
+    assert!(rt; induction_clauses(alloc, task)? == Some(2), "their clauses");
     Ok(())
 }
 
@@ -340,6 +358,7 @@ fn expect_tasks<J: Planned>(
     assert!(rt; is_other(alloc, task)?, "an induction");
     let name = induction_name(alloc, task)?;
     expect(rt, name.as_slice(), "*1", "its name");
+    assert!(rt; clauses_left(alloc, task)? == None, "it is pushed");
     Ok(())
 }
 

@@ -1,9 +1,11 @@
 -- What the tests hand to the kernel's rows: a theorem (implies h h), and polynomials of literals.
-use Rattle.std.proofs.Common.{◌≡◌, ◌≢◌, Bool, true, false, cond, List, [], ◌∷◌, ◌++◌, inl, sym, ap, ◌∙◌, subst}
+use Rattle.std.proofs.Common.{◌≡◌, ◌≢◌, ℕ, Bool, true, false, cond, List, [], ◌∷◌, ◌++◌, length, replicate, slice_get, inl, sym, ap, ◌∙◌, subst}
 use Rattle.std.specs.Prelude.{Result, Ok, Err, IfOk, OnOk}
 use Rattle.ap_list.specs.Lists.{Each}
 use Rattle.ap_list.proofs.Eachs.{each_append}
+use Rattle.ap_value.specs.declared.value.Value.{Value}
 use Rattle.ap_value.specs.Values.{value_eq}
+use Rattle.ap_value.proofs.Constants.{constant_eq-same}
 use Rattle.ap_term.specs.declared.term.Term.{Term}
 use Rattle.ap_world.specs.declared.entry.Entry.{Entry}
 use Rattle.ap_world.specs.declared.entry.Entry.TheVariants as entry
@@ -23,9 +25,16 @@ use Rattle.ap_poly.specs.Polynomials.{Polynomial}
 use Rattle.ap_poly.specs.Holding.{PolyHolds}
 use Rattle.ap_poly.specs.Literals.{of_literal}
 use Rattle.ap_poly.proofs.LiteralsHold.{literals_hold}
+use Rattle.ap_world.specs.Facts.{Facts}
+use Rattle.ap_world.specs.Units.{gives, Assigned, metered}
+use Rattle.ap_kernel.specs.declared.linear.Why.{Why}
+use Rattle.ap_kernel.specs.declared.linear.Why.TheVariants as why
 use Rattle.ap_kernel.specs.declared.objects.Ctx.{Ctx}
 use Rattle.ap_kernel.specs.Linear.{PolysHold}
+use Rattle.ap_kernel.specs.Reasons.{AllGiven}
+use Rattle.ap_kernel.specs.Rows.{gives_value}
 use Rattle.ap_kernel.specs.Standing.{DefinesNot}
+use Rattle.ap_kernel.proofs.Reasoned.{given_both, literal_given, fact_given}
 
 -- what the kernel asks of a world is the first of its functions
 pub kernel_ground : (D : Defs) → HasFunctions D → DefinesNot D
@@ -73,3 +82,15 @@ two_hold D total c u f s is uk fk = λ e hs h.
 pub handed : (D : Defs) → Total D → (c : Ctx) (u f : Term) (s : Bool) (ps : List Polynomial) → c.0 ≡ (f, true) ∷ [] → known D u ≡ true → known D f ≡ true
     → ps ≡ of_literal u s ++ of_literal f true → PolysHold D c u s ps
 handed D total c u f s ps is uk fk made = subst (PolysHold D c u s) (sym made) (two_hold D total c u f s is uk fk)
+
+-- and each has its reason
+pub reasoned : (w : Shown) (c : Ctx) (u f : Term) (s : Bool) (ps : List Polynomial) (ys : List Why) → c.0 ≡ (f, true) ∷ [] → ps ≡ of_literal u s ++ of_literal f true
+    → ys ≡ replicate (length (of_literal u s)) why.Literal ++ replicate (length (of_literal f true)) (why.Fact 0) → AllGiven w c u s ps ys
+reasoned w c u f s ps ys is made told =
+    subst (λ (qs : List Polynomial). AllGiven w c u s qs ys) (sym made)
+    (subst (λ (zs : List Why). AllGiven w c u s (of_literal u s ++ of_literal f true) zs) (sym told)
+    (given_both w c u s (of_literal u s) (of_literal f true) _ _ (literal_given w c u s) (fact_given w c u s 0 (f, true) (ap (λ (fs : Facts). slice_get fs 0) is))))
+
+-- what running without an assignment gives is the value that is given
+pub run_gives : (D : Defs) (u : Term) (e : Assigned) (v : Value) (n : ℕ) → e ≡ [] → metered D u e 2000 ≡ gives v n → gives_value v (metered D u [] 2000) ≡ true
+run_gives D u e v n none is = ap (gives_value v) (ap (λ e. metered D u e 2000) (sym none) ∙ is) ∙ constant_eq-same v

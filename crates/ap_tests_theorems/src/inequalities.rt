@@ -1,16 +1,20 @@
 //! The rows on inequalities.
-ghost use Rattle.std.specs.Prelude.{◌≡◌, true, false, [], ◌∷◌, ◌++◌, IsTrue};
+ghost use Rattle.std.specs.Prelude.{◌≡◌, true, false, [], ◌∷◌, ◌++◌, IsTrue, length, replicate};
 ghost use Rattle.ap_world.specs.Sound.{known};
 ghost use Rattle.ap_world.specs.Facts.{KnownFacts};
 ghost use Rattle.ap_world.specs.World.{function_of};
+ghost use Rattle.ap_world.specs.Typing.{types};
 ghost use Rattle.ap_poly.specs.Literals.{of_literal};
+ghost use Rattle.ap_kernel.specs.declared.linear.Why.TheVariants.{Literal, Fact};
 ghost use Rattle.ap_kernel.specs.Linear.{is_within_integers, less_of};
 ghost use Rattle.ap_kernel.specs.Masks.{MaskHolds};
 ghost use Rattle.ap_kernel.specs.Standing.{DefinesNot};
 
 use crate::given::{symbol, term};
 use ap_eval::is_known;
-use ap_kernel::{Ctx, Equiv, Term, World, both_not_less, by_certificate, by_fact, is_comparison};
+use ap_kernel::{
+    Ctx, Equiv, Term, Why, World, both_not_less, by_certificate, by_fact, is_comparison,
+};
 use ap_linear::refute;
 use ap_list::Seq;
 use ap_poly::{Poly, of_literal};
@@ -30,12 +34,41 @@ fn one_fact(rt: &impl Abort, alloc: Global, t: Term) -> Ctx
     Ctx::new(alloc, out).expect(rt, "memory")
 }
 
-/// The polynomials of a literal and of a fact that is true.
-fn polys_of(rt: &impl Abort, alloc: Global, t: &Term, sign: bool, fact: &Term) -> Seq<Poly>
-    ensures { result ≡ of_literal t.now sign ++ of_literal fact.now true }
+/// Adds the reason that polynomials are those of the literal, for each.
+fn push_literal(rt: &impl Abort, whys: &mut Seq<Why>, count: usize)
+    ensures { whys.new ≡ whys.old ++ replicate count Literal }
+{
+    for _ in 0..count {
+        whys.push(Why::Literal).expect(rt, "memory");
+    }
+}
+
+/// Adds the reason that polynomials are those of the first fact, for each.
+fn push_fact(rt: &impl Abort, whys: &mut Seq<Why>, count: usize)
+    ensures { whys.new ≡ whys.old ++ replicate count (Fact 0) }
+{
+    for _ in 0..count {
+        whys.push(Why::Fact(0)).expect(rt, "memory");
+    }
+}
+
+/// The polynomials of a literal and of a fact that is true; the reason of each is added.
+fn polys_of(
+    rt: &impl Abort,
+    alloc: Global,
+    t: &Term,
+    sign: bool,
+    fact: &Term,
+    whys: &mut Seq<Why>,
+) -> Seq<Poly>
+    requires none { whys.now ≡ [] }
+    ensures polys { result ≡ of_literal t.now sign ++ of_literal fact.now true }
+    ensures whys { whys.new ≡ replicate (length (of_literal t.now sign)) Literal ++ replicate (length (of_literal fact.now true)) (Fact 0) }
 {
     let mut polys = of_literal(alloc, t, sign).expect(rt, "memory");
+    push_literal(rt, whys, polys.len());
     let more = of_literal(alloc, fact, true).expect(rt, "memory");
+    push_fact(rt, whys, more.len());
     polys.append(more).expect(rt, "memory");
     polys
 }
@@ -51,12 +84,13 @@ pub(crate) fn refuted(
 ) -> Option<Equiv> {
     let t = term(rt, alloc, w, literal);
     let fact = term(rt, alloc, w, fact);
-    let polys = polys_of(rt, alloc, &t, sign, &fact);
+    let mut whys = Seq::new(alloc);
+    let polys = polys_of(rt, alloc, &t, sign, &fact, &mut whys);
     let ctx = one_fact(rt, alloc, fact);
     w.recall_sound();
     match refute(alloc, w, &polys).expect(rt, "memory") {
         Some(by) if is_comparison(&t) => {
-            let answer = by_certificate(alloc, w, &ctx, &t, sign, polys, by);
+            let answer = by_certificate(alloc, w, &ctx, &t, sign, polys, whys, by);
             Some(answer.expect(rt, "memory"))
         }
         _ => None,
@@ -109,6 +143,8 @@ fn by_both(
     requires facts { KnownFacts (function_of w.now.entries) ctx.now.0 }
     requires left_holds { MaskHolds (function_of w.now.entries) ctx.now.0 a.now left }
     requires right_holds { MaskHolds (function_of w.now.entries) ctx.now.0 b.now right }
+    requires left_exact { left.0 ≡ types w.now ctx.now.0 a.now }
+    requires right_exact { right.0 ≡ types w.now ctx.now.0 b.now }
     requires left { IsTrue (is_within_integers left) }
     requires right { IsTrue (is_within_integers right) }
 {

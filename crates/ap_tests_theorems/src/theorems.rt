@@ -8,7 +8,9 @@ ghost use Rattle.ap_world.specs.Holding.{KnownPairs};
 ghost use Rattle.ap_world.specs.Meaning.{HasValue};
 ghost use Rattle.ap_world.specs.Sound.{known};
 ghost use Rattle.ap_world.specs.Names.{implies_name, x_name};
+ghost use Rattle.ap_world.specs.Units.{metered};
 ghost use Rattle.ap_world.specs.World.{function_of};
+ghost use Rattle.ap_kernel.specs.Rows.{gives_value};
 ghost use Rattle.ap_kernel.specs.Standing.{DefinesNot, Stands};
 
 use crate::given::{first_world, symbol, term};
@@ -151,7 +153,8 @@ pub(crate) fn opened(rt: &impl Abort, alloc: Global, w: &World, form: &Form) -> 
 /// The value of a term without variables, where running finds it.
 fn value_of(alloc: Global, w: &World, t: &Term) -> Option<Value>
     requires term { IsTrue (known (function_of w.now.entries) t.now) }
-    ensures { IfSome result (λ v. HasValue (function_of w.now.entries) t.now [] (val_of v)) }
+    ensures meant { IfSome result (λ v. HasValue (function_of w.now.entries) t.now [] (val_of v)) }
+    ensures run { IfSome result (λ v. IsTrue (gives_value v (metered (function_of w.now.entries) t.now [] 2000))) }
 {
     let env = Env(Seq::new(alloc));
     let Ok(value) = eval(alloc, w, t, &env, 2000) else {

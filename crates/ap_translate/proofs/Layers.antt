@@ -1,17 +1,23 @@
 -- One level of a form, by what its parts are.
-use Rattle.std.proofs.Common.{◌≡◌, ℕ, ◌+◌, true, List, Ok, ap, ◌∙◌}
+use Rattle.std.proofs.Common.{◌≡◌, ℕ, ◌+◌, true, List, Ok, sym, ap, ◌∙◌}
 use Rattle.ap_reader.specs.declared.form.Form.{Form}
 use Rattle.ap_reader.specs.declared.form.Body.TheOpen.{Body-F}
+use Rattle.ap_reader.specs.declared.tops.FormRef.{FormRef}
+use Rattle.ap_reader.specs.Tops.{as_layer}
 use Rattle.ap_world.specs.declared.entry.Entry.{Entry}
 use Rattle.ap_translate.specs.declared.fault.TransKind.TheVariants as kinds
 use Rattle.ap_translate.specs.Answers.{Answer, refused, ◌>>=◌, shaped, each}
-use Rattle.ap_translate.specs.Parts.{layer_of}
+use Rattle.ap_translate.specs.Parts.{Layer, layer_of}
 use Rattle.ap_translate.specs.Quoted.{constant_in}
 use Rattle.ap_translate.specs.Rows.{pieced}
 use Rattle.ap_translate.specs.Kept.{quote_pieced}
 use Rattle.ap_translate.specs.Plans.{plan_in}
 use Rattle.ap_translate.specs.Table.{Bound, Readers, quoted_term, plan_term, term_layer, part_layer, piece_layer, readers, term_in, part_in, piece_in, level}
 use Rattle.ap_translate.proofs.Nestings.{readers_none, readers_some}
+
+-- the level that is lent, by its kind
+pub lent_is : {r s : FormRef} {l : Layer} → as_layer r ≡ l → r ≡ s → l ≡ as_layer s
+lent_is lent is = sym lent ∙ ap as_layer is
 
 module _ (W : List Entry) (n : ℕ) (b : Bound) (f : Form) where
   -- where m more may be nested within it

@@ -8,18 +8,18 @@ use crate::fault::{TransError, TransKind, refused_at};
 use crate::names::acl2;
 use crate::sizes::{MOST_NODES, Values, add_value, no_values, small_value};
 use ap_list::{Bytes, NoMemory, Seq};
-use ap_reader::{Body, Form};
-use ap_value::{Value, copy_bytes, copy_symbol};
+use ap_reader::{Form, FormRef, lend};
+use ap_value::{Value, copy_symbol};
 use std::alloc::Global;
 
 /// The constant that a string is, where it has at most 4,096 nodes.
-pub(crate) fn string(alloc: Global, bytes: &Bytes) -> Result<Option<Value>, NoMemory>
+pub(crate) fn string(alloc: Global, bytes: &[u8]) -> Result<Option<Value>, NoMemory>
     ensures { IfOk result (λ o. o ≡ small_value (Str bytes.now)) }
 {
     if bytes.len() as u64 >= MOST_NODES {
         return Ok(None);
     }
-    Ok(Some(Value::string(alloc, copy_bytes(alloc, bytes)?)?))
+    Ok(Some(Value::string(alloc, Bytes::from_slice(alloc, bytes)?)?))
 }
 
 /// The constant `nil`.
@@ -106,26 +106,26 @@ pub(crate) fn constant(alloc: Global, left: usize, form: &Form) -> Result<Option
     ensures { Gives result (capped small_value (constant_in left form.now)) }
 {
     let place = form.place;
-    match &form.body {
-        Body::Int(n) => Ok(Some(Value::Int(*n))),
-        Body::Chr(code) => Ok(Some(Value::Chr(*code))),
-        Body::Str(bytes) => Ok(string(alloc, bytes)?),
-        Body::Sym(symbol) => Ok(Some(Value::Sym(copy_symbol(alloc, symbol)?))),
-        Body::List(items) => {
-            let found = list(alloc, left, place, items.as_slice())?;
+    match lend(form) {
+        FormRef::Int(n) => Ok(Some(Value::Int(n))),
+        FormRef::Chr(code) => Ok(Some(Value::Chr(code))),
+        FormRef::Str(bytes) => Ok(string(alloc, bytes)?),
+        FormRef::Sym(symbol) => Ok(Some(Value::Sym(copy_symbol(alloc, symbol)?))),
+        FormRef::List(items) => {
+            let found = list(alloc, left, place, items)?;
             Ok(found)
         }
-        Body::Dotted(items, last) => {
-            let found = dotted(alloc, left, place, items.as_slice(), last.get())?;
+        FormRef::Dotted(items, last) => {
+            let found = dotted(alloc, left, place, items, last)?;
             Ok(found)
         }
-        Body::Quoted(inner) => {
-            let found = quoted(alloc, left, place, inner.get())?;
+        FormRef::Quoted(inner) => {
+            let found = quoted(alloc, left, place, inner)?;
             Ok(found)
         }
-        Body::Quasi(_) => Err(refused_at(place, TransKind::BadForm)),
-        Body::Comma(_) => Err(refused_at(place, TransKind::CommaOutside)),
-        Body::CommaAt(_) => Err(refused_at(place, TransKind::CommaOutside)),
+        FormRef::Quasi(_) => Err(refused_at(place, TransKind::BadForm)),
+        FormRef::Comma(_) => Err(refused_at(place, TransKind::CommaOutside)),
+        FormRef::CommaAt(_) => Err(refused_at(place, TransKind::CommaOutside)),
     }
 }
 

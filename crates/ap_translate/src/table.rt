@@ -21,7 +21,7 @@ use crate::scope::{
 use crate::shapes::{Clause, Scoped, binding_in, clause_in, last_in};
 use crate::sizes::{add_term, no_terms, terms_of};
 use ap_list::{NoMemory, Seq};
-use ap_reader::{Body, Form};
+use ap_reader::{Form, FormRef, lend};
 use ap_term::Term;
 use ap_value::{Value, copy_symbol};
 use ap_world::World;
@@ -39,27 +39,27 @@ pub(crate) fn term(
     ensures { Gives result (capped small (term_in world.now.entries left bound.now.names form.now)) }
 {
     let place = form.place;
-    match &form.body {
-        Body::Int(n) => Ok(Some(Term::quote(Value::Int(*n)))),
-        Body::Chr(code) => Ok(Some(Term::quote(Value::Chr(*code)))),
-        Body::Str(bytes) => Ok(quote(string(alloc, bytes)?)),
-        Body::Sym(symbol) => symbol_term(alloc, world, place, bound, symbol),
-        Body::List(items) => {
+    match lend(form) {
+        FormRef::Int(n) => Ok(Some(Term::quote(Value::Int(n)))),
+        FormRef::Chr(code) => Ok(Some(Term::quote(Value::Chr(code)))),
+        FormRef::Str(bytes) => Ok(quote(string(alloc, bytes)?)),
+        FormRef::Sym(symbol) => symbol_term(alloc, world, place, bound, symbol),
+        FormRef::List(items) => {
             let left = nested(left, place)?;
-            let asked = plan_in(alloc, world, place, items.as_slice())?;
+            let asked = plan_in(alloc, world, place, items)?;
             plan_term(alloc, world, left, bound, place, asked)
         }
-        Body::Dotted(_, _) => Err(refused_at(place, TransKind::DottedForm)),
-        Body::Quoted(inner) => {
+        FormRef::Dotted(_, _) => Err(refused_at(place, TransKind::DottedForm)),
+        FormRef::Quoted(inner) => {
             let left = nested(left, place)?;
-            quoted(alloc, left, inner.get())
+            quoted(alloc, left, inner)
         }
-        Body::Quasi(inner) => {
+        FormRef::Quasi(inner) => {
             let left = nested(left, place)?;
-            part(alloc, world, left, bound, inner.get())
+            part(alloc, world, left, bound, inner)
         }
-        Body::Comma(_) => Err(refused_at(place, TransKind::CommaOutside)),
-        Body::CommaAt(_) => Err(refused_at(place, TransKind::CommaOutside)),
+        FormRef::Comma(_) => Err(refused_at(place, TransKind::CommaOutside)),
+        FormRef::CommaAt(_) => Err(refused_at(place, TransKind::CommaOutside)),
     }
 }
 
@@ -75,30 +75,30 @@ fn part(
     ensures { Gives result (capped small (part_in world.now.entries left bound.now.names form.now)) }
 {
     let place = form.place;
-    match &form.body {
-        Body::Int(n) => Ok(Some(Term::quote(Value::Int(*n)))),
-        Body::Chr(code) => Ok(Some(Term::quote(Value::Chr(*code)))),
-        Body::Str(bytes) => Ok(quote(string(alloc, bytes)?)),
-        Body::Sym(symbol) => Ok(Some(Term::quote(Value::Sym(copy_symbol(alloc, symbol)?)))),
-        Body::List(items) => {
+    match lend(form) {
+        FormRef::Int(n) => Ok(Some(Term::quote(Value::Int(n)))),
+        FormRef::Chr(code) => Ok(Some(Term::quote(Value::Chr(code)))),
+        FormRef::Str(bytes) => Ok(quote(string(alloc, bytes)?)),
+        FormRef::Sym(symbol) => Ok(Some(Term::quote(Value::Sym(copy_symbol(alloc, symbol)?)))),
+        FormRef::List(items) => {
             let left = nested(left, place)?;
-            let pieces = pieces(alloc, world, left, bound, items.as_slice())?;
+            let pieces = pieces(alloc, world, left, bound, items)?;
             let found = pieced_of(alloc, pieces)?;
             Ok(found)
         }
-        Body::Dotted(_, _) => Err(refused_at(place, TransKind::DottedForm)),
-        Body::Quoted(inner) => {
+        FormRef::Dotted(_, _) => Err(refused_at(place, TransKind::DottedForm)),
+        FormRef::Quoted(inner) => {
             let left = nested(left, place)?;
-            let piece = piece(alloc, world, left, bound, inner.get())?;
+            let piece = piece(alloc, world, left, bound, inner)?;
             let found = quoted_of(alloc, piece)?;
             Ok(found)
         }
-        Body::Quasi(_) => Err(refused_at(place, TransKind::BadForm)),
-        Body::Comma(inner) => {
+        FormRef::Quasi(_) => Err(refused_at(place, TransKind::BadForm)),
+        FormRef::Comma(inner) => {
             let left = nested(left, place)?;
-            term(alloc, world, left, bound, inner.get())
+            term(alloc, world, left, bound, inner)
         }
-        Body::CommaAt(_) => Err(refused_at(place, TransKind::BadForm)),
+        FormRef::CommaAt(_) => Err(refused_at(place, TransKind::BadForm)),
     }
 }
 
@@ -113,10 +113,10 @@ fn piece(
 ) -> Result<Option<Piece>, TransError>
     ensures { Gives result (capped small_piece (piece_in world.now.entries left bound.now.names form.now)) }
 {
-    match &form.body {
-        Body::CommaAt(inner) => {
+    match lend(form) {
+        FormRef::CommaAt(inner) => {
             let left = nested(left, form.place)?;
-            let found = term(alloc, world, left, bound, inner.get())?;
+            let found = term(alloc, world, left, bound, inner)?;
             Ok(as_piece(true, found))
         }
         _ => {

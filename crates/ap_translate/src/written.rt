@@ -9,7 +9,7 @@ use crate::fault::{TransError, TransKind, refused_at};
 use crate::names::is_constant;
 use crate::translator::MOST_NESTED;
 use ap_list::NoMemory;
-use ap_reader::{Body, Form, quoted};
+use ap_reader::{Form, FormRef, lend, quoted};
 use ap_value::{Value, copy_symbol};
 use std::alloc::Global;
 
@@ -18,18 +18,18 @@ use std::alloc::Global;
 fn literal(alloc: Global, form: &Form) -> Result<Option<Option<Value>>, NoMemory>
     ensures { IfOk result (λ o. o ≡ option_map small_value (literal_in form.now)) }
 {
-    match &form.body {
-        Body::Int(n) => Ok(Some(Some(Value::Int(*n)))),
-        Body::Chr(code) => Ok(Some(Some(Value::Chr(*code)))),
-        Body::Str(bytes) => Ok(Some(string(alloc, bytes)?)),
-        Body::Sym(symbol) => {
+    match lend(form) {
+        FormRef::Int(n) => Ok(Some(Some(Value::Int(n)))),
+        FormRef::Chr(code) => Ok(Some(Some(Value::Chr(code)))),
+        FormRef::Str(bytes) => Ok(Some(string(alloc, bytes)?)),
+        FormRef::Sym(symbol) => {
             if is_constant(symbol) {
                 Ok(Some(Some(Value::Sym(copy_symbol(alloc, symbol)?))))
             } else {
                 Ok(None)
             }
         }
-        Body::List(items) => {
+        FormRef::List(items) => {
             if items.is_empty() {
                 Ok(Some(Some(nil(alloc)?)))
             } else {

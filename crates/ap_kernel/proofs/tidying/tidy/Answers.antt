@@ -1,9 +1,11 @@
 use Rattle.std.proofs.Common.{rules}
 use Rattle.ap_world.specs.World.{function_of}
-use Rattle.ap_kernel.proofs.Reduced.{reduces_by}
+use Rattle.ap_kernel.proofs.Derived.{reduces_by}
+use Rattle.ap_kernel.proofs.DerivedClauses.{tidy_derived}
 use Rattle.ap_kernel.proofs.Tidied.{tidy_reduces}
 use Rattle.ap_kernel.proofs.tidying.tidy.Goals as goal
 
 pub returns-clause-stands : goal.returns-clause-stands
 returns-clause-stands c =
-    reduces_by c.args.w.now c.made.result _ (search rules) (tidy_reduces (function_of c.args.w.now.entries) c.recall_sound.ensures.total c.requires.ground c.args.c c.requires.clause)
+    reduces_by c.args.w.now c.made.result _ _ (search rules) (tidy_derived c.args.w.now c.args.c c.requires.clause)
+    (tidy_reduces (function_of c.args.w.now.entries) c.recall_sound.ensures.total c.requires.ground c.args.c c.requires.clause)

@@ -14,7 +14,7 @@ use Rattle.ap_rewrite.proofs.arithmetic.refuted.Goals as goal
 pub returns-in_default-clause-is : goal.returns-in_default-clause-is
 returns-in_default-clause-is g c =
     refuted_out c.args.l.now.r.now.w.now c.args.l.now.r.now.theory.now c.args.l.now.r.now.expand.now (inner_of c.args.l.now.r.now c.args.l.now.levels) (seen_at c.args.at.now) c.args.t.now c.args.sign c.args.steps.now.left
-    ((rw c.in_default.is at c.in_ok-all.ensures)
+    ((rw c.in_default.is at c.in_ok-all.ensures.is)
     ∙ listed c.args.l.now.r.now.w.now c.args.l.now.r.now.theory.now c.args.l.now.r.now.expand.now (inner_of c.args.l.now.r.now c.args.l.now.levels) (seen_at c.args.at.now) c.args.t.now c.args.sign c.args.steps.now.left
     c.args.l.now.r.now.rules.now.linear _ _ c.in_ok-polys.field-0.polys c.requires.level.ready.index.linear
     (c.as_slice-3.ensures ∙ c.in_ok-polys.ensures.atoms)
@@ -26,7 +26,7 @@ refute-requires-clause-polys g c =
     all_listed c.args.l.now.r.now.w.now c.args.l.now.r.now.theory.now c.args.l.now.r.now.expand.now c.recall_sound.ensures c.requires.level.ready.ground c.recall_distinct_names.ensures
     (c.arithmetic_is_sound.ensures.world c.args.l.now.r.now.w.now c.args.l.now.r.now.theory.now c.recall_sound.ensures c.requires.level.ready.ground)
     c.args.l.now.levels (seen_at c.args.at.now) c.args.at.now.ctx.now refl c.requires.facts c.args.t.now c.args.sign c.requires.term c.args.steps.now.left c.in-Some.all c.used_each.new.steps.left
-    (sym ((rw c.in-Some.is at c.in_ok-all.ensures)
+    (sym ((rw c.in-Some.is at c.in_ok-all.ensures.is)
     ∙ listed c.args.l.now.r.now.w.now c.args.l.now.r.now.theory.now c.args.l.now.r.now.expand.now (inner_of c.args.l.now.r.now c.args.l.now.levels) (seen_at c.args.at.now) c.args.t.now c.args.sign c.args.steps.now.left
     c.args.l.now.r.now.rules.now.linear _ _ c.in_ok-polys.field-0.polys c.requires.level.ready.index.linear
     (c.as_slice-3.ensures ∙ c.in_ok-polys.ensures.atoms)
@@ -37,7 +37,7 @@ pub returns-clause-is : goal.returns-clause-is
 returns-clause-is g c =
     refuted_found c.args.l.now.r.now.w.now c.args.l.now.r.now.theory.now c.args.l.now.r.now.expand.now (inner_of c.args.l.now.r.now c.args.l.now.levels) (seen_at c.args.at.now) c.args.t.now c.args.sign c.args.steps.now.left
     c.in-Some.all c.used_each.new.steps.left (where_applied c.from_found.result) c.args.at.now.ctx.now
-    ((rw c.in-Some.is at c.in_ok-all.ensures)
+    ((rw c.in-Some.is at c.in_ok-all.ensures.is)
     ∙ listed c.args.l.now.r.now.w.now c.args.l.now.r.now.theory.now c.args.l.now.r.now.expand.now (inner_of c.args.l.now.r.now c.args.l.now.levels) (seen_at c.args.at.now) c.args.t.now c.args.sign c.args.steps.now.left
     c.args.l.now.r.now.rules.now.linear _ _ c.in_ok-polys.field-0.polys c.requires.level.ready.index.linear
     (c.as_slice-3.ensures ∙ c.in_ok-polys.ensures.atoms)
@@ -49,3 +49,6 @@ pub returns-clause-refutes : goal.returns-clause-refutes
 returns-clause-refutes g c =
     subst (λ (o : Option Equiv). IfSome o (Refutes c.args.l.now.r.now.w.now c.args.at.now.ctx.now c.args.t.now c.args.sign)) (sym c.from_found.ensures)
     (each_refutes c.args.l.now.r.now.w.now c.args.at.now.ctx.now c.args.t.now c.args.sign c.in_ok-found.found _ c.in_ok-found.ensures.stands c.in_ok-found.ensures.made)
+
+pub refute-requires-clause-reasons : goal.refute-requires-clause-reasons
+refute-requires-clause-reasons g c = (rw c.in-Some.is at c.in_ok-all.ensures.reasons c.args.t.now c.args.sign c.in_ok-polys.ensures.reasons)

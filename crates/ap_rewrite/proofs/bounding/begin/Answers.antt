@@ -19,3 +19,6 @@ returns-clause-known g c =
     let is : c.in_ok-atoms.atoms ≡ first_atoms (given (setting_of c.args.r.now) c.args.ctx.now.0 c.args.t.now c.args.sign) = search rules in
     subst (λ xs. Each (λ x. known (defs_in c.args.r.now) x ≡ true) xs) (sym is)
     (atoms_here c.args.r.now.w.now c.args.r.now.theory.now c.args.r.now.expand.now c.args.ctx.now.0 c.args.t.now c.args.sign c.requires.facts c.requires.term)
+
+pub returns-clause-reasons : goal.returns-clause-reasons
+returns-clause-reasons g c = c.in_ok-push_bounds.ensures.reasons c.args.t.now c.args.sign c.in_ok-polys.ensures.reasons

@@ -5,10 +5,10 @@ use Rattle.ap_rewrite.specs.Answering.{got_polys}
 use Rattle.ap_rewrite.proofs.Ruled.{taken, passed}
 use Rattle.ap_rewrite.proofs.linear_rules.used.Goals as goal
 
-pub returns-then-not-usable : goal.returns-then-not-usable
-returns-then-not-usable g c = passed _ _ _ _ (sym c.is_enabled-usable.ensures ∙ c.if-not-usable.true) refl
+pub returns-then-not-usable-clause-is : goal.returns-then-not-usable-clause-is
+returns-then-not-usable-clause-is g c = passed _ _ _ _ (sym c.is_enabled-usable.ensures ∙ c.if-not-usable.true) refl
 
-pub returns : goal.returns
-returns g c =
+pub returns-clause-is : goal.returns-clause-is
+returns-clause-is g c =
     subst (λ (x : Got (List Polynomial)). IfOk c.at_atoms.result (λ o. got_polys o c.at_atoms.new.steps.left ≡ x)) (taken _ _ _ _ (sym c.is_enabled-usable.ensures ∙ c.if-not-usable.false) refl)
-    c.at_atoms.ensures
+    c.at_atoms.ensures.is

@@ -5,7 +5,7 @@ use Rattle.ap_world.specs.Facts.{KnownFacts}
 use Rattle.ap_kernel.specs.declared.objects.Ctx.{Ctx}
 use Rattle.ap_kernel.specs.Answers.{if_of}
 use Rattle.ap_rewrite.specs.Rewriting.{truth_of}
-use Rattle.ap_rewrite.specs.Answering.{defs_in, setting_of, inner_of, seen_at}
+use Rattle.ap_rewrite.specs.Answering.{defs_in, setting_of, inner_of, seen_at, seat_of}
 use Rattle.ap_rewrite.proofs.Froms.{from_own}
 use Rattle.ap_rewrite.proofs.Chained.{same_answer, same_from}
 use Rattle.ap_rewrite.proofs.Walked.{past_chosen, past_open, walk_out, walk_past, leaf_at, seen_parts, same_place, from_there, branches_smaller, branch_smaller}
@@ -19,7 +19,7 @@ pub walk_on-walk-requires : goal.walk_on-walk-requires
 walk_on-walk-requires g t c =
     let smaller : 3 * term_size c.in_ok-next-in-Some.next.says.rhs + 2 < 3 * (term_size c.args.b.now + term_size c.args.c.now) + 3 =
     branch_smaller c.in-Some.sign c.in_ok-next-in-Some.next.says.rhs c.args.b.now c.args.c.now c.in_ok-next-in-Some.ensures.is in
-    λ κs within. (search rules, (within.0, (within.1, (c.requires.level, (c.requires.facts, (c.requires.inner, from_own _ _ _ _ _ c.in_ok-next-in-Some.ensures.from))))))
+    λ κs within. (search rules, (within.0, (within.1, (c.requires.level, (c.requires.facts, (c.requires.inner, (from_own _ _ _ _ _ c.in_ok-next-in-Some.ensures.from, c.requires.here)))))))
 
 pub walk_on-returns-in_ok-next-in-Some-clause-is : goal.walk_on-returns-in_ok-next-in-Some-clause-is
 walk_on-returns-in_ok-next-in-Some-clause-is g t c =
@@ -83,7 +83,7 @@ walk_body-walk_on-requires g t c =
                 c.requires.inner,
                 (
                   c.requires.sofar,
-                  (from_own _ _ _ _ _ test, choice ∙ ap (λ (x : Term). if_of x c.in-If.b.now c.in-If.c.now) (sym test.lhs)),
+                  (from_own _ _ _ _ _ test, (choice ∙ ap (λ (x : Term). if_of x c.in-If.b.now c.in-If.c.now) (sym test.lhs), ap seat_of c.deeper.ensures.kept ∙ c.requires.here)),
                 ),
               ),
             ),
@@ -109,4 +109,4 @@ walk_body-returns-in_default-clause-is g t c =
 
 -- the body, copied
 pub walk-walk_body-requires : goal.walk-walk_body-requires
-walk-walk_body-requires g t c = λ κs within. (search rules, (within.0, (within.1, (c.requires.level, (c.requires.facts, (c.requires.inner, (c.requires.sofar, c.in_ok-body.ensures ∙ c.rhs.ensures)))))))
+walk-walk_body-requires g t c = λ κs within. (search rules, (within.0, (within.1, (c.requires.level, (c.requires.facts, (c.requires.inner, (c.requires.sofar, (c.in_ok-body.ensures ∙ c.rhs.ensures, c.requires.here))))))))

@@ -4,14 +4,14 @@ use Rattle.ap_rewrite.proofs.Chained.{answered_some, answered_out}
 use Rattle.ap_rewrite.proofs.Walked.{led_parts}
 use Rattle.ap_rewrite.proofs.opening.follow_both.Goals as goal
 
-pub both-requires-clause-term : goal.both-requires-clause-term
-both-requires-clause-term g c = c.rhs.ensures ∙ c.requires.choice
+pub both_within-requires-clause-term : goal.both_within-requires-clause-term
+both_within-requires-clause-term g c = c.rhs.ensures ∙ c.requires.choice
 
-pub both-requires-clause-yes : goal.both-requires-clause-yes
-both-requires-clause-yes g c = (led_parts _ _ _ _ _ _ _ _ c.requires.sofar c.requires.choice).1
+pub both_within-requires-clause-yes : goal.both_within-requires-clause-yes
+both_within-requires-clause-yes g c = (led_parts _ _ _ _ _ _ _ _ c.requires.sofar c.requires.choice).1
 
-pub both-requires-clause-no : goal.both-requires-clause-no
-both-requires-clause-no g c = (led_parts _ _ _ _ _ _ _ _ c.requires.sofar c.requires.choice).2
+pub both_within-requires-clause-no : goal.both_within-requires-clause-no
+both_within-requires-clause-no g c = (led_parts _ _ _ _ _ _ _ _ c.requires.sofar c.requires.choice).2
 
 pub returns-in_default-clause-is : goal.returns-in_default-clause-is
 returns-in_default-clause-is g c = answered_out _ (rw c.in_default.is at c.in_ok-more.ensures.is)

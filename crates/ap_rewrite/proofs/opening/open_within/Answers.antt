@@ -10,11 +10,11 @@ use Rattle.ap_rewrite.proofs.Opened.{opened_whole, walked_down}
 use Rattle.ap_rewrite.proofs.Walked.{from_there, same_found}
 use Rattle.ap_rewrite.proofs.opening.open_within.Goals as goal
 
-pub go_on-requires-clause-facts : goal.go_on-requires-clause-facts
-go_on-requires-clause-facts g c = subst (λ (x : Ctx). KnownFacts (defs_in c.args.l.now.r.now) x.0) (sym c.requires.inner) c.requires.facts
+pub go_on_within-requires-clause-facts : goal.go_on_within-requires-clause-facts
+go_on_within-requires-clause-facts g c = subst (λ (x : Ctx). KnownFacts (defs_in c.args.l.now.r.now) x.0) (sym c.requires.inner) c.requires.facts
 
-pub go_on-requires-clause-first : goal.go_on-requires-clause-first
-go_on-requires-clause-first g c = from_there _ _ _ _ _ _ (sym c.requires.inner) c.requires.first
+pub go_on_within-requires-clause-first : goal.go_on_within-requires-clause-first
+go_on_within-requires-clause-first g c = from_there _ _ _ _ _ _ (sym c.requires.inner) c.requires.first
 
 pub returns-then-is_term_among-clause-is : goal.returns-then-is_term_among-clause-is
 returns-then-is_term_among-clause-is g c =

@@ -20,6 +20,7 @@ loop-g-preserved g c =
       is = search_next (try_rule (setting_of c.args.l.now.r.now) (inner_of c.args.l.now.r.now c.args.l.now.levels) c.args.mode (seen_at c.args.at.now) c.args.t.now) _ _ _ _ _ c.try_rule.new.steps.left
           (ap (map rule_in) (from_place c.args.gs.now c.loop-g.g-index c.g-item.result (omega arith) c.g-item.is)) c.loop-g.invariant.is (rw there at c.in_ok-try_rule.ensures.is);
       rules = (subst (Each (IsRuleOf c.args.l.now.r.now.w.now)) (ap (map rule_in) (from_place c.args.gs.now c.loop-g.g-index c.g-item.result (omega arith) c.g-item.is)) c.loop-g.invariant.rules).1;
+      kept = c.try_rule.ensures.kept ∙ c.loop-g.invariant.kept;
     }
 
 pub returns-in-None-clause-is : goal.returns-in-None-clause-is

@@ -1,5 +1,6 @@
 use Rattle.std.proofs.Common.{None, Some, sym, ap, ◌∙◌}
 use Rattle.std.specs.Option.{option_map}
+use Rattle.ap_world.specs.declared.entry.Mask.{Mask}
 use Rattle.ap_rewrite.specs.Leading.{leads_made, plain_in}
 use Rattle.ap_rewrite.specs.Rewriting.{settled}
 use Rattle.ap_rewrite.proofs.Settled.{settled_to, changed_not, changed_said, same_stands}
@@ -21,3 +22,6 @@ returns-in_ok-q-in-Some-clause-made g c =
 
 pub returns-in_ok-q-in-Some-clause-stands : goal.returns-in_ok-q-in-Some-clause-stands
 returns-in_ok-q-in-Some-clause-stands g c = same_stands c.args.w.now c.changed-other.result c.in_ok-q-in-Some.q c.changed-other.ensures.same c.in_ok-q-in-Some.ensures.stands
+
+pub typed-requires-clause-exact : goal.typed-requires-clause-exact
+typed-requires-clause-exact g c = ap (λ (m : Mask). m.0) c.in_ok-mask.ensures.made

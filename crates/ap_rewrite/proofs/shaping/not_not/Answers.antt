@@ -1,4 +1,5 @@
 use Rattle.std.proofs.Common.{◌≡◌, true, false, sym, ap, ◌∙◌, subst}
+use Rattle.ap_world.specs.declared.entry.Mask.{Mask}
 use Rattle.ap_world.specs.World.{function_of}
 use Rattle.ap_world.specs.Clauses.{not_of}
 use Rattle.ap_world.specs.Sound.{known}
@@ -29,3 +30,6 @@ pub returns-clause-made : goal.returns-clause-made
 returns-clause-made g c =
     c.in_ok-same.ensures.made ∙ ap (leads_made c.args.ctx.now c.args.mode c.args.t.now)
     (c.requires.negation ∙ unwrapped_says (plain_in c.args.w.now c.args.w.now.theory) c.args.mode c.args.ctx.now.0 c.in_ok-mask.mask c.args.z.now false c.in_ok-mask.ensures.made (sym c.is_truth-counts.ensures ∙ c.if-counts.false))
+
+pub double_not-requires-clause-exact : goal.double_not-requires-clause-exact
+double_not-requires-clause-exact g c = ap (λ (m : Mask). m.0) c.in_ok-mask.ensures.made

@@ -1,5 +1,7 @@
 use Rattle.std.proofs.Common.{◌≡◌, true, sym, ap, ◌∙◌, subst}
 use Rattle.ap_term.specs.declared.term.Term.{Term}
+use Rattle.ap_world.specs.declared.entry.Mask.{Mask}
+use Rattle.ap_world.specs.Typing.{types}
 use Rattle.ap_world.specs.World.{function_of}
 use Rattle.ap_world.specs.Shapes.{shape_of}
 use Rattle.ap_kernel.specs.Choices.{is_choice}
@@ -19,6 +21,9 @@ if_shape-requires-clause-choice g c =
 pub if_shape-requires-clause-mask : goal.if_shape-requires-clause-mask
 if_shape-requires-clause-mask g c =
     subst (λ u. MaskHolds (function_of c.args.w.now.entries) c.args.ctx.now.0 u c.in_ok-mask.mask) c.bare_test.ensures.is c.in_ok-mask.ensures.holds
+
+pub if_shape-requires-clause-exact : goal.if_shape-requires-clause-exact
+if_shape-requires-clause-exact g c = ap (λ (m : Mask). m.0) c.in_ok-mask.ensures.made ∙ ap (types c.args.w.now c.args.ctx.now.0) c.bare_test.ensures.is
 
 pub returns-clause-made : goal.returns-clause-made
 returns-clause-made g c = λ x y z r.

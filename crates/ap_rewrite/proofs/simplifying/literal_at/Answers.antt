@@ -8,8 +8,8 @@ use Rattle.ap_rewrite.specs.Answering.{defs_in, setting_of}
 use Rattle.ap_rewrite.proofs.Simplified.{each_stands, each_here, each_facts, same_literal}
 use Rattle.ap_rewrite.proofs.simplifying.literal_at.Goals as goal
 
-pub literal-requires-clause-facts : goal.literal-requires-clause-facts
-literal-requires-clause-facts g c =
+pub literal_kept-requires-clause-facts : goal.literal_kept-requires-clause-facts
+literal_kept-requires-clause-facts g c =
     subst (KnownFacts (defs_in c.args.r.now)) (sym (c.in_ok-ctx.ensures ∙ ap (λ (ts : List Term). all_false (others c.args.place ts)) c.as_slice.ensures))
     (others_false_known (defs_in c.args.r.now) c.args.c.now c.args.place c.requires.clause)
 

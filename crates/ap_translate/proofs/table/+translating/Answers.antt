@@ -1,12 +1,9 @@
 use Rattle.std.proofs.Common.{◌≡◌, ◌∷◌, [], List, Some, Ok, true, sym, ap, ◌∙◌, subst, arith, rules}
 use Rattle.ap_term.specs.Terms.{term_size}
 use Rattle.ap_reader.specs.declared.form.Form.{Form}
-use Rattle.ap_reader.specs.declared.form.Body.{out-Body}
-use Rattle.ap_reader.specs.declared.form.Body.TheOpen.{Body-F}
 use Rattle.ap_value.specs.declared.value.Value.TheVariants.{Int}
 use Rattle.ap_term.specs.declared.term.Term.{Term, Quote}
 use Rattle.ap_value.specs.declared.symbol.Symbol.{Symbol}
-use Rattle.ap_reader.specs.declared.form.Body.TheVariants.{outs-Int, outs-Chr, outs-Str, outs-Sym, outs-List, outs-Quoted, outs-Quasi, outs-Comma, outs-CommaAt}
 use Rattle.ap_translate.specs.Answers.{Answer, ◌>>=◌, each, Fails}
 use Rattle.ap_translate.specs.Rows.{pieced}
 use Rattle.ap_translate.specs.Shapes.{arm_seen, bind_seen, scope_seen}
@@ -19,7 +16,7 @@ use Rattle.ap_translate.proofs.Clauses.{arm_next, arm_fails, last_next, last_is}
 use Rattle.ap_translate.proofs.Constants.{at_form}
 use Rattle.ap_translate.proofs.Fails.{gives_err, gives_same, bad_fails, same_fails, then_fails, capped_fails, fails_capped}
 use Rattle.ap_translate.proofs.Kept.{next}
-use Rattle.ap_translate.proofs.Layers.{term_list, term_quoted, term_quasi, part_list, part_quoted, part_comma, piece_splice, term_list_none, term_quoted_none, term_quasi_none, part_list_none, part_quoted_none, part_comma_none, piece_splice_none}
+use Rattle.ap_translate.proofs.Layers.{lent_is, term_list, term_quoted, term_quasi, part_list, part_quoted, part_comma, piece_splice, term_list_none, term_quoted_none, term_quasi_none, part_list_none, part_quoted_none, part_comma_none, piece_splice_none}
 use Rattle.ap_translate.proofs.Literals.{term_int, term_chr, term_str, part_int, part_chr, part_str, part_symbol, plan_none}
 use Rattle.ap_translate.proofs.Makings.{plan_built, enough, list_pieced, one_pieced, piece_kept}
 use Rattle.ap_translate.proofs.Planning.{admitted, sensible}
@@ -28,42 +25,42 @@ use Rattle.ap_translate.proofs.table.+translating.Goals as goal
 pub term-returns-in_err-left-in-List : goal.term-returns-in_err-left-in-List
 term-returns-in_err-left-in-List t c =
     gives_err c.from_residual-in_err-left-in-List.result c.in_err-left-in-List.field-0.0 _ c.from_residual-in_err-left-in-List.ensures.1
-    (bad_fails small c.in_err-left-in-List.field-0.0 c.args.form.now.place (term_in c.args.world.now.entries c.args.left c.args.bound.now.names c.args.form.now) c.in_err-left-in-List.ensures.1 (term_list_none c.args.world.now.entries c.args.left c.args.bound.now.names c.args.form.now c.in_err-left-in-List.ensures.0 _ (ap out-Body c.in-List.is ∙ outs-List _)))
+    (bad_fails small c.in_err-left-in-List.field-0.0 c.args.form.now.place (term_in c.args.world.now.entries c.args.left c.args.bound.now.names c.args.form.now) c.in_err-left-in-List.ensures.1 (term_list_none c.args.world.now.entries c.args.left c.args.bound.now.names c.args.form.now c.in_err-left-in-List.ensures.0 _ (lent_is c.lend.ensures.lent c.in-List.is)))
 
 pub term-returns-in_err-left-in-Quoted : goal.term-returns-in_err-left-in-Quoted
 term-returns-in_err-left-in-Quoted t c =
     gives_err c.from_residual-in_err-left-in-Quoted.result c.in_err-left-in-Quoted.field-0.0 _ c.from_residual-in_err-left-in-Quoted.ensures.1
-    (bad_fails small c.in_err-left-in-Quoted.field-0.0 c.args.form.now.place (term_in c.args.world.now.entries c.args.left c.args.bound.now.names c.args.form.now) c.in_err-left-in-Quoted.ensures.1 (term_quoted_none c.args.world.now.entries c.args.left c.args.bound.now.names c.args.form.now c.in_err-left-in-Quoted.ensures.0 _ (ap out-Body c.in-Quoted.is ∙ outs-Quoted _)))
+    (bad_fails small c.in_err-left-in-Quoted.field-0.0 c.args.form.now.place (term_in c.args.world.now.entries c.args.left c.args.bound.now.names c.args.form.now) c.in_err-left-in-Quoted.ensures.1 (term_quoted_none c.args.world.now.entries c.args.left c.args.bound.now.names c.args.form.now c.in_err-left-in-Quoted.ensures.0 _ (lent_is c.lend.ensures.lent c.in-Quoted.is)))
 
 pub term-returns-in_err-left-in-Quasi : goal.term-returns-in_err-left-in-Quasi
 term-returns-in_err-left-in-Quasi t c =
     gives_err c.from_residual-in_err-left-in-Quasi.result c.in_err-left-in-Quasi.field-0.0 _ c.from_residual-in_err-left-in-Quasi.ensures.1
-    (bad_fails small c.in_err-left-in-Quasi.field-0.0 c.args.form.now.place (term_in c.args.world.now.entries c.args.left c.args.bound.now.names c.args.form.now) c.in_err-left-in-Quasi.ensures.1 (term_quasi_none c.args.world.now.entries c.args.left c.args.bound.now.names c.args.form.now c.in_err-left-in-Quasi.ensures.0 _ (ap out-Body c.in-Quasi.is ∙ outs-Quasi _)))
+    (bad_fails small c.in_err-left-in-Quasi.field-0.0 c.args.form.now.place (term_in c.args.world.now.entries c.args.left c.args.bound.now.names c.args.form.now) c.in_err-left-in-Quasi.ensures.1 (term_quasi_none c.args.world.now.entries c.args.left c.args.bound.now.names c.args.form.now c.in_err-left-in-Quasi.ensures.0 _ (lent_is c.lend.ensures.lent c.in-Quasi.is)))
 
 pub part-returns-in_err-left-in-List : goal.part-returns-in_err-left-in-List
 part-returns-in_err-left-in-List t c =
     gives_err c.from_residual-in_err-left-in-List.result c.in_err-left-in-List.field-0.0 _ c.from_residual-in_err-left-in-List.ensures.1
-    (bad_fails small c.in_err-left-in-List.field-0.0 c.args.form.now.place (part_in c.args.world.now.entries c.args.left c.args.bound.now.names c.args.form.now) c.in_err-left-in-List.ensures.1 (part_list_none c.args.world.now.entries c.args.left c.args.bound.now.names c.args.form.now c.in_err-left-in-List.ensures.0 _ (ap out-Body c.in-List.is ∙ outs-List _)))
+    (bad_fails small c.in_err-left-in-List.field-0.0 c.args.form.now.place (part_in c.args.world.now.entries c.args.left c.args.bound.now.names c.args.form.now) c.in_err-left-in-List.ensures.1 (part_list_none c.args.world.now.entries c.args.left c.args.bound.now.names c.args.form.now c.in_err-left-in-List.ensures.0 _ (lent_is c.lend.ensures.lent c.in-List.is)))
 
 pub part-returns-in_err-left-in-Quoted : goal.part-returns-in_err-left-in-Quoted
 part-returns-in_err-left-in-Quoted t c =
     gives_err c.from_residual-in_err-left-in-Quoted.result c.in_err-left-in-Quoted.field-0.0 _ c.from_residual-in_err-left-in-Quoted.ensures.1
-    (bad_fails small c.in_err-left-in-Quoted.field-0.0 c.args.form.now.place (part_in c.args.world.now.entries c.args.left c.args.bound.now.names c.args.form.now) c.in_err-left-in-Quoted.ensures.1 (part_quoted_none c.args.world.now.entries c.args.left c.args.bound.now.names c.args.form.now c.in_err-left-in-Quoted.ensures.0 _ (ap out-Body c.in-Quoted.is ∙ outs-Quoted _)))
+    (bad_fails small c.in_err-left-in-Quoted.field-0.0 c.args.form.now.place (part_in c.args.world.now.entries c.args.left c.args.bound.now.names c.args.form.now) c.in_err-left-in-Quoted.ensures.1 (part_quoted_none c.args.world.now.entries c.args.left c.args.bound.now.names c.args.form.now c.in_err-left-in-Quoted.ensures.0 _ (lent_is c.lend.ensures.lent c.in-Quoted.is)))
 
 pub part-returns-in_err-left-in-Comma : goal.part-returns-in_err-left-in-Comma
 part-returns-in_err-left-in-Comma t c =
     gives_err c.from_residual-in_err-left-in-Comma.result c.in_err-left-in-Comma.field-0.0 _ c.from_residual-in_err-left-in-Comma.ensures.1
-    (bad_fails small c.in_err-left-in-Comma.field-0.0 c.args.form.now.place (part_in c.args.world.now.entries c.args.left c.args.bound.now.names c.args.form.now) c.in_err-left-in-Comma.ensures.1 (part_comma_none c.args.world.now.entries c.args.left c.args.bound.now.names c.args.form.now c.in_err-left-in-Comma.ensures.0 _ (ap out-Body c.in-Comma.is ∙ outs-Comma _)))
+    (bad_fails small c.in_err-left-in-Comma.field-0.0 c.args.form.now.place (part_in c.args.world.now.entries c.args.left c.args.bound.now.names c.args.form.now) c.in_err-left-in-Comma.ensures.1 (part_comma_none c.args.world.now.entries c.args.left c.args.bound.now.names c.args.form.now c.in_err-left-in-Comma.ensures.0 _ (lent_is c.lend.ensures.lent c.in-Comma.is)))
 
 pub piece-returns-in_err-left-in-CommaAt : goal.piece-returns-in_err-left-in-CommaAt
 piece-returns-in_err-left-in-CommaAt t c =
     gives_err c.from_residual.result c.in_err-left-in-CommaAt.field-0.0 _ c.from_residual.ensures.1
-    (bad_fails small_piece c.in_err-left-in-CommaAt.field-0.0 c.args.form.now.place (piece_in c.args.world.now.entries c.args.left c.args.bound.now.names c.args.form.now) c.in_err-left-in-CommaAt.ensures.1 (piece_splice_none c.args.world.now.entries c.args.left c.args.bound.now.names c.args.form.now c.in_err-left-in-CommaAt.ensures.0 _ (ap out-Body c.in-CommaAt.is ∙ outs-CommaAt _)))
+    (bad_fails small_piece c.in_err-left-in-CommaAt.field-0.0 c.args.form.now.place (piece_in c.args.world.now.entries c.args.left c.args.bound.now.names c.args.form.now) c.in_err-left-in-CommaAt.ensures.1 (piece_splice_none c.args.world.now.entries c.args.left c.args.bound.now.names c.args.form.now c.in_err-left-in-CommaAt.ensures.0 _ (lent_is c.lend.ensures.lent c.in-CommaAt.is)))
 
 pub term-returns-in_err-asked-in-List : goal.term-returns-in_err-asked-in-List
 term-returns-in_err-asked-in-List t c =
     gives_err c.from_residual-in_err-asked-in-List.result c.in_err-asked-in-List.field-0.0 _ c.from_residual-in_err-asked-in-List.ensures.1
-    (same_fails c.in_err-asked-in-List.field-0.0 _ _ (ap (capped small) (term_list c.args.world.now.entries c.args.left c.args.bound.now.names c.args.form.now c.in_ok-left-in-List.left c.in_ok-left-in-List.ensures _ (ap out-Body c.in-List.is ∙ outs-List _ ∙ ap Body-F.List (sym c.as_slice.ensures))))
+    (same_fails c.in_err-asked-in-List.field-0.0 _ _ (ap (capped small) (term_list c.args.world.now.entries c.args.left c.args.bound.now.names c.args.form.now c.in_ok-left-in-List.left c.in_ok-left-in-List.ensures _ (lent_is c.lend.ensures.lent c.in-List.is)))
     (capped_fails small c.in_err-asked-in-List.field-0.0 _ (then_fails c.in_err-asked-in-List.field-0.0 _ (plan_term (level c.args.world.now.entries c.in_ok-left-in-List.left) c.args.bound.now.names c.args.form.now.place) c.in_err-asked-in-List.ensures)))
 
 pub term-plan_term-requires : goal.term-plan_term-requires
@@ -72,34 +69,34 @@ term-plan_term-requires t c = (search rules, admitted c.args.world.now.entries (
 pub part-returns-in_err-pieces-in-List : goal.part-returns-in_err-pieces-in-List
 part-returns-in_err-pieces-in-List t c =
     gives_err c.from_residual-in_err-pieces-in-List.result c.in_err-pieces-in-List.field-0.0 _ c.from_residual-in_err-pieces-in-List.ensures.1
-    (same_fails c.in_err-pieces-in-List.field-0.0 _ _ (ap (capped small) (part_list c.args.world.now.entries c.args.left c.args.bound.now.names c.args.form.now c.in_ok-left-in-List.left c.in_ok-left-in-List.ensures _ (ap out-Body c.in-List.is ∙ outs-List _ ∙ ap Body-F.List (sym c.as_slice.ensures))))
+    (same_fails c.in_err-pieces-in-List.field-0.0 _ _ (ap (capped small) (part_list c.args.world.now.entries c.args.left c.args.bound.now.names c.args.form.now c.in_ok-left-in-List.left c.in_ok-left-in-List.ensures _ (lent_is c.lend.ensures.lent c.in-List.is)))
     (capped_fails small c.in_err-pieces-in-List.field-0.0 _ (then_fails c.in_err-pieces-in-List.field-0.0 _ (λ xs. Ok (pieced xs)) (fails_capped few_pieces c.in_err-pieces-in-List.field-0.0 _ c.in_err-pieces-in-List.ensures))))
 
 pub part-returns-in_ok-found-in-List : goal.part-returns-in_ok-found-in-List
 part-returns-in_ok-found-in-List t c =
-    ap (capped small) (part_list c.args.world.now.entries c.args.left c.args.bound.now.names c.args.form.now c.in_ok-left-in-List.left c.in_ok-left-in-List.ensures _ (ap out-Body c.in-List.is ∙ outs-List _ ∙ ap Body-F.List (sym c.as_slice.ensures)))
+    ap (capped small) (part_list c.args.world.now.entries c.args.left c.args.bound.now.names c.args.form.now c.in_ok-left-in-List.left c.in_ok-left-in-List.ensures _ (lent_is c.lend.ensures.lent c.in-List.is))
     ∙ list_pieced (each (piece_in c.args.world.now.entries c.in_ok-left-in-List.left c.args.bound.now.names) _) c.in_ok-pieces-in-List.pieces c.in_ok-found-in-List.found c.in_ok-pieces-in-List.ensures c.in_ok-found-in-List.ensures
 
 pub part-returns-in_err-piece-in-Quoted : goal.part-returns-in_err-piece-in-Quoted
 part-returns-in_err-piece-in-Quoted t c =
     gives_err c.from_residual-in_err-piece-in-Quoted.result c.in_err-piece-in-Quoted.field-0.0 _ c.from_residual-in_err-piece-in-Quoted.ensures.1
-    (same_fails c.in_err-piece-in-Quoted.field-0.0 _ _ (ap (capped small) (part_quoted c.args.world.now.entries c.args.left c.args.bound.now.names c.args.form.now c.in_ok-left-in-Quoted.left c.in_ok-left-in-Quoted.ensures _ (ap out-Body c.in-Quoted.is ∙ outs-Quoted _ ∙ ap Body-F.Quoted (sym c.get.ensures))))
+    (same_fails c.in_err-piece-in-Quoted.field-0.0 _ _ (ap (capped small) (part_quoted c.args.world.now.entries c.args.left c.args.bound.now.names c.args.form.now c.in_ok-left-in-Quoted.left c.in_ok-left-in-Quoted.ensures _ (lent_is c.lend.ensures.lent c.in-Quoted.is)))
     (capped_fails small c.in_err-piece-in-Quoted.field-0.0 _ (then_fails c.in_err-piece-in-Quoted.field-0.0 _ (λ x. Ok (quote_pieced x)) (fails_capped small_piece c.in_err-piece-in-Quoted.field-0.0 _ c.in_err-piece-in-Quoted.ensures))))
 
 pub part-returns-in_ok-found-in-Quoted : goal.part-returns-in_ok-found-in-Quoted
 part-returns-in_ok-found-in-Quoted t c =
-    ap (capped small) (part_quoted c.args.world.now.entries c.args.left c.args.bound.now.names c.args.form.now c.in_ok-left-in-Quoted.left c.in_ok-left-in-Quoted.ensures _ (ap out-Body c.in-Quoted.is ∙ outs-Quoted _ ∙ ap Body-F.Quoted (sym c.get.ensures)))
+    ap (capped small) (part_quoted c.args.world.now.entries c.args.left c.args.bound.now.names c.args.form.now c.in_ok-left-in-Quoted.left c.in_ok-left-in-Quoted.ensures _ (lent_is c.lend.ensures.lent c.in-Quoted.is))
     ∙ one_pieced (piece_in c.args.world.now.entries c.in_ok-left-in-Quoted.left c.args.bound.now.names _) c.in_ok-piece-in-Quoted.piece c.in_ok-found-in-Quoted.found c.in_ok-piece-in-Quoted.ensures c.in_ok-found-in-Quoted.ensures
 
 pub piece-returns-in_err-found-in-CommaAt : goal.piece-returns-in_err-found-in-CommaAt
 piece-returns-in_err-found-in-CommaAt t c =
     gives_err c.from_residual-in_err-found-in-CommaAt.result c.in_err-found-in-CommaAt.field-0.0 _ c.from_residual-in_err-found-in-CommaAt.ensures.1
-    (same_fails c.in_err-found-in-CommaAt.field-0.0 _ _ (ap (capped small_piece) (piece_splice c.args.world.now.entries c.args.left c.args.bound.now.names c.args.form.now c.in_ok-left-in-CommaAt.left c.in_ok-left-in-CommaAt.ensures _ (ap out-Body c.in-CommaAt.is ∙ outs-CommaAt _ ∙ ap Body-F.CommaAt (sym c.get.ensures))))
+    (same_fails c.in_err-found-in-CommaAt.field-0.0 _ _ (ap (capped small_piece) (piece_splice c.args.world.now.entries c.args.left c.args.bound.now.names c.args.form.now c.in_ok-left-in-CommaAt.left c.in_ok-left-in-CommaAt.ensures _ (lent_is c.lend.ensures.lent c.in-CommaAt.is)))
     (capped_fails small_piece c.in_err-found-in-CommaAt.field-0.0 _ (then_fails c.in_err-found-in-CommaAt.field-0.0 _ (λ u. Ok (record { spliced = true; term = u })) (fails_capped small c.in_err-found-in-CommaAt.field-0.0 _ c.in_err-found-in-CommaAt.ensures))))
 
 pub piece-returns-in_ok-found-in-CommaAt : goal.piece-returns-in_ok-found-in-CommaAt
 piece-returns-in_ok-found-in-CommaAt t c =
-    ap (capped small_piece) (piece_splice c.args.world.now.entries c.args.left c.args.bound.now.names c.args.form.now c.in_ok-left-in-CommaAt.left c.in_ok-left-in-CommaAt.ensures _ (ap out-Body c.in-CommaAt.is ∙ outs-CommaAt _ ∙ ap Body-F.CommaAt (sym c.get.ensures)))
+    ap (capped small_piece) (piece_splice c.args.world.now.entries c.args.left c.args.bound.now.names c.args.form.now c.in_ok-left-in-CommaAt.left c.in_ok-left-in-CommaAt.ensures _ (lent_is c.lend.ensures.lent c.in-CommaAt.is))
     ∙ piece_kept true (term_in c.args.world.now.entries c.in_ok-left-in-CommaAt.left c.args.bound.now.names _) c.in_ok-found-in-CommaAt.found c.in_ok-found-in-CommaAt.ensures ∙ ap Ok (sym c.as_piece.ensures)
 
 pub terms-loop-form-preserved : goal.terms-loop-form-preserved
@@ -216,25 +213,25 @@ arms-returns-in-Some-last_in t c =
 pub term-returns-in_ok-asked-in-List : goal.term-returns-in_ok-asked-in-List
 term-returns-in_ok-asked-in-List t c =
     gives_same c.plan_term.result _ _
-    (ap (capped small) (term_list c.args.world.now.entries c.args.left c.args.bound.now.names c.args.form.now c.in_ok-left-in-List.left c.in_ok-left-in-List.ensures _ (ap out-Body c.in-List.is ∙ outs-List _ ∙ ap Body-F.List (sym c.as_slice.ensures)) ∙ ap (λ r. r >>= plan_term (level c.args.world.now.entries c.in_ok-left-in-List.left) c.args.bound.now.names c.args.form.now.place) c.in_ok-asked-in-List.ensures))
+    (ap (capped small) (term_list c.args.world.now.entries c.args.left c.args.bound.now.names c.args.form.now c.in_ok-left-in-List.left c.in_ok-left-in-List.ensures _ (lent_is c.lend.ensures.lent c.in-List.is) ∙ ap (λ r. r >>= plan_term (level c.args.world.now.entries c.in_ok-left-in-List.left) c.args.bound.now.names c.args.form.now.place) c.in_ok-asked-in-List.ensures))
     c.plan_term.ensures
 
 pub term-returns-in_ok-left-in-Quoted : goal.term-returns-in_ok-left-in-Quoted
 term-returns-in_ok-left-in-Quoted t c =
     gives_same c.quoted.result _ _
-    (ap (capped small) (term_quoted c.args.world.now.entries c.args.left c.args.bound.now.names c.args.form.now c.in_ok-left-in-Quoted.left c.in_ok-left-in-Quoted.ensures _ (ap out-Body c.in-Quoted.is ∙ outs-Quoted _ ∙ ap Body-F.Quoted (sym c.get.ensures))))
+    (ap (capped small) (term_quoted c.args.world.now.entries c.args.left c.args.bound.now.names c.args.form.now c.in_ok-left-in-Quoted.left c.in_ok-left-in-Quoted.ensures _ (lent_is c.lend.ensures.lent c.in-Quoted.is)))
     c.quoted.ensures
 
 pub term-returns-in_ok-left-in-Quasi : goal.term-returns-in_ok-left-in-Quasi
 term-returns-in_ok-left-in-Quasi t c =
     gives_same c.part.result _ _
-    (ap (capped small) (term_quasi c.args.world.now.entries c.args.left c.args.bound.now.names c.args.form.now c.in_ok-left-in-Quasi.left c.in_ok-left-in-Quasi.ensures _ (ap out-Body c.in-Quasi.is ∙ outs-Quasi _ ∙ ap Body-F.Quasi (sym c.get-in-Quasi.ensures))))
+    (ap (capped small) (term_quasi c.args.world.now.entries c.args.left c.args.bound.now.names c.args.form.now c.in_ok-left-in-Quasi.left c.in_ok-left-in-Quasi.ensures _ (lent_is c.lend.ensures.lent c.in-Quasi.is)))
     c.part.ensures
 
 pub part-returns-in_ok-left-in-Comma : goal.part-returns-in_ok-left-in-Comma
 part-returns-in_ok-left-in-Comma t c =
     gives_same c.term.result _ _
-    (ap (capped small) (part_comma c.args.world.now.entries c.args.left c.args.bound.now.names c.args.form.now c.in_ok-left-in-Comma.left c.in_ok-left-in-Comma.ensures _ (ap out-Body c.in-Comma.is ∙ outs-Comma _ ∙ ap Body-F.Comma (sym c.get-in-Comma.ensures))))
+    (ap (capped small) (part_comma c.args.world.now.entries c.args.left c.args.bound.now.names c.args.form.now c.in_ok-left-in-Comma.left c.in_ok-left-in-Comma.ensures _ (lent_is c.lend.ensures.lent c.in-Comma.is)))
     c.term.ensures
 
 pub plan_term-returns-in-Quotation : goal.plan_term-returns-in-Quotation
@@ -264,32 +261,32 @@ plan_term-returns-in-Lambda t c =
 pub term-returns-in-Int : goal.term-returns-in-Int
 term-returns-in-Int t c =
     let made : c.quote.result ≡ Quote (Int c.in-Int.n) = search rules in
-    term_int c.args.world.now.entries c.args.left c.args.bound.now.names c.args.form.now c.in-Int.n c.quote.result (ap out-Body c.in-Int.is ∙ outs-Int c.in-Int.n) made
+    term_int c.args.world.now.entries c.args.left c.args.bound.now.names c.args.form.now c.in-Int.n c.quote.result (lent_is c.lend.ensures.lent c.in-Int.is) made
 
 pub term-returns-in-Chr : goal.term-returns-in-Chr
 term-returns-in-Chr t c =
-    term_chr c.args.world.now.entries c.args.left c.args.bound.now.names c.args.form.now _ _ (ap out-Body c.in-Chr.is ∙ outs-Chr _) c.quote-in-Chr.ensures
+    term_chr c.args.world.now.entries c.args.left c.args.bound.now.names c.args.form.now _ _ (lent_is c.lend.ensures.lent c.in-Chr.is) c.quote-in-Chr.ensures
 
 pub term-returns-in_ok-string-in-Str : goal.term-returns-in_ok-string-in-Str
 term-returns-in_ok-string-in-Str t c =
-    term_str c.args.world.now.entries c.args.left c.args.bound.now.names c.args.form.now _ _ _ (ap out-Body c.in-Str.is ∙ outs-Str _) c.in_ok-string-in-Str.ensures c.quote-in-Str.ensures
+    term_str c.args.world.now.entries c.args.left c.args.bound.now.names c.args.form.now _ _ _ (lent_is c.lend.ensures.lent c.in-Str.is) c.in_ok-string-in-Str.ensures c.quote-in-Str.ensures
 
 pub part-returns-in-Int : goal.part-returns-in-Int
 part-returns-in-Int t c =
     let made : c.quote.result ≡ Quote (Int c.in-Int.n) = search rules in
-    part_int c.args.world.now.entries c.args.left c.args.bound.now.names c.args.form.now c.in-Int.n c.quote.result (ap out-Body c.in-Int.is ∙ outs-Int c.in-Int.n) made
+    part_int c.args.world.now.entries c.args.left c.args.bound.now.names c.args.form.now c.in-Int.n c.quote.result (lent_is c.lend.ensures.lent c.in-Int.is) made
 
 pub part-returns-in-Chr : goal.part-returns-in-Chr
 part-returns-in-Chr t c =
-    part_chr c.args.world.now.entries c.args.left c.args.bound.now.names c.args.form.now _ _ (ap out-Body c.in-Chr.is ∙ outs-Chr _) c.quote-in-Chr.ensures
+    part_chr c.args.world.now.entries c.args.left c.args.bound.now.names c.args.form.now _ _ (lent_is c.lend.ensures.lent c.in-Chr.is) c.quote-in-Chr.ensures
 
 pub part-returns-in_ok-string-in-Str : goal.part-returns-in_ok-string-in-Str
 part-returns-in_ok-string-in-Str t c =
-    part_str c.args.world.now.entries c.args.left c.args.bound.now.names c.args.form.now _ _ _ (ap out-Body c.in-Str.is ∙ outs-Str _) c.in_ok-string-in-Str.ensures c.quote-in-Str.ensures
+    part_str c.args.world.now.entries c.args.left c.args.bound.now.names c.args.form.now _ _ _ (lent_is c.lend.ensures.lent c.in-Str.is) c.in_ok-string-in-Str.ensures c.quote-in-Str.ensures
 
 pub part-returns-in_ok-copy_symbol-in-Sym : goal.part-returns-in_ok-copy_symbol-in-Sym
 part-returns-in_ok-copy_symbol-in-Sym t c =
-    part_symbol c.args.world.now.entries c.args.left c.args.bound.now.names c.args.form.now _ _ _ (ap out-Body c.in-Sym.is ∙ outs-Sym _) c.in_ok-copy_symbol-in-Sym.ensures c.quote-in-Sym.ensures
+    part_symbol c.args.world.now.entries c.args.left c.args.bound.now.names c.args.form.now _ _ _ (lent_is c.lend.ensures.lent c.in-Sym.is) c.in_ok-copy_symbol-in-Sym.ensures c.quote-in-Sym.ensures
 
 pub plan_term-returns-in_ok-nil_term-in-Empty : goal.plan_term-returns-in_ok-nil_term-in-Empty
 plan_term-returns-in_ok-nil_term-in-Empty t c =

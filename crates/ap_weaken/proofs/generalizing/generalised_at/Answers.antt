@@ -1,5 +1,6 @@
-use Rattle.std.proofs.Common.{◌≡◌, [], ◌∷◌, false, sym, subst, ◌∙◌, rules}
+use Rattle.std.proofs.Common.{◌≡◌, [], ◌∷◌, false, sym, ap, subst, ◌∙◌, rules}
 use Rattle.ap_term.specs.declared.term.Term.{out-Term}
+use Rattle.ap_world.specs.declared.entry.Mask.{Mask}
 use Rattle.ap_world.specs.World.{function_of}
 use Rattle.ap_world.proofs.Grounded.{has_not}
 use Rattle.ap_kernel.specs.Solving.{occurs_in}
@@ -10,6 +11,9 @@ use Rattle.ap_weaken.proofs.generalizing.generalised_at.Goals as goal
 
 pub mask_of-requires-clause-ground : goal.mask_of-requires-clause-ground
 mask_of-requires-clause-ground g c = has_not (function_of c.args.w.now.entries) c.requires.functions
+
+pub generalise-requires-clause-exact : goal.generalise-requires-clause-exact
+generalise-requires-clause-exact g c = ap (λ (m : Mask). m.0) c.in_ok-mask.ensures.made
 
 pub generalise-requires-clause-new : goal.generalise-requires-clause-new
 generalise-requires-clause-new g c =

@@ -1,0 +1,7 @@
+use Rattle.std.proofs.Common.{◌≡◌, ◌++◌, replicate}
+use Rattle.ap_kernel.specs.declared.linear.Why.TheVariants as why
+use Rattle.ap_rewrite.proofs.bounding.push_fact.Given as goal
+
+-- so many so far
+abbrev pub invariant-loop : goal.invariant-loop
+invariant-loop l = l.whys ≡ l.initial.whys ++ replicate l.counter (why.Fact l.place)
