@@ -32,6 +32,17 @@ order-same c d xs ys e =
     ap (λ n. ordering_then (nat_cmp c n) (bytes_order xs ys)) (sym e)
     ∙ ap (λ o. ordering_then o (bytes_order xs ys)) (cmp-same c)
 
+-- a part beside itself, with one byte or nothing after both
+same_compares : (p : List ℕ) (x : Option ℕ) (s t : List ℕ) → bytes_order (p ++ follow x s) (p ++ follow x t) ≡ bytes_order (beyond x s) (beyond x t)
+same_compares [] None s t = refl
+same_compares [] (Some c) s t = order-same c c s t refl
+same_compares (c ∷ p) x s t = order-same c c (p ++ follow x s) (p ++ follow x t) refl ∙ same_compares p x s t
+
+pub decided_texts : {A : Type 0} (text : A → List ℕ) (a b : A) (x y : Option ℕ) → a ≡ b → x ≡ y → Decided Equal (text a) x (text b) y
+decided_texts text a b x y e f =
+    subst (λ c. Decided Equal (text a) x (text c) y) e
+    (subst (λ z. Decided Equal (text a) x (text a) z) f (same_compares (text a) x, λ g. refl))
+
 pub three : (m n : ℕ) → (m < n) ⊎ ((m ≡ n) ⊎ (n < m))
 three m n = by (nat_lt m n) (m == n) refl refl
   where

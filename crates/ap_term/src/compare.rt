@@ -1,14 +1,15 @@
-ghost use Rattle.std.specs.Prelude.{◌≡◌, ℕ, Option, [], ◌∷◌, ◌++◌, Some, None, map};
+ghost use Rattle.std.specs.Prelude.{◌≡◌, ℕ, Option, [], ◌∷◌, ◌++◌, Some, None, map, IsTrue};
 ghost use Rattle.ap_term.specs.Compared.{EndsPart, Decided, IsEnd, FirstIs};
 ghost use Rattle.ap_term.specs.Starts.{value_opens, arguments_text};
 ghost use Rattle.ap_term.specs.Printed.{value_text, rest_text, term_text};
 
-use crate::piece::{compare_pieces, compare_symbols, plain_piece};
+use crate::piece::{compare_pieces, compare_symbols, plain_piece, same_end};
 use crate::shape::Shape;
 use crate::starts::{
     compare_dot_with, compare_term_starts, compare_value_starts, compare_with_dot, ends_list,
     rest_byte,
 };
+use crate::terms::same_term;
 use crate::tree::Term;
 use ap_value::Value;
 use std::cmp::Ordering;
@@ -103,6 +104,13 @@ fn compare_rest(a: &Value, x: Option<u8>, b: &Value, y: Option<u8>) -> Ordering
     }
 }
 
+/// Whether two terms are one, and so are the bytes after them: then they compare as equal without being printed.
+fn are_same(a: &Term, x: Option<u8>, b: &Term, y: Option<u8>) -> bool
+    ensures { IsTrue result → Decided Ordering.Equal (term_text a.now) x (term_text b.now) y }
+{
+    same_end(x, y) && same_term(a, b)
+}
+
 /// The byte after a head or an argument that these arguments follow.
 fn arguments_byte(xs: &[Term]) -> u8
     ensures end { IsEnd result }
@@ -122,6 +130,9 @@ pub fn compare_term(a: &Term, x: Option<u8>, b: &Term, y: Option<u8>) -> Orderin
     requires right { EndsPart y }
     ensures { Decided result (term_text a.now) x (term_text b.now) y }
 {
+    if are_same(a, x, b, y) {
+        return Ordering::Equal;
+    }
     match (&a.shape, &b.shape) {
         (Shape::Quote(v), Shape::Quote(w)) => compare_value(v, x, w, y),
         (Shape::Call(f, xs), Shape::Call(g, ys)) => {

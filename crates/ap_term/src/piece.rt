@@ -1,10 +1,10 @@
-ghost use Rattle.std.specs.Prelude.{◌≡◌, [], ◌∷◌, ◌++◌, MatchOption};
+ghost use Rattle.std.specs.Prelude.{◌≡◌, [], ◌∷◌, ◌++◌, MatchOption, IsTrue};
 ghost use Rattle.ap_term.specs.Compared.{bytes_order, follow, EndsPart, Decided};
 ghost use Rattle.ap_term.specs.Printed.{symbol_text};
 ghost use Rattle.ap_term.specs.Pieces.{piece_text};
 
 use crate::atoms::reads_back;
-use ap_value::Symbol;
+use ap_value::{Symbol, same_symbol};
 use std::cmp::Ordering;
 
 /// The bytes of an atom and the byte after it, one after another: the first ones, then a body, which may
@@ -112,6 +112,17 @@ pub fn symbol_piece(symbol: &Symbol, after: Option<u8>) -> Piece<'_>
     }
 }
 
+/// Whether what stands after two parts is one byte, or nothing.
+pub(crate) fn same_end(x: Option<u8>, y: Option<u8>) -> bool
+    ensures { IsTrue result → x ≡ y }
+{
+    match (x, y) {
+        (Some(c), Some(d)) => c == d,
+        (None, None) => true,
+        _ => false,
+    }
+}
+
 /// How two symbols compare, each with the byte after it.
 #[tactic(auto, using(crate::proofs::Compares::symbols_compared))]
 pub fn compare_symbols(a: &Symbol, x: Option<u8>, b: &Symbol, y: Option<u8>) -> Ordering
@@ -119,5 +130,8 @@ pub fn compare_symbols(a: &Symbol, x: Option<u8>, b: &Symbol, y: Option<u8>) -> 
     requires right { EndsPart y }
     ensures { Decided result (symbol_text a.now) x (symbol_text b.now) y }
 {
+    if same_end(x, y) && same_symbol(a, b) {
+        return Ordering::Equal;
+    }
     compare_pieces(symbol_piece(a, x), symbol_piece(b, y))
 }
