@@ -1,5 +1,5 @@
 -- Among marks that fit, a clause that is there has a mark whose goal is split.
-use Rattle.std.proofs.Common.{◌≡◌, ◌≢◌, ◌⊎◌, inl, inr, Bool, true, false, true≢false, cond, ◌&&◌, ◌||◌, not, List, [], ◌∷◌, map, Option, Some, None, MatchOption, option_map, refl, ap, sym, ◌∙◌, subst}
+use Rattle.std.proofs.Common.{◌≡◌, ◌⊎◌, inl, inr, Bool, true, false, true≢false, cond, ◌&&◌, ◌||◌, not, List, [], ◌∷◌, Option, Some, None, MatchOption, option_map, refl, ap, sym, ◌∙◌, subst}
 use Rattle.ap_list.specs.Lists.{Each, AnyOf}
 use Rattle.ap_value.proofs.Equals.{both}
 use Rattle.ap_term.specs.declared.term.Term.{Term}

@@ -1,7 +1,6 @@
 -- What the step of a goal that goes leads to.
 use Rattle.std.proofs.Common.{◌≡◌, ◌<◌, ℕ, zero, suc, List, [], ◌∷◌, ◌++◌, take, Option, Some, None, MatchOption, IfSome, option_map, slice_get, get_or, length, arith, ap, sym, subst}
 use Rattle.ap_list.specs.Lists.{Each}
-use Rattle.ap_term.specs.declared.term.Clause.{Clause}
 use Rattle.ap_walk.specs.Visits.{Visit}
 use Rattle.ap_kernel.specs.declared.reductions.Reduction.{Reduction}
 use Rattle.ap_strategy.specs.Goals.{Goal}

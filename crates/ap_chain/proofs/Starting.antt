@@ -1,5 +1,5 @@
 -- The marks from one on: they are no more, and the first of them is of the clause.
-use Rattle.std.proofs.Common.{◌≡◌, ◌≤◌, ◌+◌, ℕ, Bool, true, false, cond, ◌<◌, List, [], ◌∷◌, length, Option, Some, None, MatchOption, IfSome, arith, refl, ap, sym, subst}
+use Rattle.std.proofs.Common.{◌≡◌, ◌≤◌, ℕ, Bool, true, false, cond, ◌<◌, List, [], ◌∷◌, length, Option, Some, None, MatchOption, IfSome, arith, refl, ap, sym, subst}
 use Rattle.ap_term.specs.declared.term.Term.{Term}
 use Rattle.ap_term.specs.declared.term.Clause.{Clause}
 use Rattle.ap_walk.specs.Tallies.{is_push}

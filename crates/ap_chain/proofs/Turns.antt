@@ -1,5 +1,5 @@
 -- The marks of an attempt that is proved fit.
-use Rattle.std.proofs.Common.{◌≡◌, ℕ, zero, suc, ◌+◌, Bool, true, false, ◌⊎◌, inl, inr, List, [], ◌∷◌, ◌++◌, map, Option, Some, None, refl, ap, sym, ◌∙◌, subst, append_assoc, append-nil}
+use Rattle.std.proofs.Common.{◌≡◌, ℕ, zero, suc, ◌+◌, Bool, true, false, ◌⊎◌, inl, inr, List, [], ◌∷◌, ◌++◌, Option, Some, None, refl, ap, sym, ◌∙◌, subst, append_assoc, append-nil}
 use Rattle.ap_list.specs.Lists.{Each, AnyOf}
 use Rattle.ap_term.specs.declared.term.Clause.{Clause}
 use Rattle.ap_walk.specs.declared.rule.Rule.{Rule}
@@ -11,7 +11,6 @@ use Rattle.ap_walk.specs.Walks.{walk}
 use Rattle.ap_walk.specs.Laws.{pushed}
 use Rattle.ap_kernel.proofs.Reduced.{any_left, each_parts}
 use Rattle.ap_attempt.specs.declared.turn.Turn.{Turn}
-use Rattle.ap_attempt.specs.declared.turn.Next.{Next}
 use Rattle.ap_attempt.specs.declared.verdict.Verdict.{Verdict}
 use Rattle.ap_attempt.specs.Attempts.{Course, walks_of, inductions, rule_after, with_pool, after_walk, follow, turns_within, attempt}
 use Rattle.ap_strategy.specs.Goals.{Goal, inducted}

@@ -1,8 +1,6 @@
 -- The marks of a walk that goes through fit, before marks that fit and have the inductions of what it pushed.
-use Rattle.std.proofs.Common.{◌≡◌, ℕ, zero, suc, ◌<◌, ◌≤◌, Bool, true, false, inl, inr, List, [], ◌∷◌, ◌++◌, arith, refl, ap, sym, ◌∙◌, subst, append_assoc}
+use Rattle.std.proofs.Common.{◌≡◌, ℕ, zero, suc, ◌<◌, ◌≤◌, Bool, true, false, inl, List, [], ◌∷◌, ◌++◌, arith, refl, ap, sym, subst, append_assoc}
 use Rattle.ap_list.specs.Lists.{Each, AnyOf}
-use Rattle.ap_term.specs.declared.term.Term.{Term}
-use Rattle.ap_walk.specs.declared.act.Act.{Act}
 use Rattle.ap_walk.specs.declared.act.Out.{Out}
 use Rattle.ap_walk.specs.declared.act.Process.{Process}
 use Rattle.ap_walk.specs.declared.rule.Tally.{Tally}
@@ -11,7 +9,7 @@ use Rattle.ap_walk.specs.declared.rule.End.{End}
 use Rattle.ap_walk.specs.declared.mark.Walked.{Walked}
 use Rattle.ap_walk.specs.Visits.{Visit, Tells, visit_of, out_children}
 use Rattle.ap_walk.specs.Tallies.{is_push, end_after}
-use Rattle.ap_walk.specs.Walks.{before, and_then, in_order, first_visit, walk_to, walk}
+use Rattle.ap_walk.specs.Walks.{in_order, first_visit, walk_to, walk}
 use Rattle.ap_walk.specs.Laws.{with_pushed, pushed}
 use Rattle.ap_walk.proofs.Goods.{and_then_through}
 use Rattle.ap_kernel.proofs.Reduced.{any_left, any_right}

@@ -55,9 +55,10 @@ fn closing<J: Planned>(
 }
 
 /// From a clause to none, by the steps of these marks' goals: that of the clause's first one, or, where that goal was
-/// pushed, of the first induction of the clause behind it, and then so for each clause to which that step leads, by the marks
-/// behind it. `None` where a clause has no such mark. Within a walk the goal that is found is one below the goal before it, so
-/// the calls stand within each other no deeper than goals do.
+/// pushed, of the first induction of the clause behind it, and then so for each clause to which that step leads, by
+/// the marks behind. `None` where a clause has no such mark. What is found stands below the goal before it, in its
+/// walk, or under one induction more; so the calls stand within each other no deeper than goals do, 251 in each of ten
+/// walks.
 fn closed<'a, J: Planned>(
     alloc: Global,
     step: &Acl2Step<'a, J>,
@@ -84,8 +85,15 @@ fn closed<'a, J: Planned>(
     Ok(Some(closing(alloc, &mark.task, first, rest)?))
 }
 
-/// The reduction of an attempt that is proved, of which these are the walks: from its root's clause, which is given, to no
-/// clause, in the world of the brand's plan.
+/// The reduction of an attempt that is proved, of which these are the walks: from its root's clause, which is given,
+/// to no clause, in the world of the brand's plan. The walks are moved. It believes nothing of them: whatever they
+/// are, what it answers stands, and it is `None` where they don't lead to none.
+///
+/// Each goal's step is taken once more, by `reduce`, and its reduction chained before those of the clauses that it
+/// leads to, so that no derivation is deeper than goals are. Where a step leads to a clause more than once, the clause
+/// is reduced to none anew each time, with all that is below it: repeats within repeats multiply. A clause's goal is
+/// found by going through the marks behind, those of the goals before it. The only error is want of memory, as at a
+/// step.
 pub fn whole_reduction<'a, J: Planned>(
     alloc: Global,
     step: &Acl2Step<'a, J>,

@@ -22,7 +22,8 @@ fn is_for<J: Planned>(mark: &Mark<Task<'_, J>>, clause: &Clause, induct: bool) -
     same_clause(clause, &mark.task.clause) && (!induct || mark.task.induct)
 }
 
-/// The marks from the first one on that is of this clause, and of an induction where `induct` says so. Takes no memory.
+/// The marks from the first one on that is of this clause, and of an induction where `induct` says so. Takes no
+/// memory.
 fn from_goal<'m, 'a, J: Planned>(
     marks: &'m [Mark<Task<'a, J>>],
     clause: &Clause,
@@ -40,8 +41,8 @@ fn from_goal<'m, 'a, J: Planned>(
     left
 }
 
-/// The marks from the first one on that is of this clause; where that goal was pushed, from the first induction of the clause
-/// behind it. Takes no memory.
+/// The marks from the first one on that is of this clause; where that goal was pushed, from the first induction of the
+/// clause behind it. Takes no memory.
 fn from_split<'m, 'a, J: Planned>(
     marks: &'m [Mark<Task<'a, J>>],
     clause: &Clause,
@@ -70,8 +71,8 @@ fn parted<'m, 'a, J: Planned>(
     }
 }
 
-/// The mark with whose goal's step a clause's proof begins, and those behind it. It is the first mark of the clause; where that
-/// goal was pushed, it is the first induction of the clause behind it. Takes no memory.
+/// The mark with whose goal's step a clause's proof begins, and those behind it. It is the first mark of the clause;
+/// where that goal was pushed, it is the first induction of the clause behind it. Takes no memory.
 pub(crate) fn proof_of<'m, 'a, J: Planned>(
     marks: &'m [Mark<Task<'a, J>>],
     clause: &Clause,

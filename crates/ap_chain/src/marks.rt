@@ -25,8 +25,8 @@ fn kept<T: Drop>(
     }
 }
 
-/// The marks of an attempt's walks, one walk behind another. Where a walk reverts, the attempt goes on with the original, and
-/// the marks so far are left out. All is moved.
+/// The marks of an attempt's walks, one walk behind another. Where a walk reverts, the attempt goes on with the
+/// original, and the marks so far are left out. All is moved.
 pub(crate) fn kept_all<T: Drop>(
     alloc: Global,
     walks: Seq<Walked<T>>,

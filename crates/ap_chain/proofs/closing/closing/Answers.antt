@@ -1,4 +1,4 @@
-use Rattle.std.proofs.Common.{◌≡◌, ◌∙◌, ap, sym, subst}
+use Rattle.std.proofs.Common.{◌∙◌, ap, sym, subst}
 use Rattle.ap_world.specs.World.{Shown}
 use Rattle.ap_kernel.specs.Reductions.{Reduces}
 use Rattle.ap_strategy.specs.declared.plan.Plan.{Plan}

@@ -1,4 +1,4 @@
-use Rattle.std.proofs.Common.{◌≡◌, ◌∙◌, List, sym, subst}
+use Rattle.std.proofs.Common.{◌∙◌, List, sym, subst}
 use Rattle.ap_walk.specs.Visits.{Visit}
 use Rattle.ap_strategy.specs.Goals.{Goal}
 use Rattle.ap_chain.specs.Fitting.{IsAmong, Fit}
