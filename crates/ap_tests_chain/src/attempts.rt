@@ -17,16 +17,17 @@ use ap_tests_terms::{sides, term};
 use ap_walk::{End, Mark, Process, Rule, Walked, serial};
 use std::alloc::{AllocError, Global};
 use std::marker::Brand;
-use std::process::Abort;
 
-/// Each row: a conjecture; and how its attempt goes: how many walks it makes, where the first one reverts, and whether
-/// there is a reduction of its clause to none.
+/// Each row: a conjecture; and how its attempt goes: how many walks it makes, and whether there is a reduction of its
+/// clause to none.
 const ROWS: &str =
-    r#"(implies (not (not (equal x (cons y z)))) (implies (equal w x) (consp w))) => 1 walk, closed
-(if x (equal y y) (if x z (equal x x))) => 1 walk, closed
-(equal (binary-append (binary-append x y) z) (binary-append x (binary-append y z))) => 2 walks, closed
-(if (equal (binary-append (binary-append x y) z) (binary-append x (binary-append y z))) (equal (binary-append (binary-append u y) z) (binary-append u (binary-append y z))) 'nil) => 3 walks, closed
-(equal x y) => 2 walks, open"#;
+    r#"(implies (not (not (equal x (cons y z)))) (implies (equal w x) (consp w))) => 1, closed
+(if x (equal y y) (if x z (equal x x))) => 1, closed
+(equal (binary-append (binary-append x y) z) (binary-append x (binary-append y z))) => 2, closed
+(if (equal (binary-append (binary-append x y) z) (binary-append x (binary-append y z))) (equal (binary-append (binary-append x y) y) (binary-append x (binary-append y y))) 'nil) => 2, closed
+(if (equal (binary-append (binary-append x y) z) (binary-append x (binary-append y z))) (equal (binary-append (binary-append u y) z) (binary-append u (binary-append y z))) 'nil) => 3, closed
+(equal x y) => 2, open
+"#;
 
 /// A plan of the ground world.
 fn first_plan(alloc: Global) -> Result<Plan, NoMemory>
@@ -38,7 +39,7 @@ fn first_plan(alloc: Global) -> Result<Plan, NoMemory>
     Ok(Plan {
         world,
         hints: no_hints(alloc),
-        step_limit: 100,
+        step_limit: 20_000,
     })
 }
 
@@ -141,8 +142,7 @@ fn root_told<J: Planned>(alloc: Global, root: &Task<'_, J>) -> Result<String, No
     let walks = walks_of(alloc, root)?;
     let count = walks.len();
     let ending = ending(alloc, root, walks)?;
-    let plural = if count == 1 { "" } else { "s" };
-    format!(in alloc; "{count} walk{plural}, {ending}")
+    format!(in alloc; "{count}, {ending}")
 }
 
 /// How the attempt on a conjecture goes.
@@ -156,29 +156,28 @@ fn told<J: Planned>(alloc: Global, plan: &Plan, text: &str) -> Result<String, No
     root_told(alloc, task.get())
 }
 
-/// Looks at one row.
-fn expect_row<J: Planned, R: Abort>(
-    rt: &R,
-    alloc: Global,
-    plan: &Plan,
-    row: &str,
-) -> Result<(), NoMemory>
+/// The rows, as attempts go.
+fn rows_told<J: Planned>(alloc: Global, plan: &Plan) -> Result<String, NoMemory>
     requires brand { plan.now ≡ J.plan }
     requires functions { HasFunctions (defs_of plan.now) }
     requires hints { KnownHints plan.now.world.entries plan.now.hints }
 {
-    let (text, wanted) = sides(row);
-    let found = told::<J>(alloc, plan, text)?;
-    assert_eq!(rt; found.as_str(), wanted, "{text}");
-    Ok(())
+    let mut out = String::new(alloc);
+    for row in ROWS.lines() {
+        let text = sides(row).0;
+        let found = told::<J>(alloc, plan, text)?;
+        out.push_str(text)?;
+        out.push_str(" => ")?;
+        out.push_str(found.as_str())?;
+        out.push_str("\n")?;
+    }
+    Ok(out)
 }
 
 #[test]
 fn attempts_are_reduced_as_the_rows_say(rt: HostRuntime) -> Result<(), NoMemory> {
     let plan = first_plan(rt.alloc())?;
-    assert_eq!(rt; ROWS.lines().count(), 5);
-    for row in ROWS.lines() {
-        expect_row::<Brand, _>(&rt, rt.alloc(), &plan, row)?;
-    }
+    let found = rows_told::<Brand>(rt.alloc(), &plan)?;
+    assert_eq!(rt; found.as_str(), ROWS);
     Ok(())
 }
