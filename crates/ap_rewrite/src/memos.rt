@@ -72,7 +72,8 @@ impl<'a> Model for Memo<'a> {
 }
 
 impl<'a> Memo<'a> {
-    /// A memo of nothing, which stands at no place, and passes over so many answers before it keeps one. Takes no memory.
+    /// A memo of nothing, which stands at no place, and passes over so many answers before it keeps one. Takes no
+    /// memory.
     pub(crate) fn new(
         alloc: Global,
         w: &'a World,
