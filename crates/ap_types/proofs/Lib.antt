@@ -2,6 +2,7 @@ pub mod Listing
 pub mod Formed
 pub mod Scoped
 pub mod Sides
+pub mod Unspoken
 pub mod RowsHold
 pub mod Cutting
 pub mod TypesHold

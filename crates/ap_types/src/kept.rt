@@ -7,6 +7,7 @@ ghost use Rattle.ap_world.specs.World.{function_of, has_name};
 ghost use Rattle.ap_world.specs.KeptTypes.{body_types, settled, kept_types};
 ghost use Rattle.ap_kernel.specs.Standing.{DefinesNot};
 
+use crate::base::Base;
 use crate::calls::{Own, Setting};
 use crate::typing::types_at;
 use ap_list::{NoMemory, Seq};
@@ -29,7 +30,7 @@ fn body_types(
     let setting = Setting {
         alloc,
         w,
-        base: &[],
+        base: Base::plain(&[]),
         own: Some(Own { name, mask }),
     };
     types_at(&setting, &mut nothing, body)

@@ -7,6 +7,7 @@
 //! is added to a world: reached from the empty mask by rounds of its body.
 #![tactic(auto)]
 
+mod base;
 mod calls;
 mod constants;
 mod facts;

@@ -6,6 +6,7 @@ ghost use Rattle.ap_world.specs.Typing.{types};
 ghost use Rattle.ap_kernel.specs.Standing.{DefinesNot};
 ghost use Rattle.ap_kernel.specs.Masks.{MaskHolds};
 
+use crate::base::Base;
 use crate::calls::Setting;
 use crate::typing::types_at;
 use ap_kernel::{Ctx, TypeOracle};
@@ -31,7 +32,7 @@ pub fn types_of(alloc: Global, w: &World, ctx: &Ctx, t: &Term) -> Result<Mask, N
     let setting = Setting {
         alloc,
         w,
-        base: ctx.facts(),
+        base: Base::new(ctx.facts(), t),
         own: None,
     };
     let mut scopes = Seq::new(alloc);

@@ -4,6 +4,7 @@ ghost use Rattle.ap_world.specs.Assume.{assume};
 ghost use Rattle.ap_world.specs.Narrowing.{cut};
 ghost use Rattle.ap_types.specs.Scopes.{in_scope};
 
+use crate::base::Base;
 use crate::facts::cut;
 use ap_kernel::{Ctx, assume};
 use ap_list::{NoMemory, Seq};
@@ -11,10 +12,10 @@ use ap_term::Term;
 use std::alloc::Global;
 
 /// A mask of a term cut by the facts that it is asked under, and by those of each context.
-pub(crate) fn cut_by_each(base: &[(Term, bool)], scopes: &[Ctx], t: &Term, mask: u16) -> u16
+pub(crate) fn cut_by_each(base: &Base<'_>, scopes: &[Ctx], t: &Term, mask: u16) -> u16
     ensures { result ≡ cut (in_scope base.now scopes.now) t.now mask }
 {
-    let mut out = cut(base, t, mask);
+    let mut out = base.cut(t, mask);
     for scope in scopes {
         out = cut(scope.facts(), t, out);
     }

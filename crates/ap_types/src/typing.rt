@@ -26,18 +26,18 @@ pub(crate) fn types_at(
     scopes: &mut Seq<Ctx>,
     t: &Term,
 ) -> Result<u16, NoMemory>
-    ensures is { IfOk result (λ m. m ≡ types_by (types_in s.now.w.now s.now.own) t.now (in_scope s.now.base.now scopes.old)) }
+    ensures is { IfOk result (λ m. m ≡ types_by (types_in s.now.w.now s.now.own) t.now (in_scope s.now.base scopes.old)) }
     ensures scopes { OnOk result (scopes.new ≡ scopes.old) }
 {
     let mask = form_types(s, scopes, t)?;
-    Ok(cut_by_each(s.base, scopes.as_slice(), t, mask))
+    Ok(cut_by_each(&s.base, scopes.as_slice(), t, mask))
 }
 
 /// The types of a term by its form; the facts on the term itself cut them.
 #[cycle(typing)]
 #[tactic(auto, using(ap_term::proofs::Seen::trees))]
 fn form_types(s: &Setting<'_, '_>, scopes: &mut Seq<Ctx>, t: &Term) -> Result<u16, NoMemory>
-    ensures is { IfOk result (λ m. cut (in_scope s.now.base.now scopes.old) t.now m ≡ types_by (types_in s.now.w.now s.now.own) t.now (in_scope s.now.base.now scopes.old)) }
+    ensures is { IfOk result (λ m. cut (in_scope s.now.base scopes.old) t.now m ≡ types_by (types_in s.now.w.now s.now.own) t.now (in_scope s.now.base scopes.old)) }
     ensures scopes { OnOk result (scopes.new ≡ scopes.old) }
 {
     match &t.shape {
@@ -65,7 +65,7 @@ fn head_types(
     f: &Symbol,
     ts: &[Term],
 ) -> Result<u16, NoMemory>
-    ensures is { IfOk result (λ m. m ≡ head_types (types_in s.now.w.now s.now.own) f.now (prim_of f.now) (map (λ u. (u, types_by (types_in s.now.w.now s.now.own) u)) ts.now) (in_scope s.now.base.now scopes.old)) }
+    ensures is { IfOk result (λ m. m ≡ head_types (types_in s.now.w.now s.now.own) f.now (prim_of f.now) (map (λ u. (u, types_by (types_in s.now.w.now s.now.own) u)) ts.now) (in_scope s.now.base scopes.old)) }
     ensures scopes { OnOk result (scopes.new ≡ scopes.old) }
 {
     let p = primitive_of(f);
@@ -86,7 +86,7 @@ fn call_of_one(
     ts: &[Term],
     a: &Term,
 ) -> Result<u16, NoMemory>
-    ensures is { IfOk result (λ m. m ≡ call_types (types_in s.now.w.now s.now.own) f.now p ts.now (types_by (types_in s.now.w.now s.now.own) a.now (in_scope s.now.base.now scopes.old) ∷ [])) }
+    ensures is { IfOk result (λ m. m ≡ call_types (types_in s.now.w.now s.now.own) f.now p ts.now (types_by (types_in s.now.w.now s.now.own) a.now (in_scope s.now.base scopes.old) ∷ [])) }
     ensures scopes { OnOk result (scopes.new ≡ scopes.old) }
 {
     let mask = types_at(s, scopes, a)?;
@@ -104,7 +104,7 @@ fn call_of_two(
     a: &Term,
     b: &Term,
 ) -> Result<u16, NoMemory>
-    ensures is { IfOk result (λ m. m ≡ call_types (types_in s.now.w.now s.now.own) f.now p ts.now (types_by (types_in s.now.w.now s.now.own) a.now (in_scope s.now.base.now scopes.old) ∷ types_by (types_in s.now.w.now s.now.own) b.now (in_scope s.now.base.now scopes.old) ∷ [])) }
+    ensures is { IfOk result (λ m. m ≡ call_types (types_in s.now.w.now s.now.own) f.now p ts.now (types_by (types_in s.now.w.now s.now.own) a.now (in_scope s.now.base scopes.old) ∷ types_by (types_in s.now.w.now s.now.own) b.now (in_scope s.now.base scopes.old) ∷ [])) }
     ensures scopes { OnOk result (scopes.new ≡ scopes.old) }
 {
     let first = types_at(s, scopes, a)?;
@@ -121,7 +121,7 @@ fn other_call(
     p: Option<Primitive>,
     ts: &[Term],
 ) -> Result<u16, NoMemory>
-    ensures is { IfOk result (λ m. m ≡ head_types (types_in s.now.w.now s.now.own) f.now p (map (λ u. (u, types_by (types_in s.now.w.now s.now.own) u)) ts.now) (in_scope s.now.base.now scopes.old)) }
+    ensures is { IfOk result (λ m. m ≡ head_types (types_in s.now.w.now s.now.own) f.now p (map (λ u. (u, types_by (types_in s.now.w.now s.now.own) u)) ts.now) (in_scope s.now.base scopes.old)) }
     ensures scopes { OnOk result (scopes.new ≡ scopes.old) }
 {
     match if_parts(p, ts) {
@@ -142,7 +142,7 @@ fn if_types(
     b: &Term,
     c: &Term,
 ) -> Result<u16, NoMemory>
-    ensures is { IfOk result (λ m. m ≡ chosen_types (types_by (types_in s.now.w.now s.now.own) a.now (in_scope s.now.base.now scopes.old)) (types_by (types_in s.now.w.now s.now.own) b.now (assume (in_scope s.now.base.now scopes.old) a.now true)) (types_by (types_in s.now.w.now s.now.own) c.now (assume (in_scope s.now.base.now scopes.old) a.now false))) }
+    ensures is { IfOk result (λ m. m ≡ chosen_types (types_by (types_in s.now.w.now s.now.own) a.now (in_scope s.now.base scopes.old)) (types_by (types_in s.now.w.now s.now.own) b.now (assume (in_scope s.now.base scopes.old) a.now true)) (types_by (types_in s.now.w.now s.now.own) c.now (assume (in_scope s.now.base scopes.old) a.now false))) }
     ensures scopes { OnOk result (scopes.new ≡ scopes.old) }
 {
     let test = types_at(s, scopes, a)?;
@@ -162,7 +162,7 @@ fn types_under(
     sign: bool,
     t: &Term,
 ) -> Result<u16, NoMemory>
-    ensures is { IfOk result (λ m. m ≡ if_so chosen (types_by (types_in s.now.w.now s.now.own) t.now (assume (in_scope s.now.base.now scopes.old) test.now sign))) }
+    ensures is { IfOk result (λ m. m ≡ if_so chosen (types_by (types_in s.now.w.now s.now.own) t.now (assume (in_scope s.now.base scopes.old) test.now sign))) }
     ensures scopes { OnOk result (scopes.new ≡ scopes.old) }
 {
     if !chosen {
@@ -178,7 +178,7 @@ fn types_under(
 /// The masks of a call's arguments.
 #[cycle(typing)]
 fn masks_of(s: &Setting<'_, '_>, scopes: &mut Seq<Ctx>, ts: &[Term]) -> Result<Seq<u16>, NoMemory>
-    ensures is { IfOk result (λ ms. ms ≡ map (λ u. types_by (types_in s.now.w.now s.now.own) u (in_scope s.now.base.now scopes.old)) ts.now) }
+    ensures is { IfOk result (λ ms. ms ≡ map (λ u. types_by (types_in s.now.w.now s.now.own) u (in_scope s.now.base scopes.old)) ts.now) }
     ensures scopes { OnOk result (scopes.new ≡ scopes.old) }
 {
     let mut masks = Seq::new(s.alloc);
