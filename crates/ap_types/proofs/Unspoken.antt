@@ -19,7 +19,7 @@ use Rattle.ap_world.specs.Shapes.{Shape, constant, shape_of}
 use Rattle.ap_world.specs.Kinds.{all}
 use Rattle.ap_world.specs.Narrowing.{by_itself, by_pair, by_parts, leaves, cut}
 use Rattle.ap_types.specs.Sides.{by_side}
-use Rattle.ap_types.specs.Spoken.{place, IsFree, Marks, IsSilentSide, AreSilent, IsSilent, Unspoken}
+use Rattle.ap_types.specs.Spoken.{place, IsFree, Marks, IsSilentSide, AreSilent, AreApart, IsSilent, Unspoken, left_alone}
 use Rattle.ap_types.proofs.Sides.{by_both}
 
 eq_yes : (a b : ℕ) → nat_eq a b ≡ true → a ≡ b
@@ -102,13 +102,34 @@ each_next P (g ∷ fs) (suc i) f l e r p = (r.0, each_next P fs i f (below i (le
     below : (n k : ℕ) → suc n < suc k → n < k
     below n k h = omega arith
 
-pub noted_next : (fs : Facts) (i : ℕ) (f : Term × Bool) (old new : List Bool) → i < length fs → f ≡ get_or fs i f → Unspoken old (take i fs) → Marks old new (IsSilent f.0) → Unspoken new (take (i + 1) fs)
-noted_next fs i f old new l e h m u free =
+pub marks_next : (fs : Facts) (i : ℕ) (f : Term × Bool) (start old new : List Bool) → i < length fs → f ≡ get_or fs i f → Marks start old (AreApart (take i fs)) → Marks old new (IsSilent f.0)
+    → Marks start new (AreApart (take (i + 1) fs))
+marks_next fs i f start old new l e h m u free =
     let r = m u free in
+    let q = h u r.0 in
     let more : suc i ≡ i + 1 = omega arith in
-    subst (λ n. Each (λ (g : Term × Bool). leaves u g.0 g.1 ≡ all) (take n fs)) more (each_next (λ (g : Term × Bool). leaves u g.0 g.1 ≡ all) fs i f l e (h u r.0) (r.1 f.1))
+    (q.0, subst (λ n. AreApart (take n fs) u) more (each_next (λ (g : Term × Bool). leaves u g.0 g.1 ≡ all) fs i f l e q.1 (r.1 f.1)))
+
+-- facts that leave a term alone
+pub cut_alone : (fs : Facts) (u : Term) (m : ℕ) → AreApart fs u → cut fs u m ≡ left_alone fs m
+cut_alone [] u m e = refl
+cut_alone (f ∷ fs) u m e = cut_silent f fs u m e
 
 -- where the place of a term is free the facts leave its types alone
-pub cut_free : (fs : Facts) (notes : List Bool) (i : ℕ) (u : Term) (m : ℕ) → Unspoken notes fs → i ≡ place u → fs ≢ [] → get_or notes i false ≡ false → bit_and m all ≡ cut fs u m
-cut_free [] notes i u m h e l free = absurd (l refl)
-cut_free (f ∷ fs) notes i u m h e l free = sym (cut_silent f fs u m (h u (subst (λ j. get_or notes j false ≡ false) e free)))
+pub cut_free : (fs : Facts) (notes : List Bool) (i : ℕ) (u : Term) (m : ℕ) → Unspoken notes fs → i ≡ place u → get_or notes i false ≡ false → left_alone fs m ≡ cut fs u m
+cut_free fs notes i u m h e free = sym (cut_alone fs u m (h u (subst (λ j. get_or notes j false ≡ false) e free)))
+
+pub some_alone : (fs : Facts) (m : ℕ) → fs ≢ [] → left_alone fs m ≡ bit_and m all
+some_alone [] m h = absurd (h refl)
+some_alone (f ∷ fs) m h = refl
+
+apart_both : (fs gs : Facts) (u : Term) → AreApart fs u → AreApart gs u → AreApart (fs ++ gs) u
+apart_both [] gs u p q = q
+apart_both (f ∷ fs) gs u p q = (p.0, apart_both fs gs u p.1 q)
+
+-- notes of facts and of more
+pub unspoken_more : (old new : List Bool) (fs gs : Facts) → Unspoken old fs → Marks old new (AreApart gs) → Unspoken new (fs ++ gs)
+unspoken_more old new fs gs h m u free = let r = m u free in apart_both fs gs u (h u r.0) r.1
+
+pub unspoken_still : (old new : List Bool) (fs gs : Facts) → Unspoken old fs → Marks old new (AreApart gs) → Unspoken new fs
+unspoken_still old new fs gs h m u free = h u (m u free).0

@@ -1,5 +1,6 @@
 -- Of which terms facts say something, told by places that their hashes give.
 use Rattle.std.specs.Prelude.{◌≡◌, ℕ, ◌%◌, Bool, false, List, [], ◌∷◌, get_or, Option, Some, None}
+use Rattle.std.specs.Int.Bits.{bit_and}
 use Rattle.ap_list.specs.Lists.{Each}
 use Rattle.ap_term.specs.declared.term.Term.{Term}
 use Rattle.ap_term.specs.Equal.{term_eq}
@@ -37,9 +38,18 @@ AreSilent ts u = Unit {0}
 abbrev pub IsSilent : Term → Term → Type 0
 IsSilent f u = (s : Bool) → leaves u f s ≡ all
 
+-- and so do facts
+abbrev pub AreApart : Facts → Term → Type 0
+AreApart fs u = Each (λ f. leaves u f.0 f.1 ≡ all) fs
+
 -- facts leave the types of a term alone whose place is free
 abbrev pub Unspoken : List Bool → Facts → Type 0
-Unspoken notes fs = (u : Term) → IsFree notes u → Each (λ f. leaves u f.0 f.1 ≡ all) fs
+Unspoken notes fs = (u : Term) → IsFree notes u → AreApart fs u
+
+-- the types that facts leave which leave them alone
+abbrev pub left_alone : Facts → ℕ → ℕ
+left_alone [] m = m
+left_alone (f ∷ fs) m = bit_and m all
 
 -- where places are noted, they are those of these facts
 abbrev pub Notes : Facts → Option (List Bool) → Type 0

@@ -9,8 +9,9 @@ ghost use Rattle.ap_kernel.specs.Standing.{DefinesNot};
 
 use crate::base::Base;
 use crate::calls::{Own, Setting};
+use crate::scopes::Scopes;
 use crate::typing::types_at;
-use ap_list::{NoMemory, Seq};
+use ap_list::NoMemory;
 use ap_term::Term;
 use ap_value::Symbol;
 use ap_world::{Mask, World, masks};
@@ -26,7 +27,7 @@ fn body_types(
 ) -> Result<u16, NoMemory>
     ensures { IfOk result (λ m. m ≡ body_types w.now name.now body.now mask) }
 {
-    let mut nothing = Seq::new(alloc);
+    let mut nothing = Scopes::new(alloc);
     let setting = Setting {
         alloc,
         w,

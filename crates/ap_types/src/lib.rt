@@ -15,6 +15,7 @@ mod kept;
 mod kinds;
 pub mod laws;
 mod oracle;
+mod places;
 mod rows;
 mod rules;
 mod scopes;

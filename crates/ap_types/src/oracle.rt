@@ -8,9 +8,10 @@ ghost use Rattle.ap_kernel.specs.Masks.{MaskHolds};
 
 use crate::base::Base;
 use crate::calls::Setting;
+use crate::scopes::Scopes;
 use crate::typing::types_at;
 use ap_kernel::{Ctx, TypeOracle};
-use ap_list::{NoMemory, Seq};
+use ap_list::NoMemory;
 use ap_term::Term;
 use ap_world::{Mask, World};
 use std::alloc::Global;
@@ -35,7 +36,7 @@ pub fn types_of(alloc: Global, w: &World, ctx: &Ctx, t: &Term) -> Result<Mask, N
         base: Base::new(ctx.facts(), t),
         own: None,
     };
-    let mut scopes = Seq::new(alloc);
+    let mut scopes = Scopes::new(alloc);
     Ok(Mask(types_at(&setting, &mut scopes, t)?))
 }
 

@@ -2,7 +2,7 @@ use Rattle.std.proofs.Common.{subst}
 use Rattle.ap_term.proofs.Seen.{seen}
 use Rattle.ap_types.specs.Spoken.{AreSilent}
 use Rattle.ap_types.proofs.Unspoken.{silent_var, silent_quote, silent_call}
-use Rattle.ap_types.proofs.base.mark_fact.Goals as goal
+use Rattle.ap_types.proofs.places.mark_fact.Goals as goal
 
 pub returns-in-Var : goal.returns-in-Var
 returns-in-Var c u free =
