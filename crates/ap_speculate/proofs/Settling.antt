@@ -1,7 +1,6 @@
 -- A row of thieves' sides is settled, one after another from its end, and row after row.
-use Rattle.std.proofs.Common.{◌≡◌, ℕ, suc, ◌+◌, ◌<◌, List, [], ◌∷◌, ◌++◌, length, get_or, set, take, drop, refl, sym, ap, ap₂, ◌∙◌, subst, arith, inl, inr}
+use Rattle.std.proofs.Common.{◌≡◌, ℕ, suc, ◌+◌, ◌<◌, List, [], ◌∷◌, ◌++◌, length, get_or, set, refl, sym, ap, ◌∙◌, subst, arith, inl, inr}
 use Rattle.std.specs.Prelude.{Vec, ◌⊎◌}
-use Rattle.std.specs.List.{remove}
 use Rattle.std.specs.declared.alloc.Global.{Global}
 use Rattle.std.proofs.lemmas.List.{length-append}
 use Rattle.ap_list.specs.Lists.{Each}
@@ -12,8 +11,8 @@ use Rattle.ap_deal.specs.declared.hands.Dealer.{Dealer}
 use Rattle.ap_deal.specs.Deals.{times, getting}
 use Rattle.ap_deal.specs.Hands.{hand_log, dealer_log, SameHand, IsOf}
 use Rattle.ap_deal.proofs.Totals.{times_append}
-use Rattle.ap_speculate.specs.Sides.{Deque, hand_deque, dealer_deque, owned, sided, dealt_by, got_by, stolen_by, stolen_in, IsSettled, IsRow, AreRows}
-use Rattle.ap_speculate.proofs.Siding.{Begins, EachFrom, At, begins_same, begins_less, begins_at, at_below, at_is, owned_set, owned_parts, owned_first, dealt_set, got_set, stolen_last, stolen_in_last, from_end, from_set, row_long}
+use Rattle.ap_speculate.specs.Sides.{dealer_deque, owned, sided, dealt_by, got_by, stolen_by, stolen_in, IsSettled, IsRow, AreRows}
+use Rattle.ap_speculate.proofs.Siding.{Begins, EachFrom, At, begins_same, begins_less, begins_at, at_below, at_is, owned_set, dealt_set, got_set, stolen_last, stolen_in_last, from_end, from_set, row_long}
 
 -- what is there when a row is settled from its end down to some first ones
 pub record RowLeft (first : List Hand) (whole : List Dealer) (owns : List Hand) (row : List Dealer) : Type 0 where

@@ -1,14 +1,12 @@
 -- The deques of sides that are given and settled.
-use Rattle.std.proofs.Common.{◌≡◌, ℕ, zero, suc, ◌+◌, ◌<◌, ◌≤◌, List, [], ◌∷◌, ◌++◌, length, get_or, set, take, drop, refl, sym, ap, ◌∙◌, subst, arith, add-one}
+use Rattle.std.proofs.Common.{◌≡◌, ℕ, zero, suc, ◌+◌, ◌<◌, ◌≤◌, List, [], ◌∷◌, ◌++◌, length, get_or, set, take, refl, sym, ap, ◌∙◌, arith, add-one}
 use Rattle.std.specs.Prelude.{Vec}
-use Rattle.std.specs.List.{remove}
 use Rattle.std.specs.declared.alloc.Global.{Global}
 use Rattle.ap_list.specs.Lists.{Each}
 use Rattle.ap_deal.specs.declared.hands.Hand.{Hand}
 use Rattle.ap_deal.specs.declared.hands.Dealer.{Dealer}
 use Rattle.ap_deal.specs.Deals.{times}
 use Rattle.ap_deal.specs.Hands.{hand_log, dealer_log, SameDeque}
-use Rattle.ap_deal.proofs.Totals.{times_append}
 use Rattle.ap_speculate.specs.Sides.{Deque, hand_deque, dealer_deque, owned, sided, dealt_by, got_by, stolen_by, stolen_in}
 
 pub owned_append : (xs ys : List Hand) → owned (xs ++ ys) ≡ owned xs ++ owned ys
@@ -134,16 +132,6 @@ owned_long (x ∷ hs) = ap suc (owned_long hs)
 
 pub row_long : (ds : List Dealer) (hs : List Hand) → sided ds ≡ owned hs → length ds ≡ length hs
 row_long ds hs is = sym (sided_long ds) ∙ (ap length is ∙ owned_long hs)
-
--- parts of the owners' sides
-pub owned_parts : (i : ℕ) (hs : List Hand) → owned hs ≡ owned (take i hs) ++ owned (drop i hs)
-owned_parts zero hs = refl
-owned_parts (suc i) [] = refl
-owned_parts (suc i) (h ∷ hs) = ap (λ (l : List Deque). hand_deque h ∷ l) (owned_parts i hs)
-
-pub owned_first : (hs rest : List Hand) (h : Hand) → 0 < length hs → h ≡ get_or hs 0 h → rest ≡ remove hs 0 → owned hs ≡ hand_deque h ∷ owned rest
-owned_first [] rest h some is left = absurd (omega arith)
-owned_first (k ∷ hs) rest h some is left = ap (λ (k : Hand). hand_deque k ∷ owned hs) (sym is) ∙ ap (λ (l : List Hand). hand_deque h ∷ owned l) (sym left)
 
 set_long : (i : ℕ) (ds : List Dealer) (e : Dealer) → length (set ds i e) ≡ length ds
 set_long i [] e = refl

@@ -1,5 +1,5 @@
 //! The deques at a table: how each side is told to be of one, and how they are brought together again.
-ghost use Rattle.std.specs.Prelude.{◌≡◌, ◌<◌, Some, IfOk, IfSome, OnSome, length, vec_len, take, slice_get};
+ghost use Rattle.std.specs.Prelude.{◌≡◌, ◌<◌, Some, IfSome, length, vec_len, take, slice_get};
 ghost use Rattle.ap_list.specs.Lists.{Each};
 ghost use Rattle.ap_speculate.specs.Sides.{hand_deque, owned, sided, AreRows, IsSettled};
 

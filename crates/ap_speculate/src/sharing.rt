@@ -54,8 +54,8 @@ where
 }
 
 /// Works at a table by the workers of some deques, of which the caller is the first. It takes the first turn alone, by
-/// the root's step where that is known. Once the workers are joined, what they left of the deques is settled: answers the
-/// owners' sides, in order, where they are all there and there was memory.
+/// the root's step where that is known. Once the workers are joined, what they left of the deques is settled. Answers
+/// the owners' sides, in order, where they are all there and there was memory.
 fn work_by<S: Step + Sync, D: Deques + Send + Sync, G: Gate + Sync, R: Threads + Wait + Sync>(
     rt: &R,
     alloc: Global,

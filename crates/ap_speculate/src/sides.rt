@@ -1,7 +1,7 @@
 //! The deques of nodes' numbers: how they are made, and how they are settled.
-ghost use Rattle.std.specs.Prelude.{◌≡◌, ℕ, ◌+◌, ◌<◌, ◌∷◌, length, IfOk};
+ghost use Rattle.std.specs.Prelude.{◌≡◌, ℕ, ◌+◌, ◌<◌, length, IfOk};
 ghost use Rattle.ap_list.specs.Lists.{Each};
-ghost use Rattle.ap_speculate.specs.Sides.{hand_deque, owned, sided, dealt_by, got_by, stolen_by, stolen_in, AreRows, IsSettled};
+ghost use Rattle.ap_speculate.specs.Sides.{owned, sided, dealt_by, got_by, stolen_by, stolen_in, AreRows, IsSettled};
 
 use ap_deal::{Dealer, Hand, hand};
 use ap_walk::NoMemory;
