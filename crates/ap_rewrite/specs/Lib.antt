@@ -1,3 +1,4 @@
+pub mod Folds
 pub mod Costs
 pub mod Arithmetic
 pub mod Refuting

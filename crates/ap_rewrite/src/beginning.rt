@@ -14,5 +14,5 @@ pub fn memo<'a>(
 ) -> Result<Memo<'a>, NoMemory>
     ensures { IfOk result (λ m. m ≡ record { world = w.now; theory = theory.now; expand = expand.now; place = None; around = [] }) }
 {
-    Ok(Memo::new(alloc, w, theory, expand))
+    Ok(Memo::new(alloc, w, theory, expand, 0))
 }

@@ -10,7 +10,7 @@ ghost use Rattle.ap_rewrite.specs.InWorld.{world_setting};
 ghost use Rattle.ap_rewrite.specs.Rewriting.{rewrite_of};
 ghost use Rattle.ap_rewrite.specs.Answering.{defs_in, Ready, setting_of, seen_at, got, steps_after, From, IsFor};
 
-use crate::memos::Memo;
+use crate::memos::{Memo, PASSED_OVER};
 use crate::rewriter::{Place, Rewriter, Run};
 use crate::rewriting::rewrite;
 use ap_kernel::{Ctx, Equiv, LinearOracle, Mode, NoMemory, Seq, Term, TypeOracle, World};
@@ -118,7 +118,7 @@ pub fn literal<O: TypeOracle + LinearOracle>(
     ensures steps { IfOk result (λ o. steps.new.left ≡ steps_after (rewrite_of (world_setting w.now theory.now expand.now) Iff (record { facts = ctx.now.0; closed = []; chain = 0 }) t.now steps.old.left)) }
     ensures from { IfOk result (λ o. IfSome o (From w.now Iff ctx.now t.now)) }
 {
-    let mut memo = Memo::new(alloc, w, theory, expand);
+    let mut memo = Memo::new(alloc, w, theory, expand, PASSED_OVER);
     literal_kept(
         &mut memo, alloc, w, rules, theory, expand, oracle, ctx, steps, t,
     )

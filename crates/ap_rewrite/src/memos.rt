@@ -17,6 +17,10 @@ use std::marker::Model;
 /// The most entries that a memo keeps.
 const MOST_ENTRIES: u32 = 4096;
 
+/// How many answers the memo of a clause passes over before it keeps the first: most clauses have fewer, and nothing is
+/// asked again in them.
+pub(crate) const PASSED_OVER: u32 = 8;
+
 /// What terms became, for a world, a theory and the calls that are opened, each at its place. Contracts see these, the
 /// place at which rewriting stands and those around it; its type keeps that each entry is the definition's.
 pub struct Memo<'a> {
@@ -28,6 +32,8 @@ pub struct Memo<'a> {
     last: Option<Table>,
     /// How many entries more are kept.
     room: u32,
+    /// How many answers more are passed over before one is kept.
+    passed_over: u32,
     /// How often something was known, up to the greatest number.
     pub hits: u64,
 }
@@ -43,6 +49,7 @@ impl<'a> Drop for Memo<'a> {
             around: _around,
             last: _last,
             room: _,
+            passed_over: _,
             hits: _,
         } = self;
     }
@@ -65,12 +72,14 @@ impl<'a> Model for Memo<'a> {
 }
 
 impl<'a> Memo<'a> {
-    /// A memo of nothing, which stands at no place. Takes no memory.
+    /// A memo of nothing, which stands at no place, and passes over so many answers before it keeps one. Takes no
+    /// memory.
     pub(crate) fn new(
         alloc: Global,
         w: &'a World,
         theory: &'a Theory,
         expand: &'a Seq<Term>,
+        passed_over: u32,
     ) -> Memo<'a>
         ensures { result ≡ record { world = w.now; theory = theory.now; expand = expand.now; place = None; around = [] } }
     {
@@ -82,13 +91,14 @@ impl<'a> Memo<'a> {
             around: Vec::new(alloc),
             last: None,
             room: MOST_ENTRIES,
+            passed_over,
             hits: 0,
         }
     }
 
     /// A new one, for the same. Takes no memory.
     pub(crate) fn bare(&self, alloc: Global) -> Memo<'a> {
-        Memo::new(alloc, self.w, self.theory, self.expand)
+        Memo::new(alloc, self.w, self.theory, self.expand, 0)
     }
 
     /// What is known of a term here, with so many levels and steps left.
@@ -135,7 +145,8 @@ impl<'a> Memo<'a> {
         Ok(found)
     }
 
-    /// Keeps what a term became here, where it cost enough steps and no more than there were levels, and room is left.
+    /// Keeps what a term became here, where it cost enough steps and no more than there were levels, room is left, and
+    /// enough was passed over.
     pub(crate) fn keep(
         &mut self,
         alloc: Global,
@@ -156,6 +167,10 @@ impl<'a> Memo<'a> {
             return Ok(());
         };
         if cost > levels || self.room == 0 {
+            return Ok(());
+        }
+        if self.passed_over > 0 {
+            self.passed_over -= 1;
             return Ok(());
         }
         let known = known_of(alloc, answer, cost, at.chain)?;

@@ -13,7 +13,7 @@ ghost use Rattle.ap_rewrite.specs.Answering.{defs_in, Ready, setting_of, got, Is
 ghost use Rattle.ap_rewrite.specs.Simplifying.{got_reduced, literals_left, HasPlace, FitsLiteral, LeavesTrue};
 
 use crate::literals::literal_kept;
-use crate::memos::Memo;
+use crate::memos::{Memo, PASSED_OVER};
 use crate::rewriter::Rewriter;
 use ap_clausify::split;
 use ap_kernel::{
@@ -225,7 +225,7 @@ pub fn simplify<O: TypeOracle + LinearOracle>(
     ensures made { IfOk result (λ o. option_map (λ q. q.says) o ≡ option_map (λ p. record { from = c; to = p.0 }) (settled_left (simplify_of (setting_of r.now) steps.old.left c))) }
     ensures steps { IfOk result (λ o. steps.new.left ≡ steps_left (simplify_of (setting_of r.now) steps.old.left c)) }
 {
-    let mut memo = Memo::new(r.alloc, r.w, r.theory, r.expand);
+    let mut memo = Memo::new(r.alloc, r.w, r.theory, r.expand, PASSED_OVER);
     let Some(q) = rewrite_literals(r, &mut memo, steps, c)? else {
         steps.left = 0;
         return Ok(None);

@@ -10,12 +10,46 @@ use ap_kernel::{Ctx, Mode, NoMemory, Seq, Symbol, Term};
 use ap_term::{copy_symbols, same_term};
 use indexmap::IndexMap;
 use std::alloc::{AllocError, Global};
+use std::hash::{BuildHasherDefault, Hasher};
+
+/// What makes a hash of a number that is one already: a multiplication for each byte. A hasher of its own leaves the
+/// hasher of names, which is called far oftener, to be compiled into its callers.
+#[derive(Clone, Copy)]
+pub(crate) struct Folded(u64);
+
+impl Default for Folded {
+    ghost is_default = { λ s. s ≡ record { 0 = 0xcbf29ce484222325 } };
+
+    fn default() -> Folded {
+        Folded(0xcbf29ce484222325)
+    }
+}
+
+impl Hasher for Folded {
+    ghost use Rattle.ap_rewrite.specs.Folds.{folded};
+
+    ghost write = { folded };
+
+    ghost finish = { λ s. s.0 };
+
+    #[inline(always)]
+    fn finish(&self) -> u64 {
+        self.0
+    }
+
+    #[inline(always)]
+    fn write(&mut self, bytes: &[u8]) {
+        for b in bytes {
+            self.0 = (self.0 ^ u64::from(*b)).wrapping_mul(0x100000001b3);
+        }
+    }
+}
 
 /// What terms became at one place, each under a number that its hash and the mode give.
 pub(crate) struct Table {
     pub ctx: Ctx,
     pub closed: Seq<Symbol>,
-    pub entries: IndexMap<u64, Known>,
+    pub entries: IndexMap<u64, Known, BuildHasherDefault<Folded>>,
 }
 
 // One call wherever a table is let go, whatever it keeps.
@@ -87,7 +121,7 @@ fn empty_table(alloc: Global, at: &Place<'_>) -> Result<Table, NoMemory>
     Ok(Table {
         ctx,
         closed,
-        entries: IndexMap::new(alloc),
+        entries: IndexMap::with_hasher(alloc, BuildHasherDefault::new()),
     })
 }
 

@@ -6,3 +6,6 @@ pub mod Handing
 pub mod Turning
 pub mod Crossing
 pub mod Holding
+pub mod Siding
+pub mod Placing
+pub mod Settling

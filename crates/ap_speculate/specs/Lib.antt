@@ -1,3 +1,4 @@
 pub mod Jobs
 pub mod Boards
 pub mod Turns
+pub mod Sides

@@ -45,6 +45,9 @@
 //! A number in a deque is a hint and no right: it may have been claimed by another who came by serial order, and is then
 //! passed over. A lost number costs nothing but order, since the first free node is found without deques.
 //!
+//! After its last turn a worker puts its deques under a lock of their own. Once all are joined the caller settles them: of
+//! what an owner and the thieves got of a deque no number came oftener than it was dealt there.
+//!
 //! # The gate
 //!
 //! [`Gate`] is called before a job's first look and after its walk, with the worker's number and the goal's name. The
@@ -55,10 +58,13 @@
 mod board;
 mod counts;
 mod gate;
+mod gathering;
 mod hands;
 mod job;
 mod looking;
+mod owners;
 mod sharing;
+mod sides;
 mod starting;
 mod supply;
 mod turn;

@@ -4,8 +4,11 @@ ghost use Rattle.ap_table.specs.Locked.{OneStep};
 ghost use Rattle.ap_table.specs.Steps.{Claims};
 ghost use Rattle.ap_table.specs.declared.stored.Claim.TheVariants as claim;
 ghost use Rattle.ap_speculate.specs.Turns.{WasClaimed};
+ghost use Rattle.ap_speculate.specs.Sides.{sided};
 
-use crate::hands::{Hands, sides};
+use crate::gathering::further_row;
+use crate::hands::Hands;
+use crate::owners::{Deques, Row};
 use ap_deal::{Dealer, Stolen};
 use ap_table::{Claim, GoalTable, Job};
 use ap_walk::{NoMemory, Step};
@@ -22,12 +25,12 @@ pub(crate) struct Children {
 
 /// A worker's deques, and the jobs that it claimed for want of room in its own.
 #[derive(Drop)]
-pub(crate) struct Supply<S: Step> {
-    hands: Hands,
+pub(crate) struct Supply<S: Step, D: Deques> {
+    hands: Hands<D>,
     held: Vec<Job<S::Task>>,
 }
 
-impl<S: Step> Model for Supply<S> {
+impl<S: Step, D: Deques> Model for Supply<S, D> {
     ghost use Rattle.std.specs.Prelude.{List};
     ghost use Rattle.ap_list.specs.Lists.{Each};
     ghost use Rattle.ap_table.specs.declared.stored.Job.{Job};
@@ -71,7 +74,8 @@ fn steal_job<S: Step, R: Wait>(
     table: &GoalTable<S>,
     others: &mut Vec<Dealer>,
 ) -> Option<Job<S::Task>>
-    ensures { IfSome result (WasClaimed S.step_of S.depth) }
+    ensures same { sided others.new.items ≡ sided others.old.items }
+    ensures found { IfSome result (WasClaimed S.step_of S.depth) }
 {
     for dealer in others.iter_mut() {
         if let Some(job) = claim_number(rt, table, number_of(dealer.steal())) {
@@ -92,9 +96,9 @@ fn scan<S: Step, R: Wait>(rt: &R, table: &GoalTable<S>) -> Option<Job<S::Task>>
     }
 }
 
-impl<S: Step> Supply<S> {
+impl<S: Step, D: Deques> Supply<S, D> {
     /// What a worker begins with.
-    pub(crate) fn new(alloc: Global, hands: Hands) -> Supply<S> {
+    pub(crate) fn new(alloc: Global, hands: Hands<D>) -> Supply<S, D> {
         Supply {
             hands,
             held: Vec::new(alloc),
@@ -120,7 +124,7 @@ impl<S: Step> Supply<S> {
         if let Some(job) = claim_number(rt, table, self.hands.own.take_own()) {
             return Some(job);
         }
-        if let Some(job) = steal_job(rt, table, &mut self.hands.others) {
+        if let Some(job) = steal_job(rt, table, &mut self.hands.others.dealers) {
             return Some(job);
         }
         scan(rt, table)
@@ -155,7 +159,13 @@ impl<S: Step> Supply<S> {
     }
 
     /// A thief's side of each deque, for a further worker. The only error is want of memory.
-    pub(crate) fn sides(&mut self, alloc: Global) -> Result<Vec<Dealer>, NoMemory> {
-        sides(alloc, &mut self.hands.others)
+    pub(crate) fn sides(&mut self, alloc: Global) -> Result<Row<D>, NoMemory> {
+        further_row(alloc, &mut self.hands.others)
+    }
+
+    /// The worker's deques, when it has taken its last turn.
+    pub(crate) fn into_hands(self) -> Hands<D> {
+        let Supply { hands, .. } = self;
+        hands
     }
 }

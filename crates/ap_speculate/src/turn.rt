@@ -9,6 +9,7 @@ use crate::board::{Board, Shared};
 use crate::counts::Counts;
 use crate::gate::Gate;
 use crate::job::{JobEnd, look_at_job, run_stepped, step_of};
+use crate::owners::Deques;
 use crate::supply::{Children, Supply};
 use ap_table::{GoalTable, Grown, Job};
 use ap_walk::{NoMemory, Out, Step, Stepped};
@@ -111,12 +112,12 @@ fn known_step<S: Step>(
 
 /// One turn at a table: works the next job, by its task's step where that is known, and deals its children, or waits
 /// until there is more. Answers whether there may be another turn: not where the root is done.
-fn turn<S: Step, G: Gate, R: Wait>(
+fn turn<S: Step, D: Deques, G: Gate, R: Wait>(
     rt: &R,
     alloc: Global,
     step: &S,
     table: &GoalTable<S>,
-    supply: &mut Supply<S>,
+    supply: &mut Supply<S, D>,
     counts: &Counts,
     known: Option<(S::Task, Stepped<S::Task>)>,
     worker: u32,
@@ -139,12 +140,12 @@ fn turn<S: Step, G: Gate, R: Wait>(
 
 /// Takes one turn, unless the table is halted. Answers whether there may be another one. A worker that is refused memory
 /// halts the table.
-pub(crate) fn goes_on<S: Step, G: Gate, R: Wait>(
+pub(crate) fn goes_on<S: Step, D: Deques, G: Gate, R: Wait>(
     rt: &R,
     alloc: Global,
     step: &S,
     table: &GoalTable<S>,
-    supply: &mut Supply<S>,
+    supply: &mut Supply<S, D>,
     counts: &Counts,
     known: Option<(S::Task, Stepped<S::Task>)>,
     worker: u32,
@@ -162,4 +163,18 @@ pub(crate) fn goes_on<S: Step, G: Gate, R: Wait>(
             false
         }
     }
+}
+
+/// The same where no task's step is known.
+pub(crate) fn goes_on_as<S: Step, D: Deques, G: Gate, R: Wait>(
+    rt: &R,
+    alloc: Global,
+    step: &S,
+    table: &GoalTable<S>,
+    supply: &mut Supply<S, D>,
+    counts: &Counts,
+    worker: u32,
+    gate: &G,
+) -> bool {
+    goes_on(rt, alloc, step, table, supply, counts, None, worker, gate)
 }

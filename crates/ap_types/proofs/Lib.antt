@@ -1,7 +1,8 @@
 pub mod Listing
 pub mod Formed
-pub mod Scoped
 pub mod Sides
+pub mod Unspoken
+pub mod Scoped
 pub mod RowsHold
 pub mod Cutting
 pub mod TypesHold

@@ -3,6 +3,7 @@ ghost use Rattle.ap_world.specs.Primitives.{prim_of};
 ghost use Rattle.ap_world.specs.Typing.{any_empty, one_types, two_types, other_types, table, call_types};
 ghost use Rattle.ap_types.specs.Settings.{types_in};
 
+use crate::base::Base;
 use crate::rows::{coerce_types, over_one, over_two, test_types, tested};
 use crate::rules::function_types;
 use ap_kernel::is_symbol;
@@ -19,12 +20,12 @@ pub(crate) struct Own<'a> {
 }
 
 /// What stays the same while a term's types are computed.
-#[derive(Clone, Copy, Drop)]
+#[derive(Drop)]
 pub(crate) struct Setting<'a, 'w> {
     pub(crate) alloc: Global,
     pub(crate) w: &'w World,
     /// The facts that the term is asked under.
-    pub(crate) base: &'a [(Term, bool)],
+    pub(crate) base: Base<'a>,
     pub(crate) own: Option<Own<'a>>,
 }
 

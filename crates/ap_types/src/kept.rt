@@ -7,9 +7,11 @@ ghost use Rattle.ap_world.specs.World.{function_of, has_name};
 ghost use Rattle.ap_world.specs.KeptTypes.{body_types, settled, kept_types};
 ghost use Rattle.ap_kernel.specs.Standing.{DefinesNot};
 
+use crate::base::Base;
 use crate::calls::{Own, Setting};
+use crate::scopes::Scopes;
 use crate::typing::types_at;
-use ap_list::{NoMemory, Seq};
+use ap_list::NoMemory;
 use ap_term::Term;
 use ap_value::Symbol;
 use ap_world::{Mask, World, masks};
@@ -25,11 +27,11 @@ fn body_types(
 ) -> Result<u16, NoMemory>
     ensures { IfOk result (λ m. m ≡ body_types w.now name.now body.now mask) }
 {
-    let mut nothing = Seq::new(alloc);
+    let mut nothing = Scopes::new(alloc);
     let setting = Setting {
         alloc,
         w,
-        base: &[],
+        base: Base::plain(&[]),
         own: Some(Own { name, mask }),
     };
     types_at(&setting, &mut nothing, body)

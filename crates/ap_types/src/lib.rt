@@ -7,6 +7,7 @@
 //! is added to a world: reached from the empty mask by rounds of its body.
 #![tactic(auto)]
 
+mod base;
 mod calls;
 mod constants;
 mod facts;
@@ -14,6 +15,7 @@ mod kept;
 mod kinds;
 pub mod laws;
 mod oracle;
+mod places;
 mod rows;
 mod rules;
 mod scopes;

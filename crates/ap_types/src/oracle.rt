@@ -6,10 +6,12 @@ ghost use Rattle.ap_world.specs.Typing.{types};
 ghost use Rattle.ap_kernel.specs.Standing.{DefinesNot};
 ghost use Rattle.ap_kernel.specs.Masks.{MaskHolds};
 
+use crate::base::Base;
 use crate::calls::Setting;
+use crate::scopes::Scopes;
 use crate::typing::types_at;
 use ap_kernel::{Ctx, TypeOracle};
-use ap_list::{NoMemory, Seq};
+use ap_list::NoMemory;
 use ap_term::Term;
 use ap_world::{Mask, World};
 use std::alloc::Global;
@@ -31,10 +33,10 @@ pub fn types_of(alloc: Global, w: &World, ctx: &Ctx, t: &Term) -> Result<Mask, N
     let setting = Setting {
         alloc,
         w,
-        base: ctx.facts(),
+        base: Base::new(ctx.facts(), t),
         own: None,
     };
-    let mut scopes = Seq::new(alloc);
+    let mut scopes = Scopes::new(alloc);
     Ok(Mask(types_at(&setting, &mut scopes, t)?))
 }
 

@@ -11,8 +11,7 @@ ghost use Rattle.ap_types.specs.Settings.{types_in};
 use crate::calls::{Setting, call_types};
 use crate::constants::kind_of;
 use crate::kinds::{bit, meets, without};
-use crate::scopes::{cut_by_each, enter};
-use ap_kernel::Ctx;
+use crate::scopes::{Scopes, cut_by_each};
 use ap_list::{NoMemory, Seq};
 use ap_term::{Shape, Term};
 use ap_value::Symbol;
@@ -21,23 +20,19 @@ use ap_world::{Primitive, masks, primitive_of};
 /// The types of a term under the setting's facts and those of the contexts. On the way contexts are added and taken
 /// away again.
 #[cycle(typing)]
-pub(crate) fn types_at(
-    s: &Setting<'_, '_>,
-    scopes: &mut Seq<Ctx>,
-    t: &Term,
-) -> Result<u16, NoMemory>
-    ensures is { IfOk result (λ m. m ≡ types_by (types_in s.now.w.now s.now.own) t.now (in_scope s.now.base.now scopes.old)) }
+pub(crate) fn types_at(s: &Setting<'_, '_>, scopes: &mut Scopes, t: &Term) -> Result<u16, NoMemory>
+    ensures is { IfOk result (λ m. m ≡ types_by (types_in s.now.w.now s.now.own) t.now (in_scope s.now.base scopes.old)) }
     ensures scopes { OnOk result (scopes.new ≡ scopes.old) }
 {
     let mask = form_types(s, scopes, t)?;
-    Ok(cut_by_each(s.base, scopes.as_slice(), t, mask))
+    Ok(cut_by_each(&s.base, scopes, t, mask))
 }
 
 /// The types of a term by its form; the facts on the term itself cut them.
 #[cycle(typing)]
 #[tactic(auto, using(ap_term::proofs::Seen::trees))]
-fn form_types(s: &Setting<'_, '_>, scopes: &mut Seq<Ctx>, t: &Term) -> Result<u16, NoMemory>
-    ensures is { IfOk result (λ m. cut (in_scope s.now.base.now scopes.old) t.now m ≡ types_by (types_in s.now.w.now s.now.own) t.now (in_scope s.now.base.now scopes.old)) }
+fn form_types(s: &Setting<'_, '_>, scopes: &mut Scopes, t: &Term) -> Result<u16, NoMemory>
+    ensures is { IfOk result (λ m. cut (in_scope s.now.base scopes.old) t.now m ≡ types_by (types_in s.now.w.now s.now.own) t.now (in_scope s.now.base scopes.old)) }
     ensures scopes { OnOk result (scopes.new ≡ scopes.old) }
 {
     match &t.shape {
@@ -61,11 +56,11 @@ fn if_parts(p: Option<Primitive>, ts: &[Term]) -> Option<(&Term, &Term, &Term)>
 #[cycle(typing)]
 fn head_types(
     s: &Setting<'_, '_>,
-    scopes: &mut Seq<Ctx>,
+    scopes: &mut Scopes,
     f: &Symbol,
     ts: &[Term],
 ) -> Result<u16, NoMemory>
-    ensures is { IfOk result (λ m. m ≡ head_types (types_in s.now.w.now s.now.own) f.now (prim_of f.now) (map (λ u. (u, types_by (types_in s.now.w.now s.now.own) u)) ts.now) (in_scope s.now.base.now scopes.old)) }
+    ensures is { IfOk result (λ m. m ≡ head_types (types_in s.now.w.now s.now.own) f.now (prim_of f.now) (map (λ u. (u, types_by (types_in s.now.w.now s.now.own) u)) ts.now) (in_scope s.now.base scopes.old)) }
     ensures scopes { OnOk result (scopes.new ≡ scopes.old) }
 {
     let p = primitive_of(f);
@@ -80,13 +75,13 @@ fn head_types(
 #[cycle(typing)]
 fn call_of_one(
     s: &Setting<'_, '_>,
-    scopes: &mut Seq<Ctx>,
+    scopes: &mut Scopes,
     f: &Symbol,
     p: Option<Primitive>,
     ts: &[Term],
     a: &Term,
 ) -> Result<u16, NoMemory>
-    ensures is { IfOk result (λ m. m ≡ call_types (types_in s.now.w.now s.now.own) f.now p ts.now (types_by (types_in s.now.w.now s.now.own) a.now (in_scope s.now.base.now scopes.old) ∷ [])) }
+    ensures is { IfOk result (λ m. m ≡ call_types (types_in s.now.w.now s.now.own) f.now p ts.now (types_by (types_in s.now.w.now s.now.own) a.now (in_scope s.now.base scopes.old) ∷ [])) }
     ensures scopes { OnOk result (scopes.new ≡ scopes.old) }
 {
     let mask = types_at(s, scopes, a)?;
@@ -97,14 +92,14 @@ fn call_of_one(
 #[cycle(typing)]
 fn call_of_two(
     s: &Setting<'_, '_>,
-    scopes: &mut Seq<Ctx>,
+    scopes: &mut Scopes,
     f: &Symbol,
     p: Option<Primitive>,
     ts: &[Term],
     a: &Term,
     b: &Term,
 ) -> Result<u16, NoMemory>
-    ensures is { IfOk result (λ m. m ≡ call_types (types_in s.now.w.now s.now.own) f.now p ts.now (types_by (types_in s.now.w.now s.now.own) a.now (in_scope s.now.base.now scopes.old) ∷ types_by (types_in s.now.w.now s.now.own) b.now (in_scope s.now.base.now scopes.old) ∷ [])) }
+    ensures is { IfOk result (λ m. m ≡ call_types (types_in s.now.w.now s.now.own) f.now p ts.now (types_by (types_in s.now.w.now s.now.own) a.now (in_scope s.now.base scopes.old) ∷ types_by (types_in s.now.w.now s.now.own) b.now (in_scope s.now.base scopes.old) ∷ [])) }
     ensures scopes { OnOk result (scopes.new ≡ scopes.old) }
 {
     let first = types_at(s, scopes, a)?;
@@ -116,12 +111,12 @@ fn call_of_two(
 #[cycle(typing)]
 fn other_call(
     s: &Setting<'_, '_>,
-    scopes: &mut Seq<Ctx>,
+    scopes: &mut Scopes,
     f: &Symbol,
     p: Option<Primitive>,
     ts: &[Term],
 ) -> Result<u16, NoMemory>
-    ensures is { IfOk result (λ m. m ≡ head_types (types_in s.now.w.now s.now.own) f.now p (map (λ u. (u, types_by (types_in s.now.w.now s.now.own) u)) ts.now) (in_scope s.now.base.now scopes.old)) }
+    ensures is { IfOk result (λ m. m ≡ head_types (types_in s.now.w.now s.now.own) f.now p (map (λ u. (u, types_by (types_in s.now.w.now s.now.own) u)) ts.now) (in_scope s.now.base scopes.old)) }
     ensures scopes { OnOk result (scopes.new ≡ scopes.old) }
 {
     match if_parts(p, ts) {
@@ -137,12 +132,12 @@ fn other_call(
 #[cycle(typing)]
 fn if_types(
     s: &Setting<'_, '_>,
-    scopes: &mut Seq<Ctx>,
+    scopes: &mut Scopes,
     a: &Term,
     b: &Term,
     c: &Term,
 ) -> Result<u16, NoMemory>
-    ensures is { IfOk result (λ m. m ≡ chosen_types (types_by (types_in s.now.w.now s.now.own) a.now (in_scope s.now.base.now scopes.old)) (types_by (types_in s.now.w.now s.now.own) b.now (assume (in_scope s.now.base.now scopes.old) a.now true)) (types_by (types_in s.now.w.now s.now.own) c.now (assume (in_scope s.now.base.now scopes.old) a.now false))) }
+    ensures is { IfOk result (λ m. m ≡ chosen_types (types_by (types_in s.now.w.now s.now.own) a.now (in_scope s.now.base scopes.old)) (types_by (types_in s.now.w.now s.now.own) b.now (assume (in_scope s.now.base scopes.old) a.now true)) (types_by (types_in s.now.w.now s.now.own) c.now (assume (in_scope s.now.base scopes.old) a.now false))) }
     ensures scopes { OnOk result (scopes.new ≡ scopes.old) }
 {
     let test = types_at(s, scopes, a)?;
@@ -156,29 +151,29 @@ fn if_types(
 #[cycle(typing)]
 fn types_under(
     s: &Setting<'_, '_>,
-    scopes: &mut Seq<Ctx>,
+    scopes: &mut Scopes,
     chosen: bool,
     test: &Term,
     sign: bool,
     t: &Term,
 ) -> Result<u16, NoMemory>
-    ensures is { IfOk result (λ m. m ≡ if_so chosen (types_by (types_in s.now.w.now s.now.own) t.now (assume (in_scope s.now.base.now scopes.old) test.now sign))) }
+    ensures is { IfOk result (λ m. m ≡ if_so chosen (types_by (types_in s.now.w.now s.now.own) t.now (assume (in_scope s.now.base scopes.old) test.now sign))) }
     ensures scopes { OnOk result (scopes.new ≡ scopes.old) }
 {
     if !chosen {
         return Ok(0);
     }
     let kept = scopes.len();
-    enter(s.alloc, scopes, test, sign)?;
+    scopes.enter(s.alloc, test, sign)?;
     let mask = types_at(s, scopes, t)?;
-    scopes.truncate(kept);
+    scopes.leave(kept);
     Ok(mask)
 }
 
 /// The masks of a call's arguments.
 #[cycle(typing)]
-fn masks_of(s: &Setting<'_, '_>, scopes: &mut Seq<Ctx>, ts: &[Term]) -> Result<Seq<u16>, NoMemory>
-    ensures is { IfOk result (λ ms. ms ≡ map (λ u. types_by (types_in s.now.w.now s.now.own) u (in_scope s.now.base.now scopes.old)) ts.now) }
+fn masks_of(s: &Setting<'_, '_>, scopes: &mut Scopes, ts: &[Term]) -> Result<Seq<u16>, NoMemory>
+    ensures is { IfOk result (λ ms. ms ≡ map (λ u. types_by (types_in s.now.w.now s.now.own) u (in_scope s.now.base scopes.old)) ts.now) }
     ensures scopes { OnOk result (scopes.new ≡ scopes.old) }
 {
     let mut masks = Seq::new(s.alloc);

@@ -10,16 +10,16 @@ use Rattle.ap_types.proofs.typing.+typing.Goals as goal
 pub form_types-returns-in-Var-clause-is : goal.form_types-returns-in-Var-clause-is
 form_types-returns-in-Var-clause-is t c =
     let e : c.args.t.now ≡ Var c.in-Var.field-0 = (seen c.t.view_is c.in-Var.is) in
-    rw e (sym (types_var (types_in c.args.s.now.w.now c.args.s.now.own) c.in-Var.field-0 (in_scope c.args.s.now.base.now c.args.scopes.now)))
+    rw e (sym (types_var (types_in c.args.s.now.w.now c.args.s.now.own) c.in-Var.field-0 (in_scope c.args.s.now.base c.args.scopes.now)))
 
 pub form_types-returns-in-Quote-clause-is : goal.form_types-returns-in-Quote-clause-is
 form_types-returns-in-Quote-clause-is t c =
     let e : c.args.t.now ≡ Quote c.in-Quote.v = (seen c.t.view_is c.in-Quote.is) in
-    rw (e, c.bit.ensures, c.kind_of.ensures) (sym (types_quote (types_in c.args.s.now.w.now c.args.s.now.own) c.in-Quote.v (in_scope c.args.s.now.base.now c.args.scopes.now)))
+    rw (e, c.bit.ensures, c.kind_of.ensures) (sym (types_quote (types_in c.args.s.now.w.now c.args.s.now.own) c.in-Quote.v (in_scope c.args.s.now.base c.args.scopes.now)))
 
 pub form_types-returns-in-Call-clause-is : goal.form_types-returns-in-Call-clause-is
 form_types-returns-in-Call-clause-is t c =
-    call_cut (types_in c.args.s.now.w.now c.args.s.now.own) c.head_types.result c.args.t.now c.in-Call.f c.in-Call.ts (in_scope c.args.s.now.base.now c.args.scopes.now) (seen c.t.view_is c.in-Call.is)
+    call_cut (types_in c.args.s.now.w.now c.args.s.now.own) c.head_types.result c.args.t.now c.in-Call.f c.in-Call.ts (in_scope c.args.s.now.base c.args.scopes.now) (seen c.t.view_is c.in-Call.is)
     (rw (← c.as_slice.ensures) c.head_types.ensures.is)
 
 pub other_call-returns-in_ok-masks-in-None-clause-is : goal.other_call-returns-in_ok-masks-in-None-clause-is
@@ -27,7 +27,7 @@ other_call-returns-in_ok-masks-in-None-clause-is t c =
     let K = types_in c.args.s.now.w.now c.args.s.now.own in
     let f = c.args.f.now in
     let ts = c.args.ts.now in
-    let fs = in_scope c.args.s.now.base.now c.args.scopes.now in
+    let fs = in_scope c.args.s.now.base c.args.scopes.now in
     let p = c.args.p in
     let none : if_parts p ts ≡ None = search rules in
     let is : c.call_types.result ≡ call_types K f p ts (map (λ u. types_by K u fs) ts) = search rules in

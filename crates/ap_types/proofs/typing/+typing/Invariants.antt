@@ -37,6 +37,6 @@ decreases-masks_of l = 8 * sum_of (map term_size l.ts.now) + 5
 -- the masks of those so far, the contexts as they were
 abbrev pub invariant-masks_of-loop-t : goal.invariant-masks_of-loop-t
 invariant-masks_of-loop-t l = record {
-  masks : l.masks ≡ map (λ u. types_by (types_in l.s.w.now l.s.own) u (in_scope l.s.base.now l.fn.scopes)) (take l.t-index l.ts);
+  masks : l.masks ≡ map (λ u. types_by (types_in l.s.w.now l.s.own) u (in_scope l.s.base l.fn.scopes)) (take l.t-index l.ts);
   scopes : l.scopes ≡ l.fn.scopes;
 }
